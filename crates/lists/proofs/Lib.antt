@@ -1,3 +1,4 @@
 pub mod Cases
 pub mod ChoiceLaws
 pub mod ListLaws
+pub mod CountLaws

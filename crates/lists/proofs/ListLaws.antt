@@ -1,12 +1,14 @@
 -- Laws of the lists: membership in each of them, both ways.
 -- Assumes nothing.
-use Prim.Native.Nat.{ℕ, zero, suc, _+_, _≤_, _<_}
+use Prim.Native.Nat.{ℕ, zero, suc, _+_, _-_, _≤_, _<_}
 use mathlib.Core.Path.{_≡_, refl, ap, sym, _∙_}
 use mathlib.Core.Logic.{_⊎_, inl, inr, ⊎-elim}
 use mathlib.Core.Bool.{Bool, true, false, true≢false}
 use mathlib.Core.List.{List, [], _∷_, _++_}
 use mathlib.Core.Option.{Option, none, some, Option·none-ne-some}
 use native.Mathlib.Omega.{arith}
+use native.Mathlib.Nat.{sub-zero}
+use native.Mathlib.Numerals.{add-one}
 use lib.ListN.{length, getD}
 use Rattle.lists.specs.Choice.{both, either, when, orElse}
 use Rattle.lists.specs.Lists.{countFrom, range, In, keep, any, all, gather, first}
@@ -113,10 +115,10 @@ module _ {A B : Type 0} where
   first-none f (z ∷ zs) q x (inl e) = rw e (orElse-none (f z) (first f zs) q .0)
   first-none f (z ∷ zs) q x (inr m) = first-none f zs (orElse-none (f z) (first f zs) q .1) x m
 
-count-in : (a n x : ℕ) → a ≤ x → x < a + n → In x (countFrom a n)
+countFrom-in : (a n x : ℕ) → a ≤ x → x < a + n → In x (countFrom a n)
 unfolding countFrom
-count-in a zero x p q = omega arith
-count-in a (suc n) x p q = ⊎-elim (λ (e : x ≤ a). inl (omega arith)) (λ (e : a < x). inr (count-in (suc a) n x e (omega arith))) (le-or-lt x a)
+countFrom-in a zero x p q = omega arith
+countFrom-in a (suc n) x p q = ⊎-elim (λ (e : x ≤ a). inl (omega arith)) (λ (e : a < x). inr (countFrom-in (suc a) n x e (omega arith))) (le-or-lt x a)
 
 in-countFrom : (a n x : ℕ) → In x (countFrom a n) → x < a + n
 unfolding countFrom
@@ -126,7 +128,7 @@ in-countFrom a (suc n) x (inr m) = omega (arith, in-countFrom (suc a) n x m)
 
 pub range-in : (n x : ℕ) → x < n → In x (range n)
 unfolding range
-range-in n x h = count-in 0 n x (omega arith) (omega arith)
+range-in n x h = countFrom-in 0 n x (omega arith) (omega arith)
 
 pub in-range : (n x : ℕ) → In x (range n) → x < n
 unfolding range
@@ -150,3 +152,25 @@ range-length n = countFrom-length 0 n
 pub range-at : (n i : ℕ) → i < n → getD (range n) i 0 ≡ i
 unfolding range
 range-at n i h = omega (arith, countFrom-at 0 n i h)
+
+-- a loop's turn and its end: what is left to count from i on, up to n
+pub countFrom-step : (n i : ℕ) → i < n → countFrom i (n - i) ≡ i ∷ countFrom (i + 1) (n - (i + 1))
+unfolding countFrom
+countFrom-step n i h = rw (let q : n - i ≡ suc (n - (i + 1)) = omega arith in q, add-one)
+
+pub countFrom-end : (n i : ℕ) → n ≤ i → countFrom i (n - i) ≡ []
+unfolding countFrom
+countFrom-end n i h = rw (let q : n - i ≡ 0 = omega arith in q)
+
+module _ (p : ℕ → Bool) (n i : ℕ) where
+  pub all-step : i < n → all p (countFrom i (n - i)) ≡ both (p i) (all p (countFrom (i + 1) (n - (i + 1))))
+  unfolding all
+  all-step h = rw (countFrom-step n i h)
+
+  pub all-end : n ≤ i → all p (countFrom i (n - i)) ≡ true
+  unfolding all
+  all-end h = rw (countFrom-end n i h)
+
+pub all-start : (p : ℕ → Bool) (n : ℕ) → all p (countFrom 0 (n - 0)) ≡ all p (range n)
+unfolding range
+all-start p n = rw (sub-zero n)

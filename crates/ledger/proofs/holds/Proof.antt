@@ -1,0 +1,46 @@
+-- `ledger::holds` meets its contract: the walk over the names and the test of all states are question 2. Assumes nothing.
+use mathlib.Core.Path.{sym, _∙_, ap}
+use borrow.Author.Tests.{not-true, not-false}
+use denote.Ref.{now}
+use lib.ListN.{take}
+use Rattle.lists.specs.Choice.{both}
+use Rattle.ledger.specs.Marks.{fitAll}
+use Rattle.ledger.proofs.MarkLaws.{holds-by-marks}
+use borrow.Author.Needs.{needs}
+use Rattle.ledger.proofs.holds.Statement.{statement}
+use Rattle.ledger.proofs.holds.Tie as tie
+
+mark-names-requires : tie.Need-mark-names-requires
+mark-names-requires c κs = search needs
+
+same-length : tie.Need-same-length
+same-length c = search needs
+
+returns : tie.Need-returns
+returns c =
+    let k = c .before .before .before in
+    let s = k .before .before .before .before .before in
+    let l = take (s .args .len) (now (s .args .names)) in
+    let law = holds-by-marks (s .args .n) (now (s .args .states)) (now (s .args .marks)) l (s .pre .marks-long) (s .pre .marks-given) in
+    let t = not-true (k .mark-names .result) (c .if1 .taken) in
+    rw (law, sym (k .mark-names .ensures .answer) ∙ t)
+
+all-fit-requires : tie.Need-all-fit-requires
+all-fit-requires c κs = search needs
+
+same-length-2 : tie.Need-same-length-2
+same-length-2 c = search needs
+
+returns-2 : tie.Need-returns-2
+returns-2 c =
+    let k = c .before .before .before .before .before in
+    let s = k .before .before .before .before .before in
+    let l = take (s .args .len) (now (s .args .names)) in
+    let law = holds-by-marks (s .args .n) (now (s .args .states)) (now (s .args .marks)) l (s .pre .marks-long) (s .pre .marks-given) in
+    let t = not-false (k .mark-names .result) (c .before .before .if1 .left) in
+    rw (law, sym (k .mark-names .ensures .answer) ∙ t) (c .all-fit .ensures ∙ ap (fitAll (s .args .n) (now (s .args .states))) (k .mark-names .ensures .marks t))
+
+pub holds-spec : {M : Type 1} → statement M
+holds-spec =
+    tie.close
+    (tie.spec mark-names-requires same-length returns all-fit-requires same-length-2 returns-2)

@@ -1,0 +1,72 @@
+-- The standing ledger (01, "Standing ledger") over n borders of which some are given walls, and question 2 of it.
+-- Assumes nothing.
+use Prim.Native.Nat.{ℕ, _-_}
+use mathlib.Core.Bool.{Bool, true, false, not}
+use mathlib.Core.List.{List, [], _∷_, _++_, map}
+use lib.Dec.{eqb, ltb, leb}
+use lib.ListN.{length, getD, take}
+use Rattle.lists.specs.Choice.{both, either, pick}
+use Rattle.lists.specs.Lists.{range, count, all}
+
+-- "its border and value (a bool, true for Wall)"
+pub record Decision : Type 0 where
+  pub border : ℕ
+  pub wall : Bool
+
+pub data Call : Type 0 where
+  decide : ℕ → Bool → Call
+  undo : Call
+  ask : Call
+
+-- "undecided (0), Connected (1) or Wall (2)"
+abbrev pub stateOf : Bool → ℕ
+stateOf wall = pick wall 2 1
+
+-- the state that a ledger gives a border, 0 where it does not name it
+unfoldable pub stateIn : List Decision → ℕ → ℕ
+stateIn [] e = 0
+stateIn (d ∷ l) e = pick (eqb (d .border) e) (stateOf (d .wall)) (stateIn l e)
+
+-- "The standing borders are the given walls, as Wall, and the ledger's with their values, whatever their order; all others are undecided."
+unfoldable pub standing : (ℕ → Bool) → List Decision → ℕ → ℕ
+unfolding stateIn
+standing given l e = pick (given e) 2 (stateIn l e)
+
+-- questions 3 and 4, put to the arguments and the ledger
+unfoldable pub accepted : ℕ → (ℕ → Bool) → List Decision → ℕ → Bool
+unfolding standing
+accepted n given l e = both (ltb e n) (eqb (standing given l e) 0)
+
+-- "An accepted decide adds its border and value at the end; an accepted undo drops the last one. Asks and refused calls change nothing."
+unfoldable pub ledgerAfter : ℕ → (ℕ → Bool) → List Decision → Call → List Decision
+unfolding accepted
+ledgerAfter n given l (decide e wall) = pick (accepted n given l e) (l ++ (record { border = e; wall = wall } ∷ [])) l
+ledgerAfter n given l undo = take (length l - 1) l
+ledgerAfter n given l ask = l
+
+-- the ledger after a list of calls
+unfoldable pub ledgerOf : ℕ → (ℕ → Bool) → List Decision → List Call → List Decision
+unfolding ledgerAfter
+ledgerOf n given l [] = l
+ledgerOf n given l (c ∷ cs) = ledgerOf n given (ledgerAfter n given l c) cs
+
+abbrev pub borders : List Decision → List ℕ
+borders l = map (λ (d : Decision). d .border) l
+
+-- "states 0 to 2"
+abbrev pub stateOk : List ℕ → ℕ → Bool
+stateOk s e = leb (getD s e 0) 2
+
+-- "the ledger names each decided border that isn't given once": how often it is to name e
+abbrev pub namedOnce : (ℕ → Bool) → List ℕ → List ℕ → ℕ → Bool
+namedOnce given s l e = eqb (count e l) (pick (both (not (given e)) (not (eqb (getD s e 0) 0))) 1 0)
+
+-- "given walls are Wall"
+abbrev pub givenWall : (ℕ → Bool) → List ℕ → ℕ → Bool
+givenWall given s e = either (not (given e)) (eqb (getD s e 0) 2)
+
+-- question 2 of a ledger: n borders with states s, of which the ledger names l
+unfoldable pub holdsOf : ℕ → (ℕ → Bool) → List ℕ → List ℕ → Bool
+unfolding all range
+holdsOf n given s l =
+    both (all (stateOk s) (range n)) (both (both (all (λ e. ltb e n) l) (all (namedOnce given s l) (range n))) (all (givenWall given s) (range n)))
