@@ -1,3 +1,4 @@
+pub mod Question
 pub mod Standing
 pub mod MarkLaws
 pub mod Loops

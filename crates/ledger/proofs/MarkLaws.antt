@@ -16,7 +16,8 @@ use Rattle.lists.proofs.Cases.{eq-or-ne, le-or-lt, true-or-false, not-both}
 use Rattle.lists.proofs.ChoiceLaws.{both-true, true-both, either-true, left-either, right-either, same-truth}
 use Rattle.lists.proofs.ListLaws.{all-true, true-all, range-in, in-range}
 use Rattle.lists.proofs.CountLaws.{count-none, count-here, count-other, in-count, count-in}
-use Rattle.ledger.specs.Ledger.{stateOk, namedOnce, givenWall, holdsOf}
+use Rattle.ledger.specs.Ledger.{holdsOf}
+use Rattle.ledger.proofs.Question.{Kept, Question, holds-question, question-holds}
 use Rattle.ledger.specs.Marks.{givenIn, fitsOf, newNames, markAll, fitAll}
 
 -- the names are borders without a mark, each once
@@ -130,12 +131,6 @@ facts-named s p q =
     (le-or-lt s 1)
 
 module _ (n : ℕ) (s m l : List ℕ) (long : n ≤ length m) (given : (e : ℕ) → getD m e 0 ≤ 1) where
-  -- what question 2 says of one border
-  record Kept (e : ℕ) : Type 0 where
-    state : getD s e 0 ≤ 2
-    counted : count e l ≡ pick (both (not (givenIn m e)) (not (eqb (getD s e 0) 0))) 1 0
-    wall : either (not (givenIn m e)) (eqb (getD s e 0) 2) ≡ true
-
   unmarked-or-given : (e : ℕ) → (getD m e 0 ≡ 0) ⊎ (getD m e 0 ≡ 1)
   unmarked-or-given e = ⊎-elim (λ (h : getD m e 0 ≤ 0). inl (omega arith)) (λ (h : 0 < getD m e 0). inr (omega (arith, given e))) (le-or-lt (getD m e 0) 0)
 
@@ -145,7 +140,7 @@ module _ (n : ℕ) (s m l : List ℕ) (long : n ≤ length m) (given : (e : ℕ)
     a-given : getD m e 0 ≡ 1 → count e l ≡ 0 → getD s e 0 ≡ 2 → Case e
     a-named : getD m e 0 ≡ 0 → count e l ≡ 1 → getD s e 0 ≢ 0 → getD s e 0 ≤ 2 → Case e
 
-  kept-case : (e : ℕ) → Kept e → Case e
+  kept-case : (e : ℕ) → Kept (givenIn m) s l e → Case e
   kept-case e k =
       ⊎-elim
       (λ (z : getD m e 0 ≡ 0).
@@ -156,7 +151,7 @@ module _ (n : ℕ) (s m l : List ℕ) (long : n ≤ length m) (given : (e : ℕ)
       (λ (z : getD m e 0 ≡ 1). a-given z (k .counted ∙ rw z) (eqb-true (getD s e 0) 2 (rw z at (k .wall))))
       (unmarked-or-given e)
 
-  case-kept : (e : ℕ) → Case e → Kept e
+  case-kept : (e : ℕ) → Case e → Kept (givenIn m) s l e
   case-kept e (undecided z c q) = record { state = omega arith; counted = c ∙ rw (z, q); wall = rw z }
   case-kept e (a-given z c q) = record { state = omega arith; counted = c ∙ rw z; wall = rw (z, q) }
   case-kept e (a-named z c q b) = record { state = b; counted = c ∙ rw (z, ne-eqb (getD s e 0) 0 q); wall = rw z }
@@ -182,56 +177,15 @@ module _ (n : ℕ) (s m l : List ℕ) (long : n ≤ length m) (given : (e : ℕ)
       (unmarked-or-given e))
       (le-or-lt 1 (count e l))
 
-  -- question 2 as facts
-  record Question : Type 0 where
-    inside : (e : ℕ) → In e l → e < n
-    kept : (e : ℕ) → e < n → Kept e
-
-  states : Bool
-  states = all (stateOk s) (range n)
-
-  inner : Bool
-  inner = all (λ e. ltb e n) l
-
-  names : Bool
-  names = all (namedOnce (givenIn m) s l) (range n)
-
-  walls : Bool
-  walls = all (givenWall (givenIn m) s) (range n)
-
-  holds-question : holdsOf n (givenIn m) s l ≡ true → Question
-  unfolding holdsOf states names walls inner
-  holds-question q =
-      let a = both-true states (both (both inner names) walls) q in
-      let b = both-true (both inner names) walls (a .1) in
-      let c = both-true inner names (b .0) in
-      record {
-        inside = λ e i. ltb-true e n (all-true (λ x. ltb x n) l (c .0) e i);
-        kept = λ e h.
-            record {
-              state = leb-true (getD s e 0) 2 (all-true (stateOk s) (range n) (a .0) e (range-in n e h));
-              counted = eqb-true _ _ (all-true (namedOnce (givenIn m) s l) (range n) (c .1) e (range-in n e h));
-              wall = all-true (givenWall (givenIn m) s) (range n) (b .1) e (range-in n e h);
-            };
-      }
-
   over : (p : ℕ → Bool) → ((e : ℕ) → e < n → p e ≡ true) → all p (range n) ≡ true
   over p q = true-all p (range n) (λ e i. q e (in-range n e i))
-
-  question-holds : Question → holdsOf n (givenIn m) s l ≡ true
-  unfolding holdsOf
-  question-holds q =
-      true-both _ _ (over (stateOk s) (λ e h. le-leb (getD s e 0) 2 (q .kept e h .state)))
-      (true-both _ _
-      (true-both _ _ (true-all _ l (λ e i. lt-ltb e n (q .inside e i))) (over (namedOnce (givenIn m) s l) (λ e h. eq-eqb _ _ (q .kept e h .counted))))
-      (over (givenWall (givenIn m) s) (λ e h. q .kept e h .wall)))
 
   case-new : (e : ℕ) → Case e → (1 ≤ count e l → getD m e 0 ≡ 0) × (count e l ≤ 1)
   case-new e (undecided z c q) = (λ h. z, omega arith)
   case-new e (a-given z c q) = (λ h. absurd (omega arith), omega arith)
   case-new e (a-named z c q b) = (λ h. z, omega arith)
 
-  question-new : Question → New n m l
+  question-new : Question n (givenIn m) s l → New n m l
   question-new q =
       record {
         inside = q .inside;
@@ -250,9 +204,9 @@ module _ (n : ℕ) (s m l : List ℕ) (long : n ≤ length m) (given : (e : ℕ)
       let fit : ℕ → Bool = λ e. fitsOf (getD s e 0) (getD (markAll m l) e 0) in
       same-truth (holdsOf n (givenIn m) s l) (both (newNames n m l) (all fit (range n)))
       (λ q.
-      let k = holds-question q in
+      let k = holds-question n (givenIn m) s l q in
       true-both (newNames n m l) (all fit (range n)) (names-new n m l long (question-new k)) (over fit (λ e h. case-fits e h (kept-case e (k .kept e h)))))
       (λ q.
       let k = both-true (newNames n m l) (all fit (range n)) q in
       let f = new-names n m l long (k .0) in
-      question-holds (record { inside = f .inside; kept = λ e h. case-kept e (fits-case e h f (all-true fit (range n) (k .1) e (range-in n e h))) }))
+      question-holds n (givenIn m) s l (record { inside = f .inside; kept = λ e h. case-kept e (fits-case e h f (all-true fit (range n) (k .1) e (range-in n e h))) }))

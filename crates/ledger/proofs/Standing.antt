@@ -8,14 +8,14 @@ use mathlib.Core.List.{List, [], _∷_, _++_, map}
 use native.Mathlib.Omega.{arith}
 use borrow.Author.Tests.{eqb-true, eqb-false, eq-eqb, ne-eqb, lt-ltb, ltb-true, le-leb}
 use lib.Dec.{eqb, ltb, leb}
-use lib.ListN.{length, getD, take, set, List·getD-map}
+use lib.ListN.{length, getD, take, set, length-map, List·getD-map}
 use lib.Seq.{getD-set-same, getD-set-other, take-length, take-suc}
 use Rattle.lists.specs.Choice.{both, either, pick}
 use Rattle.lists.specs.Lists.{range, In, count, all}
 use Rattle.lists.proofs.Cases.{eq-or-ne, true-or-false}
 use Rattle.lists.proofs.ChoiceLaws.{both-true, true-both}
 use Rattle.lists.proofs.ListLaws.{true-all, in-range}
-use Rattle.lists.proofs.CountLaws.{count-none, count-append, count-take, count-here, count-other, count-in, in-count}
+use Rattle.lists.proofs.CountLaws.{count-none, count-append, count-take, count-here, count-other, in-count, distinct-le}
 use Rattle.ledger.specs.Ledger.{
   Decision,
   Call,
@@ -160,6 +160,12 @@ module _ (n : ℕ) (given : ℕ → Bool) where
       (true-or-false (accepted n given l e))
   sound-after l undo s = sound-take (length l - 1) l s
   sound-after l ask s = s
+
+  -- a sound ledger has at most as many decisions as there are borders
+  pub sound-length : (l : List Decision) → Sound n given l → length l ≤ n
+  sound-length l s =
+      let k = distinct-le n (borders l) (λ x m. s .inside x (in-count x (borders l) m)) (λ x m. s .once x) in
+      simp length-map at k
 
   -- no list of calls makes a ledger that names a border twice, a given wall, or what does not exist
   pub sound-ledger : (l : List Decision) (cs : List Call) → Sound n given l → Sound n given (ledgerOf n given l cs)

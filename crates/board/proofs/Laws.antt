@@ -1,0 +1,129 @@
+-- A board that questions 1 and 2 accept, as facts; what each call needs of it.
+-- Assumes nothing.
+use Prim.Native.Nat.{ℕ, suc, _+_, _-_, _≤_, _<_}
+use mathlib.Core.Path.{_≡_, refl, ap, sym, _∙_, fun-ext}
+use mathlib.Core.Logic.{_⊎_, inl, inr, _≢_, ⊎-elim}
+use mathlib.Core.Bool.{Bool, true, false, true≢false}
+use mathlib.Core.List.{List}
+use native.Mathlib.Omega.{arith}
+use borrow.Author.Tests.{eq-eqb, ne-eqb, lt-ltb, le-ltb, le-leb, leb-true, lt-leb}
+use lib.Dec.{eqb, leb}
+use lib.ListN.{length, getD, take, replicate, getD-replicate, length-replicate, List·getD-eq-default}
+use lib.Seq.{getD-take, length-take-le}
+use Rattle.lists.specs.Choice.{both, pick}
+use Rattle.lists.specs.Lists.{In}
+use Rattle.lists.proofs.Cases.{le-or-lt, true-or-false, not-both}
+use Rattle.lists.proofs.ChoiceLaws.{both-true, true-both}
+use Rattle.lists.proofs.ListLaws.{getD-in}
+use Rattle.grid.specs.Grid.{Grid, grid, sizesOk, Limits, borderCount}
+use Rattle.grid.proofs.Geometry.{limits, limits-ok, borderCount-le}
+use Rattle.ledger.specs.Ledger.{holdsOf}
+use Rattle.ledger.specs.Marks.{givenIn, Lent}
+use Rattle.ledger.proofs.Question.{Question, holds-question, room-left}
+use Rattle.board.specs.declared.Board.{Board}
+use Rattle.board.specs.declared.Decided.{Decided}
+use Rattle.board.specs.Board.{zeros, answer, sizeOf, bordersOf, noneGiven, together, checkOf, boardCode, asked, placed, decideOf, taken, undoOf}
+
+pub zero-at : (e : ℕ) → getD zeros e 0 ≡ 0
+unfolding zeros
+zero-at e =
+    ⊎-elim
+    (λ (h : 1984 ≤ e). List·getD-eq-default (replicate 1984 0) 0 {n = e} (rw (length-replicate {A = ℕ} 1984 0) h))
+    (λ (h : e < 1984). getD-replicate 1984 e 0 0 h)
+    (le-or-lt 1984 e)
+
+pub zeros-length : length zeros ≡ 1984
+unfolding zeros
+zeros-length = length-replicate {A = ℕ} 1984 0
+
+-- marks of zeros are those of no given wall
+pub none-given : givenIn zeros ≡ noneGiven
+none-given = fun-ext (λ e. ap (λ x. eqb x 1) (zero-at e))
+
+pub lent : (g : Grid) (n len : ℕ) (s l : List ℕ) → Limits g → n ≡ borderCount g → len ≤ n → length s ≡ 1984 → length l ≡ 1984 → Lent n len s l zeros
+lent g n len s l k q h p r =
+    let b : n ≤ 1984 = omega (arith, borderCount-le g k) in
+    record { states-long = omega arith; names-long = omega arith; marks-long = omega (arith, zeros-length); marks-given = λ e. omega (arith, zero-at e) }
+
+-- parts that questions 1 and 2 accept
+pub record Ready (h w : ℕ) (s l : List ℕ) (len : ℕ) : Type 0 where
+  pub limits : Limits (grid h w)
+  pub short : len ≤ borderCount (grid h w)
+  pub holds : holdsOf (borderCount (grid h w)) noneGiven s (take len l) ≡ true
+
+module _ (h w : ℕ) (s l : List ℕ) (len : ℕ) where
+  pub ready : checkOf h w s l len ≡ 0 → Ready h w s l len
+  unfolding together
+  ready = go (sizesOk (grid h w)) refl (together (borderCount (grid h w)) s l len) refl
+    where
+      go : (a : Bool) → sizesOk (grid h w) ≡ a → (b : Bool) → together (borderCount (grid h w)) s l len ≡ b → _≡_ {A = ℕ} (pick a (pick b 0 2) 1) 0 → Ready h w s l len
+      go true p true q z =
+          let k = both-true (leb len (borderCount (grid h w))) (holdsOf (borderCount (grid h w)) noneGiven s (take len l)) q in
+          record { limits = limits (grid h w) p; short = leb-true _ _ (k .0); holds = k .1 }
+      go true p false q z = absurd (omega arith)
+      go false p b q z = absurd (omega arith)
+
+  pub ready-code : Ready h w s l len → checkOf h w s l len ≡ 0
+  unfolding together
+  ready-code r = rw (limits-ok (grid h w) (r .limits), le-leb len (borderCount (grid h w)) (r .short), r .holds)
+
+  -- the three ways to refuse or accept, by what the code tests
+  pub no-size : sizesOk (grid h w) ≡ false → 1 ≡ checkOf h w s l len
+  no-size p = rw p
+
+  pub too-long : sizesOk (grid h w) ≡ true → borderCount (grid h w) < len → 2 ≡ checkOf h w s l len
+  unfolding together
+  too-long p q = rw (p, lt-leb len (borderCount (grid h w)) q)
+
+  pub by-ledger : sizesOk (grid h w) ≡ true → len ≤ borderCount (grid h w) → (t : Bool) → holdsOf (borderCount (grid h w)) noneGiven s (take len l) ≡ t → pick t 0 2 ≡ checkOf h w s l len
+  unfolding together
+  by-ledger p q t k = rw (p, le-leb len (borderCount (grid h w)) q, k)
+
+-- what the test by marks of zeros answers
+pub by-marks : (n n' : ℕ) (s l m : List ℕ) (t : Bool) → n' ≡ n → m ≡ zeros → t ≡ holdsOf n' (givenIn m) s l → holdsOf n noneGiven s l ≡ t
+by-marks n n' s l m t p q k = sym (k ∙ rw (p, q, none-given))
+
+module _ (h w : ℕ) (s l : List ℕ) (len : ℕ) (r : Ready h w s l len) (long : length l ≡ 1984) where
+  names-length : length (take len l) ≡ len
+  names-length = length-take-le len l (omega (arith, r .short, borderCount-le (grid h w) (r .limits)))
+
+  question : Question (borderCount (grid h w)) noneGiven s (take len l)
+  question = holds-question (borderCount (grid h w)) noneGiven s (take len l) (r .holds)
+
+  -- a board with an undecided border has a free place in its ledger
+  pub place-free : (e : ℕ) → e < borderCount (grid h w) → getD s e 0 ≡ 0 → len < 1984
+  place-free e k z =
+      omega (arith, names-length, room-left (borderCount (grid h w)) noneGiven s (take len l) question e k z, borderCount-le (grid h w) (r .limits))
+
+  -- the last name is a border
+  pub last-name : 0 < len → getD l (len - 1) 0 < borderCount (grid h w)
+  last-name k =
+      let b : len - 1 < len = omega arith in
+      let i : len - 1 < length (take len l) = omega (arith, names-length) in
+      rw (getD-take len l (len - 1) 0 b) at (question .inside (getD (take len l) (len - 1) 0) (getD-in 0 (take len l) (len - 1) i))
+
+module _ (b : Board) (code : ℕ) (q : code ≡ boardCode b) where
+  pub refused : (d : Decided) → code ≢ 0 → answer code b ≡ asked b d
+  refused d z = rw (← q, ne-eqb code 0 z)
+
+  module _ (z : code ≡ 0) where
+    passed : (d : Decided) → d ≡ asked b d
+    passed d = rw (← q, z)
+
+    pub board-ready : Ready (b .height) (b .width) (b .states) (b .ledger) (b .len)
+    board-ready = ready (b .height) (b .width) (b .states) (b .ledger) (b .len) (sym q ∙ z)
+
+    pub no-border : (e : ℕ) (wall : Bool) → bordersOf b ≤ e → answer 3 b ≡ decideOf b e wall
+    no-border e wall h = rw (← q, z, le-ltb e (bordersOf b) h)
+
+    pub not-free : (e : ℕ) (wall : Bool) → e < bordersOf b → getD (b .states) e 0 ≢ 0 → answer 4 b ≡ decideOf b e wall
+    not-free e wall h k = rw (← q, z, lt-ltb e (bordersOf b) h, ne-eqb (getD (b .states) e 0) 0 k)
+
+    pub decided : (e : ℕ) (wall : Bool) → e < bordersOf b → getD (b .states) e 0 ≡ 0 → answer 0 (placed b e wall) ≡ decideOf b e wall
+    decided e wall h k = rw (← q, z, lt-ltb e (bordersOf b) h, k)
+
+    pub nothing-left : b .len ≡ 0 → answer 5 b ≡ undoOf b
+    nothing-left h = rw (← q, z, h)
+
+    pub undone : b .len ≢ 0 → answer 0 (taken b) ≡ undoOf b
+    undone h = rw (← q, z, ne-eqb (b .len) 0 h)
