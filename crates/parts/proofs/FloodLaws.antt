@@ -121,6 +121,8 @@ module _ {E : List Edge} {free n s k : ℕ} {Open : ℕ → Type 0} {marks marks
             (g .shut c b i (marked-other free marks' d k c e m)))
             (eq-or-ne c d);
         here = marked-keeps free marks' d k s l z (g .here);
+        rest = λ c h. getD-set-other marks' d c k 0 (omega arith) ∙ g .rest c h;
+        size = simp length-set (g .size);
         long = simp length-set (g .long);
       }
 
@@ -136,6 +138,8 @@ module _ {E : List Edge} {free n s k : ℕ} {Open : ℕ → Type 0} {marks marks
             (λ y. inr (⊎-elim (λ w. inl w) (λ w. ⊎-elim (λ o. inr o) (λ all. inl (all d i)) (f c w)) y))
             (g .shut c d i m);
         here = g .here;
+        rest = g .rest;
+        size = g .size;
         long = g .long;
       }
 
@@ -156,6 +160,8 @@ module _ {E : List Edge} {free n s k : ℕ} {Open : ℕ → Type 0} {marks marks
             (λ y. inr (⊎-elim (λ w. inl w) (λ w. absurd w) y))
             (f .shut c b i m);
         here = grown-keeps f s (g .here);
+        rest = λ c h. f .rest c h ∙ g .rest c h;
+        size = f .size ∙ g .size;
         long = f .long;
       }
 
@@ -172,6 +178,8 @@ grow-start E free n s k marks sn l q z =
       shut = λ c d i m.
           ⊎-elim (λ (e : c ≡ s). inr (inr e)) (λ (e : c ≢ s). inl (marked-other free marks s k c e m)) (eq-or-ne c s);
       here = marked-here free marks s k (omega arith) z;
+      rest = λ c h. getD-set-other marks s c k 0 (omega arith);
+      size = simp length-set;
       long = simp length-set l;
     }
 

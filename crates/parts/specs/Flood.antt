@@ -29,6 +29,8 @@ pub record Grown (E : List Edge) (free n s k : ℕ) (Open : ℕ → Type 0) (mar
   pub new : (c : ℕ) → c < n → Marked free marks' c → Marked free marks c ⊎ ((getD marks' c 0 ≡ k) × Joined E s c)
   pub shut : (c d : ℕ) → Link E c d → Marked free marks' c → Marked free marks c ⊎ (Marked free marks' d ⊎ Open c)
   pub here : Marked free marks' s
+  pub rest : (c : ℕ) → n ≤ c → getD marks' c 0 ≡ getD marks c 0
+  pub size : length marks' ≡ length marks
   pub long : n ≤ length marks'
 
 -- A flood that is over
