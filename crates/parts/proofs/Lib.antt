@@ -1,0 +1,4 @@
+pub mod PartLaws
+pub mod PartLists
+pub mod UniteLaws
+pub mod FloodLaws
