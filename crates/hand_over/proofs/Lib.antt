@@ -1,0 +1,3 @@
+pub mod SortedLaws
+pub mod MarkLaws
+pub mod HandOverLaws
