@@ -1,0 +1,37 @@
+-- Two neighbours are told once, from the upper or left one; and the orders in which directions are gone through leave none out.
+-- Assumes nothing.
+use Prim.Native.Nat.{ℕ}
+use mathlib.Core.Path.{_≡_, refl}
+use mathlib.Core.Logic.{_⊎_, inl, inr}
+use mathlib.Core.List.{List, [], _∷_}
+use Rattle.lists.specs.Lists.{In}
+use Rattle.grid.specs.declared.Direction.{Direction}
+use Rattle.grid.specs.declared.Direction.the-variants.{Up, Down, Left, Right}
+use Rattle.grid.specs.Grid.{Grid}
+use Rattle.grid.proofs.Geometry.{Step, Neighbours, step-back}
+
+-- c lies down or right of a, over border e
+abbrev pub Ahead : Grid → ℕ → ℕ → ℕ → Type 0
+Ahead g a c e = (d : Direction) × In d (Down ∷ Right ∷ []) × Step g d a c e
+
+pub down-or-right : (g : Grid) (a c e : ℕ) → Neighbours g a c e → Ahead g a c e ⊎ Ahead g c a e
+down-or-right g a c e n = go (n .0) (n .1)
+  where
+    go : (d : Direction) → Step g d a c e → Ahead g a c e ⊎ Ahead g c a e
+    go Up s = inr (Down, inl refl, step-back g Up a c e s)
+    go Down s = inl (Down, inl refl, s)
+    go Left s = inr (Right, inr (inl refl), step-back g Left a c e s)
+    go Right s = inl (Right, inr (inl refl), s)
+
+pub in-all : (d : Direction) → In d (Up ∷ Down ∷ Left ∷ Right ∷ [])
+in-all Up = inl refl
+in-all Down = inr (inl refl)
+in-all Left = inr (inr (inl refl))
+in-all Right = inr (inr (inr (inl refl)))
+
+-- the order of a unit's boundary list
+pub in-unit-order : (d : Direction) → In d (Up ∷ Left ∷ Down ∷ Right ∷ [])
+in-unit-order Up = inl refl
+in-unit-order Down = inr (inr (inl refl))
+in-unit-order Left = inr (inl refl)
+in-unit-order Right = inr (inr (inr (inl refl)))

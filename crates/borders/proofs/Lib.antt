@@ -1,0 +1,4 @@
+pub mod Choices
+pub mod EntryLaws
+pub mod BorderLaws
+pub mod Directions

@@ -1,0 +1,21 @@
+-- Entries (01, "Entry"). A border, or a room graph's edge, is undecided (0), Connected (1) or Wall (2).
+-- Assumes nothing.
+use Prim.Native.Nat.{ℕ, _+_, _*_, _/_, _%_}
+use mathlib.Core.Path.{_≡_}
+use mathlib.Core.List.{List}
+use Rattle.lists.specs.Lists.{In}
+
+-- "2 × border + 1 for Wall, 2 × border for Connected"
+abbrev pub connectedEntry : ℕ → ℕ
+connectedEntry e = 2 * e
+
+abbrev pub wallEntry : ℕ → ℕ
+wallEntry e = 2 * e + 1
+
+-- the entry stands as listed, where border e has the state s e
+abbrev pub Stands : (ℕ → ℕ) → ℕ → Type 0
+Stands s l = s (l / 2) ≡ l % 2 + 1
+
+-- so does each entry of the list
+abbrev pub Standing : (ℕ → ℕ) → List ℕ → Type 0
+Standing s L = (l : ℕ) → In l L → Stands s l

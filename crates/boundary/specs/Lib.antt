@@ -1,0 +1,4 @@
+-- Defined here: the two boundary lists, each in its own order (`Boundary`), with closed examples (`Examples`).
+-- Proved in proofs/: which entries are in each list, that each stands as listed, and that there are at most 4 a cell (`BoundaryLaws`).
+pub mod Boundary
+pub mod Examples

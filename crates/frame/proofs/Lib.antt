@@ -1,0 +1,3 @@
+pub mod Chains
+pub mod Never
+pub mod Partners

@@ -1,0 +1,47 @@
+-- Groups of cells (01, "Groups"): the parts into which a board's borders that pass join its cells.
+-- Assumes nothing.
+use Prim.Native.Nat.{ℕ}
+use mathlib.Core.Bool.{Bool, true, false}
+use mathlib.Core.List.{List, [], _∷_}
+use lib.Dec.{eqb}
+use lib.ListN.{getD}
+use Rattle.lists.specs.Choice.{both, either, when}
+use Rattle.lists.specs.Lists.{range, keep, gather}
+use Rattle.grid.specs.declared.Direction.{Direction}
+use Rattle.grid.specs.declared.Direction.the-variants.{Down, Right}
+use Rattle.grid.specs.Grid.{Grid, cells, goesOn, next, border}
+use Rattle.borders.specs.Border.{stateOf}
+use Rattle.parts.specs.Parts.{Edge, edge, roots, begunIn, parts}
+
+-- "Units join over Connected; potential units also over undecided": a border of state s joins its cells
+unfoldable pub passes : Bool → ℕ → Bool
+passes potential s = either (eqb s 1) (both potential (eqb s 0))
+
+-- c and its neighbour in that direction, if the border between passes the test
+unfoldable pub edgeAt : Grid → (ℕ → Bool) → ℕ → Direction → List Edge
+unfolding when goesOn border next
+edgeAt g pass c d = when (both (goesOn g d c) (pass (border g d c))) (edge c (next g d c))
+
+-- all pairs of cells between which the border passes the test: row by row, down before right
+unfoldable pub edgesOver : Grid → (ℕ → Bool) → List Edge
+unfolding gather range edgeAt
+edgesOver g pass = gather (λ c. gather (edgeAt g pass c) (Down ∷ Right ∷ [])) (range (cells g))
+
+-- the edges that make units, or potential units, of a board whose borders have these states
+abbrev pub edges : Grid → List ℕ → Bool → List Edge
+edges g states potential = edgesOver g (λ e. passes potential (stateOf states e))
+
+-- each cell's group: "Groups are numbered from 0 by first cell in row order"
+unfoldable pub groupIds : Grid → List ℕ → Bool → List ℕ
+unfolding edgesOver passes parts
+groupIds g states potential = parts (cells g) (edges g states potential)
+
+-- how many groups there are
+unfoldable pub groupCount : Grid → List ℕ → Bool → ℕ
+unfolding edgesOver passes roots begunIn
+groupCount g states potential = begunIn (roots (cells g) (edges g states potential)) (cells g)
+
+-- the cells of group k, in row order; `ids` has each cell's group
+unfoldable pub cellsOf : Grid → List ℕ → ℕ → List ℕ
+unfolding keep range
+cellsOf g ids k = keep (λ c. eqb (getD ids c 0) k) (range (cells g))

@@ -1,0 +1,7 @@
+pub mod Moves
+pub mod Translation
+pub mod Offsets
+pub mod Units
+pub mod InnerWalls
+pub mod Lengths
+pub mod Theorems

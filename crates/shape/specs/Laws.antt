@@ -1,0 +1,25 @@
+-- The laws of a full board that concern shape (01, "Laws of a full board"); s e is the state of border e.
+-- Assumes nothing.
+use Prim.Native.Nat.{ℕ, _+_, _<_}
+use mathlib.Core.Path.{_≡_}
+use mathlib.Core.Logic.{_⊎_}
+use Rattle.frame.specs.Frame.{States, NoInnerWall, Partner}
+use Rattle.grid.specs.Grid.{Grid, Cell, row, col, borderCount}
+use Rattle.grid.proofs.Geometry.{Neighbours}
+
+-- "A board is full when no border is undecided"
+abbrev pub FullBoard : Grid → States → Type 0
+FullBoard g s = (e : ℕ) → e < borderCount g → (s e ≡ 1) ⊎ (s e ≡ 2)
+
+-- the translation that takes f to t takes a to x
+pub record Translates (g : Grid) (f t a x : ℕ) : Type 0 where
+  pub from : Cell g a
+  pub to : Cell g x
+  pub rows : row g a + row g t ≡ row g x + row g f
+  pub cols : col g a + col g t ≡ col g x + col g f
+
+pub record RightShape (g : Grid) (s : States) : Type 0 where
+  -- "no Wall has one unit on both sides"
+  pub no-inner-wall : NoInnerWall (Neighbours g) s
+  -- "each unit has a different unit that is its translate and shares a Wall with it": the unit of each cell f has one, in which f's translate is t
+  pub partners : (f : ℕ) → Cell g f → (t : ℕ) × Cell g t × Partner (Neighbours g) s (Translates g f t) f t

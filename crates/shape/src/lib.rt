@@ -1,0 +1,1 @@
+// The shape check (`SendaiShapeConstraint::find_inconsistency`): a board's ask.
