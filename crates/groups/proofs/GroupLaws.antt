@@ -1,28 +1,27 @@
 -- Group numbers tell units, and potential units, apart: two cells have one number exactly if they are joined, and each number below the count is used.
 -- Assumes nothing.
 use Prim.Native.Nat.{ℕ, _≤_, _<_}
-use mathlib.Core.Path.{_≡_, refl, ap, sym, _∙_}
-use mathlib.Core.Logic.{_⊎_, inl, inr, _≢_, ⊎-elim}
+use mathlib.Core.Path.{_≡_, refl, sym, _∙_}
+use mathlib.Core.Logic.{_≢_, ⊎-elim}
 use mathlib.Core.Bool.{Bool, true, false, true≢false}
 use mathlib.Core.List.{List, [], _∷_}
 use native.Mathlib.Omega.{arith}
 use borrow.Author.Tests.{eqb-true, eq-eqb}
 use lib.Dec.{eqb}
 use lib.ListN.{getD}
-use Rattle.lists.specs.Choice.{both, either, when}
+use Rattle.lists.specs.Choice.{both}
 use Rattle.lists.specs.Lists.{In, range, gather}
 use Rattle.lists.proofs.Cases.{eq-or-ne}
 use Rattle.lists.proofs.ChoiceLaws.{both-true, true-both, either-true, left-either, right-either}
 use Rattle.lists.proofs.ListLaws.{in-when, when-in, in-keep, keep-in, in-gather, gather-in, range-in, in-range}
 use Rattle.frame.specs.Frame.{Chain, here, on, Link, SameUnit, SamePotential}
 use Rattle.frame.proofs.Chains.{chain-then, chain-map, link-back}
-use Rattle.grid.specs.declared.Direction.{Direction}
 use Rattle.grid.specs.declared.Direction.the-variants.{Down, Right}
 use Rattle.grid.specs.Grid.{Grid, cells, Cell, goesOn, next, border}
-use Rattle.grid.proofs.Geometry.{Step, Neighbours, goes-step, step-goes, step-next, neighbours-back, border-lt}
+use Rattle.grid.proofs.Geometry.{Neighbours, goes-step, step-goes, step-next, neighbours-back, border-lt}
 use Rattle.borders.specs.Border.{stateOf, StatesOk}
 use Rattle.borders.proofs.Directions.{Ahead, down-or-right}
-use Rattle.parts.specs.Parts.{Edge, edge, Has, Joined, same, over, back, then, begun, part, roots, Within, parts}
+use Rattle.parts.specs.Parts.{edge, Has, Joined, same, over, back, then, begun, part, Within, parts}
 use Rattle.parts.proofs.PartLaws.{edge-ends, joined-part, part-joined, part-lt, part-used}
 use Rattle.parts.proofs.PartLists.{begun-at, parts-at, within}
 use Rattle.groups.specs.Groups.{passes, edgeAt, edgesOver, edges, groupIds, groupCount, cellsOf}
@@ -57,7 +56,7 @@ module _ (g : Grid) (pass : ℕ → Bool) where
   link-at : (a b c d : ℕ) → c ≡ a → d ≡ b → Passing a b → Passing c d
   link-at a b c d p q l = rw (p, q) l
 
-  has-link : (c c' : ℕ) → Has (edgesOver g pass) c c' → Passing c c'
+  pub has-link : (c c' : ℕ) → Has (edgesOver g pass) c c' → Passing c c'
   unfolding edgesOver edgeAt
   has-link c c' m =
       let a = in-gather (λ c. gather (edgeAt g pass c) (Down ∷ Right ∷ [])) (range (cells g)) (edge c c') m in
@@ -68,7 +67,7 @@ module _ (g : Grid) (pass : ℕ → Bool) where
       let q = edge-ends (o .1) in
       link-at (a .0) (next g (d .0) (a .0)) c c' (q .0) (q .1) (border g (d .0) (a .0), (d .0, s), t .1)
 
-  ahead-has : (c c' e : ℕ) → Ahead g c c' e → pass e ≡ true → Has (edgesOver g pass) c c'
+  pub ahead-has : (c c' e : ℕ) → Ahead g c c' e → pass e ≡ true → Has (edgesOver g pass) c c'
   unfolding edgesOver edgeAt
   ahead-has c c' e a q =
       let d = a .0 in

@@ -1,1 +1,5 @@
 pub mod GroupLaws
+pub mod SetsLaws
+pub mod EdgeLaws
+pub mod FloodSteps
+pub mod TurnLaws

@@ -1,0 +1,87 @@
+-- A board's edges by direction: cells are linked exactly over a border that joins, in whatever direction; and what the lists that compute hold.
+-- Assumes nothing.
+use Prim.Native.Nat.{ℕ, _<_}
+use mathlib.Core.Path.{_≡_}
+use mathlib.Core.Logic.{inl, inr, ⊎-elim}
+use mathlib.Core.Bool.{Bool, true, false}
+use mathlib.Core.List.{List}
+use native.Mathlib.Omega.{arith}
+use borrow.Author.Tests.{eq-eqb, ne-eqb}
+use lib.ListN.{getD, length}
+use lib.Dec.{eqb}
+use Rattle.lists.proofs.ChoiceLaws.{both-true, true-both}
+use Rattle.grid.specs.declared.Direction.{Direction}
+use Rattle.grid.specs.Grid.{Grid, cells, Cell, goesOn, next, border}
+use Rattle.grid.proofs.Geometry.{Step, Neighbours, goes-step, step-goes, step-next, neighbours-back}
+use Rattle.borders.specs.Border.{stateOf}
+use Rattle.borders.proofs.Directions.{down-or-right}
+use Rattle.parts.specs.Parts.{Within, begun, part}
+use Rattle.parts.specs.Flood.{Link}
+use Rattle.parts.proofs.PartLists.{parts-at, parts-length, begun-at}
+use Rattle.groups.specs.Groups.{passes, edges, groupIds, groupCount}
+use Rattle.groups.specs.Floods.{joins}
+use Rattle.groups.proofs.GroupLaws.{has-link, ahead-has, edges-within}
+
+module _ (g : Grid) (states : List ℕ) (p : Bool) where
+  -- a border that joins, from c to c'
+  pub record Over (d : Direction) (c c' : ℕ) : Type 0 where
+    pub step : Step g d c c' (border g d c)
+    pub joined : passes p (stateOf states (border g d c)) ≡ true
+
+  pub joins-over : (d : Direction) (c : ℕ) → Cell g c → joins g states p d c ≡ true → Over d c (next g d c)
+  unfolding joins
+  joins-over d c l q =
+      let b = both-true (goesOn g d c) (passes p (stateOf states (border g d c))) q in
+      record { step = goes-step g d c l (b .0); joined = b .1 }
+
+  pub over-joins : (d : Direction) (c c' : ℕ) → Over d c c' → joins g states p d c ≡ true
+  unfolding joins
+  over-joins d c c' o = true-both (goesOn g d c) (passes p (stateOf states (border g d c))) (step-goes g d c c' (border g d c) (o .step)) (o .joined)
+
+  pub over-next : (d : Direction) (c c' : ℕ) → Over d c c' → c' ≡ next g d c
+  over-next d c c' o = step-next g d c c' (border g d c) (o .step)
+
+  over-from : (c c' e : ℕ) → Neighbours g c c' e → passes p (stateOf states e) ≡ true → (d : Direction) × Over d c c'
+  over-from c c' e n q = (n .0, record { step = rw (n .1 .over) at (n .1); joined = rw (n .1 .over) at q })
+
+  pub link-over : (c c' : ℕ) → Link (edges g states p) c c' → (d : Direction) × Over d c c'
+  link-over c c' (inl m) = let l = has-link g (λ e. passes p (stateOf states e)) c c' m in over-from c c' (l .0) (l .1) (l .2)
+  link-over c c' (inr m) =
+      let l = has-link g (λ e. passes p (stateOf states e)) c' c m in
+      over-from c c' (l .0) (neighbours-back g c' c (l .0) (l .1)) (l .2)
+
+  pub over-link : (d : Direction) (c c' : ℕ) → Over d c c' → Link (edges g states p) c c'
+  over-link d c c' o =
+      ⊎-elim
+      (λ a. inl (ahead-has g (λ e. passes p (stateOf states e)) c c' (border g d c) a (o .joined)))
+      (λ a. inr (ahead-has g (λ e. passes p (stateOf states e)) c' c (border g d c) a (o .joined)))
+      (down-or-right g c c' (border g d c) (d, o .step))
+
+  pub within-board : Within (cells g) (edges g states p)
+  within-board = edges-within g (λ e. passes p (stateOf states e))
+
+  -- the lists that compute hold each cell's part and the number of parts
+  pub ids-at : (c : ℕ) → c < cells g → getD (groupIds g states p) c 0 ≡ part (edges g states p) c
+  unfolding groupIds
+  ids-at c l = parts-at (cells g) (edges g states p) c within-board l
+
+  pub ids-length : length (groupIds g states p) ≡ cells g
+  unfolding groupIds
+  ids-length = parts-length (cells g) (edges g states p)
+
+  pub count-is : groupCount g states p ≡ begun (edges g states p) (cells g)
+  unfolding groupCount
+  count-is = begun-at (cells g) (edges g states p) (cells g) within-board (omega arith)
+
+-- the code's test of a state
+pub passes-connected : (p : Bool) (s : ℕ) → s ≡ 1 → true ≡ passes p s
+unfolding passes
+passes-connected p s q = rw (eq-eqb s 1 q)
+
+pub passes-undecided : (p : Bool) (s : ℕ) → (s ≡ 1 → ⊥) → p ≡ true → eqb s 0 ≡ passes p s
+unfolding passes
+passes-undecided p s z q = rw (ne-eqb s 1 z, q)
+
+pub passes-not : (p : Bool) (s : ℕ) → (s ≡ 1 → ⊥) → p ≡ false → false ≡ passes p s
+unfolding passes
+passes-not p s z q = rw (ne-eqb s 1 z, q)
