@@ -1,0 +1,65 @@
+//! A module a layer: what is compared, on which inputs.
+pub mod board;
+pub mod numbering;
+
+use crate::boards::{self, Standing};
+use crate::random::Random;
+use crate::sample::Sample;
+use crate::tally::Tally;
+use std::time::{Duration, Instant};
+
+/// How far a run goes.
+#[derive(Clone, Copy)]
+pub struct Limits {
+    pub seed: u64,
+    /// How long each layer draws random inputs.
+    pub time: Duration,
+    /// The exhaustive parts leave out boards with more borders than this.
+    pub borders: usize,
+}
+
+/// What is compared, and the part of it that is stored.
+pub struct Layer {
+    pub name: &'static str,
+    pub run: fn(&Limits) -> Tally,
+    pub sample: fn(&mut Sample),
+}
+
+/// In order: a sample's kind is its layer's place here, from 1.
+pub const LAYERS: [Layer; 2] = [
+    Layer { name: "numbering", run: numbering::run, sample: numbering::sample },
+    Layer { name: "board", run: board::run, sample: board::sample },
+];
+
+/// Repeats a step for so long.
+fn until(time: Duration, mut step: impl FnMut()) {
+    let began = Instant::now();
+    while began.elapsed() < time {
+        step();
+    }
+}
+
+/// Sizes at which structured boards are tried.
+const SIZES: [(usize, usize); 12] =
+    [(1, 1), (1, 2), (2, 1), (1, 32), (32, 1), (2, 2), (4, 6), (7, 5), (12, 12), (31, 32), (32, 31), (32, 32)];
+
+/// Every board of at most so many borders, structured boards as they are and stirred, and random ones of all sizes.
+fn on_boards(limits: &Limits, borders: usize, mut compare: impl FnMut(&mut Random, &Standing)) {
+    let random = &mut Random::new(limits.seed);
+    for (height, width) in boards::sizes(borders.min(limits.borders)) {
+        boards::every(height, width).for_each(|board| compare(random, &board));
+    }
+    for (height, width) in SIZES {
+        for (_, board) in boards::structured(height, width) {
+            compare(random, &board);
+            let times = random.within(1, 3);
+            let stirred = board.stirred(random, times);
+            compare(random, &stirred);
+        }
+    }
+    until(limits.time, || {
+        let most = *random.pick(&[4, 8, 16, 32]);
+        let board = boards::random(random, 1, most);
+        compare(random, &board);
+    });
+}

@@ -1,0 +1,102 @@
+//! Lists of decide and undo calls: after each, the answer, the states and the ledger of `BoardManager` beside the port's.
+use super::{until, Limits};
+use crate::boards::border_count;
+use crate::port;
+use crate::random::Random;
+use crate::reference::Board;
+use crate::runs::{self, Call};
+use crate::sample::Sample;
+use crate::tally::Tally;
+
+fn compare(tally: &mut Tally, height: usize, width: usize, calls: &[Call]) {
+    tally.case();
+    let mut rust = Board::new(height, width);
+    let mut ours = port::Board::make(height, width).expect("a size within the limits");
+    for (at, &call) in calls.iter().enumerate() {
+        let (theirs, answer) = match call {
+            Call::Decide { border, wall } => (rust.decide(border, wall), ours.decide(border, wall)),
+            Call::Undo => (rust.undo(), ours.undo()),
+        };
+        let on = || format!("{height} by {width}, call {at} of {calls:?}");
+        tally.same(&theirs, &answer, on);
+        tally.same(&(rust.states(), rust.ledger()), &(ours.states(), ours.ledger()), on);
+    }
+}
+
+/// Every border of a board decided in some order, with one that does not exist, and all taken back.
+fn fill(random: &mut Random, height: usize, width: usize) -> Vec<Call> {
+    let borders = border_count(height, width);
+    let mut order: Vec<usize> = (0..=borders).collect();
+    random.shuffle(&mut order);
+    let decides = order.iter().map(|&border| Call::Decide { border, wall: border % 2 == 0 });
+    decides.chain((0..=borders).map(|_| Call::Undo)).collect()
+}
+
+pub fn run(limits: &Limits) -> Tally {
+    let mut tally = Tally::new("board");
+    let random = &mut Random::new(limits.seed);
+    for (size, length) in [((1, 1), 5), ((1, 2), 6), ((2, 1), 6), ((1, 3), 5), ((3, 1), 5), ((2, 2), 4)] {
+        for calls in runs::every(runs::alphabet(border_count(size.0, size.1)), length) {
+            compare(&mut tally, size.0, size.1, &calls);
+        }
+    }
+    for (height, width) in [(1, 32), (32, 1), (2, 32), (32, 2), (17, 19), (31, 32), (32, 31), (32, 32)] {
+        let calls = fill(random, height, width);
+        compare(&mut tally, height, width, &calls);
+    }
+    until(limits.time, || {
+        let most = *random.pick(&[4, 8, 32]);
+        let size = (random.within(1, most), random.within(1, most));
+        let borders = border_count(size.0, size.1);
+        let length = random.within(1, 2 * borders + 8).min(200);
+        let undos = *random.pick(&[1, 4, 7]);
+        let calls = runs::random(random, borders, length, undos);
+        compare(&mut tally, size.0, size.1, &calls);
+    });
+    for (height, width) in [(0, 0), (0, 1), (1, 0), (33, 1), (1, 33), (usize::MAX, 1), (32, usize::MAX)] {
+        let ours = port::Board::make(height, width).err();
+        tally.same(&Some(1), &ours, || format!("{height} by {width}"));
+    }
+    tally.done()
+}
+
+/// A size, calls with the Rust's answers, and the ledger and the states that they left.
+fn store(sample: &mut Sample, height: usize, width: usize, calls: &[Call]) {
+    sample.case();
+    sample.byte(height as u8);
+    sample.byte(width as u8);
+    sample.word(calls.len());
+    let mut rust = Board::new(height, width);
+    for &call in calls {
+        let (kind, named) = call.coded();
+        sample.byte(kind);
+        sample.word(named);
+        let answer = match call {
+            Call::Decide { border, wall } => rust.decide(border.min(65535), wall),
+            Call::Undo => rust.undo(),
+        };
+        sample.byte(answer.err().unwrap_or(0));
+    }
+    sample.words(&rust.ledger());
+    sample.states(&rust.states());
+}
+
+pub fn sample(sample: &mut Sample) {
+    let random = &mut Random::new(2);
+    for calls in runs::every(runs::alphabet(1), 3) {
+        store(sample, 1, 2, &calls);
+    }
+    for _ in 0..60 {
+        let (height, width) = (random.within(1, 6), random.within(1, 6));
+        let calls = runs::random(random, border_count(height, width), 24, 4);
+        store(sample, height, width, &calls);
+    }
+    for (height, width) in [(1, 1), (1, 32), (32, 1), (20, 31)] {
+        let calls = runs::random(random, border_count(height, width), 60, 4);
+        store(sample, height, width, &calls);
+    }
+    // every border of the largest board, the last first, and one too many
+    let all = (0..=border_count(32, 32)).rev();
+    let calls: Vec<Call> = all.map(|border| Call::Decide { border, wall: border % 3 == 0 }).collect();
+    store(sample, 32, 32, &calls);
+}

@@ -1,0 +1,118 @@
+//! The port: safe wrappers of the functions that crate `exports` hands out.
+//! The declarations must agree with crates/exports; nothing but these comparisons checks that.
+
+/// The exported functions and records, as crates/exports declares them.
+mod c {
+    #[repr(C)]
+    pub struct Place {
+        pub code: u8,
+        pub ends: bool,
+        pub cell: usize,
+        pub border: usize,
+    }
+
+    #[repr(C)]
+    #[derive(Clone, Copy)]
+    pub struct Board {
+        pub height: usize,
+        pub width: usize,
+        pub states: [u8; 1984],
+        pub ledger: [u16; 1984],
+        pub len: usize,
+    }
+
+    #[repr(C)]
+    pub struct Decided {
+        pub code: u8,
+        pub board: Board,
+    }
+
+    // Numbers and records by value cross, and every value of them is answered: these calls are safe.
+    unsafe extern "C" {
+        pub safe fn sendai_neighbour(height: usize, width: usize, cell: usize, direction: u8) -> Place;
+        pub safe fn sendai_board_make(height: usize, width: usize) -> Decided;
+        pub safe fn sendai_board_decide(board: Board, border: usize, wall: bool) -> Decided;
+        pub safe fn sendai_board_undo(board: Board) -> Decided;
+        pub safe fn sendai_board_check(board: Board) -> u8;
+    }
+}
+
+#[derive(Clone, Copy, Debug, PartialEq, Eq)]
+pub enum Beyond {
+    At { cell: usize, border: usize },
+    End,
+    Refused(u8),
+}
+
+/// Directions by their numbers.
+pub const UP: u8 = 0;
+pub const DOWN: u8 = 1;
+pub const LEFT: u8 = 2;
+pub const RIGHT: u8 = 3;
+
+pub fn neighbour(height: usize, width: usize, cell: usize, direction: u8) -> Beyond {
+    let place = c::sendai_neighbour(height, width, cell, direction);
+    if place.code != 0 {
+        Beyond::Refused(place.code)
+    } else if place.ends {
+        Beyond::End
+    } else {
+        Beyond::At { cell: place.cell, border: place.border }
+    }
+}
+
+/// A code of document 01 as a result.
+fn accepted(code: u8) -> Result<(), u8> {
+    if code == 0 { Ok(()) } else { Err(code) }
+}
+
+/// A board record. A call puts what it returned in its place, refused or not.
+#[derive(Clone, Copy)]
+pub struct Board(c::Board);
+
+impl Board {
+    pub fn make(height: usize, width: usize) -> Result<Board, u8> {
+        let made = c::sendai_board_make(height, width);
+        accepted(made.code).map(|()| Board(made.board))
+    }
+
+    /// A record on which these states stand, written down with a rising ledger and not called for.
+    pub fn standing(height: usize, width: usize, states: &[u8]) -> Board {
+        let mut board = Board::make(height, width).expect("a size within the limits");
+        for (border, &state) in states.iter().enumerate() {
+            board.0.states[border] = state;
+            if state != 0 {
+                board.0.ledger[board.0.len] = border as u16;
+                board.0.len += 1;
+            }
+        }
+        board
+    }
+
+    fn put(&mut self, decided: c::Decided) -> Result<(), u8> {
+        self.0 = decided.board;
+        accepted(decided.code)
+    }
+
+    pub fn decide(&mut self, border: usize, wall: bool) -> Result<(), u8> {
+        self.put(c::sendai_board_decide(self.0, border, wall))
+    }
+
+    pub fn undo(&mut self) -> Result<(), u8> {
+        self.put(c::sendai_board_undo(self.0))
+    }
+
+    /// Questions 1 and 2.
+    pub fn check(&self) -> Result<(), u8> {
+        accepted(c::sendai_board_check(self.0))
+    }
+
+    pub fn states(&self) -> Vec<u8> {
+        let borders = crate::boards::border_count(self.0.height, self.0.width);
+        self.0.states[..borders].to_vec()
+    }
+
+    pub fn ledger(&self) -> Vec<u16> {
+        self.0.ledger[..self.0.len].to_vec()
+    }
+}

@@ -1,0 +1,27 @@
+-- `exports::places::place_of` meets its contract: each arm knows which case it took apart. Assumes nothing.
+use borrow.Author.Needs.{needs}
+use Rattle.exports.proofs.places.place_of.Statement.{statement}
+use Rattle.exports.proofs.places.place_of.Tie as tie
+
+enum-known-beyond : tie.Need-enum-known-beyond
+enum-known-beyond c = search needs
+
+enum-told : tie.Need-enum-told
+enum-told c = search needs
+
+enum-known-beyond-2 : tie.Need-enum-known-beyond-2
+enum-known-beyond-2 c = search needs
+
+returns : tie.Need-returns
+returns c = rw (c .before .beyond .given .1)
+
+returns-2 : tie.Need-returns-2
+returns-2 c = rw (c .enum-told .given .1)
+
+returns-3 : tie.Need-returns-3
+returns-3 c = rw (c .before .beyond2 .given .1)
+
+pub place-of-spec : {M : Type 1} → statement M
+place-of-spec =
+    tie.close
+    (tie.spec enum-known-beyond enum-told enum-known-beyond-2 returns returns-2 returns-3)

@@ -1,0 +1,2 @@
+-- Defined here: the numbers by which the exports hand over enums (`Places`). The rest of each contract is its call's own.
+pub mod Places
