@@ -2,24 +2,24 @@
 -- read in directions down and right for Connected borders, since each has its other cell in the unit and so is told once.
 -- Assumes nothing.
 use Prim.Native.Nat.{ℕ, _+_, _*_, _≤_}
-use mathlib.Core.Path.{_≡_, refl, ap, sym, _∙_}
+use mathlib.Core.Path.{_≡_, ap, sym, _∙_}
 use mathlib.Core.Logic.{_⊎_, inl, inr, _≢_, ⊎-elim, _↔_}
-use mathlib.Core.Bool.{Bool, true, not}
+use mathlib.Core.Bool.{not}
 use mathlib.Core.List.{List, [], _∷_, _++_}
 use native.Mathlib.Omega.{arith}
 use borrow.Author.Tests.{eqb-true, eqb-false, eq-eqb, ne-eqb, not-true}
 use lib.Dec.{eqb}
 use lib.ListN.{getD, length, length-append}
-use Rattle.lists.specs.Choice.{both, when}
+use Rattle.lists.specs.Choice.{both}
 use Rattle.lists.specs.Lists.{In, range, gather}
 use Rattle.lists.proofs.ChoiceLaws.{both-true, true-both}
 use Rattle.lists.proofs.ListLaws.{in-left, in-right, in-append, in-when, when-in, in-gather, gather-in, range-length}
 use Rattle.grid.specs.declared.Direction.{Direction}
 use Rattle.grid.specs.declared.Direction.the-variants.{Up, Down, Left, Right}
-use Rattle.grid.specs.Grid.{Grid, cells, Cell, goesOn, next, border}
-use Rattle.grid.proofs.Geometry.{Step, Neighbours, step-next, neighbours-back}
-use Rattle.borders.specs.Entry.{connectedEntry, wallEntry, Stands, Standing}
-use Rattle.borders.specs.Border.{stateOf, stateAt, stands}
+use Rattle.grid.specs.Grid.{Grid, cells, Cell, next, border}
+use Rattle.grid.proofs.Geometry.{Step, Neighbours, step-next}
+use Rattle.borders.specs.Entry.{connectedEntry, wallEntry, Standing}
+use Rattle.borders.specs.Border.{stateOf, stands}
 use Rattle.borders.proofs.EntryLaws.{connected-stands, wall-stands}
 use Rattle.borders.proofs.BorderLaws.{stands-state, stands-step, step-stands}
 use Rattle.borders.proofs.Directions.{Ahead, down-or-right, in-all, in-unit-order}

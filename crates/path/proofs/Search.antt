@@ -4,19 +4,19 @@ use Prim.Native.Nat.{ℕ, zero, suc, _+_, _≤_, _<_}
 use mathlib.Core.Path.{_≡_, refl, ap, sym, _∙_}
 use mathlib.Core.Logic.{_⊎_, inl, inr, _≢_, ⊎-elim}
 use mathlib.Core.Bool.{Bool, true, false, true≢false}
-use mathlib.Core.List.{List, [], _∷_, _++_}
+use mathlib.Core.List.{List, [], _∷_}
 use mathlib.Core.Option.{Option, none, some, Option·some-injective, Option·none-ne-some}
 use native.Mathlib.Omega.{arith}
-use borrow.Author.Tests.{eqb-true}
+use borrow.Author.Tests.{eqb-true, eq-eqb, ne-eqb}
 use lib.Dec.{eqb}
 use lib.ListN.{getD, length, set, replicate, length-set, length-append, length-replicate}
 use lib.Seq.{getD-set-same, getD-set-other}
-use Rattle.lists.specs.Choice.{both, pick}
+use Rattle.lists.specs.Choice.{both}
 use Rattle.lists.specs.Lists.{In}
-use Rattle.lists.proofs.Cases.{eq-or-ne, true-or-false}
+use Rattle.lists.proofs.Cases.{true-or-false}
 use Rattle.lists.proofs.ChoiceLaws.{both-true, true-both}
 use Rattle.lists.proofs.ListLaws.{in-left, in-right, in-append}
-use Rattle.frame.specs.Frame.{Chain, here, on, SameUnit}
+use Rattle.frame.specs.Frame.{here, on, SameUnit}
 use Rattle.grid.specs.declared.Direction.{Direction}
 use Rattle.grid.specs.declared.Direction.the-variants.{Up, Down, Left, Right}
 use Rattle.grid.specs.Grid.{Grid, cells, Cell, next, border}
@@ -198,6 +198,22 @@ module _ (g : Grid) (states : List ℕ) (start : ℕ) where
     pub short : (x : ℕ) (p : List ℕ) → getD xs x none ≡ some p → length p < cells g
     pub begun : getD xs start none ≡ some []
     pub ends : Found xs target ⊎ ((x : ℕ) → Found xs x → Closed xs x)
+
+  -- one turn of the search
+  pub search-empty : (target fuel : ℕ) (xs : Lists) → searchFrom g states target fuel [] xs ≡ xs
+  unfolding searchFrom
+  search-empty target zero xs = refl
+  search-empty target (suc fuel) xs = refl
+
+  pub search-stop : (target fuel c : ℕ) (queue : List ℕ) (xs : Lists) → c ≡ target → searchFrom g states target (suc fuel) (c ∷ queue) xs ≡ xs
+  unfolding searchFrom
+  search-stop target fuel c queue xs q = rw (eq-eqb c target q)
+
+  pub search-on : (target fuel c : ℕ) (queue : List ℕ) (xs : Lists) → c ≢ target
+      → searchFrom g states target (suc fuel) (c ∷ queue) xs
+      ≡ searchFrom g states target fuel (lookRound g states c (record { queue = queue; found = xs }) .queue) (lookRound g states c (record { queue = queue; found = xs }) .found)
+  unfolding searchFrom
+  search-on target fuel c queue xs z = rw (ne-eqb c target z)
 
   empty-ends : (target fuel : ℕ) (xs : Lists) → Searching (λ x. ⊥) fuel [] xs → Ended target xs
   empty-ends target fuel xs k =

@@ -1,15 +1,15 @@
 -- The first stage: its list stands, and stands on no board without a Wall inside a unit; where it finds nothing there is none.
 -- Assumes nothing.
 use Prim.Native.Nat.{ℕ}
-use mathlib.Core.Path.{_≡_, refl, ap, sym, _∙_, subst}
-use mathlib.Core.Logic.{_⊎_, inl, inr, ⊎-elim}
+use mathlib.Core.Path.{_≡_, refl, ap, _∙_, subst}
+use mathlib.Core.Logic.{inl, ⊎-elim}
 use mathlib.Core.Bool.{true}
 use mathlib.Core.List.{List, [], _∷_, _++_}
-use mathlib.Core.Option.{Option, none, some}
+use mathlib.Core.Option.{none, some}
 use borrow.Author.Tests.{eqb-true, eq-eqb}
 use lib.Dec.{eqb}
 use lib.ListN.{getD}
-use Rattle.lists.specs.Choice.{both, give}
+use Rattle.lists.specs.Choice.{both}
 use Rattle.lists.specs.Lists.{In, range, first}
 use Rattle.lists.proofs.Cases.{not-both}
 use Rattle.lists.proofs.ChoiceLaws.{both-true, true-both, give-some, give-none}

@@ -10,17 +10,17 @@ use mathlib.Core.Option.{Option, none, some}
 use borrow.Author.Tests.{eqb-true, eqb-false, eq-eqb, ne-eqb, not-true, not-false}
 use lib.Dec.{eqb}
 use lib.ListN.{getD}
-use Rattle.lists.specs.Choice.{both, either, pick, give, orElse, holds, through}
+use Rattle.lists.specs.Choice.{both, pick, give}
 use Rattle.lists.specs.Lists.{In, any, all, first}
 use Rattle.lists.proofs.Cases.{true-or-false, not-both}
 use Rattle.lists.proofs.ChoiceLaws.{both-true, true-both, either-true, left-either, right-either, give-some, give-none, orElse-none, orElse-some, holds-true, true-holds, none-or-some, through-some, through-none}
 use Rattle.lists.proofs.ListLaws.{any-true, true-any, all-true, true-all, first-some, first-none}
-use Rattle.frame.specs.Frame.{SameUnit, SamePotential, Parted, Adjacent}
+use Rattle.frame.specs.Frame.{SameUnit, SamePotential, Adjacent}
 use Rattle.frame.specs.Offset.{Tried, Good, OnWall, OnConnected, Fails}
 use Rattle.grid.specs.declared.Direction.{Direction}
 use Rattle.grid.specs.declared.Direction.the-variants.{Up, Down, Left, Right}
 use Rattle.grid.specs.Grid.{Grid, Cell, goesOn, next, border}
-use Rattle.grid.proofs.Geometry.{Step, Neighbours, goes-step, step-goes, step-next, neighbours-back, one-border}
+use Rattle.grid.proofs.Geometry.{Neighbours, goes-step, step-goes, step-next, neighbours-back, one-border}
 use Rattle.borders.specs.Entry.{connectedEntry, wallEntry, Stands, Standing}
 use Rattle.borders.specs.Border.{stateOf, stateAt, stands}
 use Rattle.borders.proofs.Choices.{either-false}
@@ -31,7 +31,7 @@ use Rattle.groups.specs.Groups.{cellsOf}
 use Rattle.groups.proofs.GroupLaws.{Labels, in-cells, cells-in, chain-cell}
 use Rattle.boundary.specs.Boundary.{ahead}
 use Rattle.shape.specs.Shape.{wallTo, adjacent, UnitInfo, falls, meets, innerBorder, shut, onWall, onConnected, landing, Try, landed, try, isGood, entryOf}
-use Rattle.shape.specs.Shape.Try.{passed, good, failed}
+use Rattle.shape.specs.Shape.Try.{passed}
 use Rattle.shape.proofs.Moves.{Moves}
 
 -- u is the unit of its first cell

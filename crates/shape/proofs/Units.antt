@@ -1,19 +1,19 @@
 -- One unit's stage: a fault's list stands, and stands on no board where the unit has a good offset; a unit without a fault has one.
 -- Assumes nothing.
 use Prim.Native.Nat.{ℕ, _<_}
-use mathlib.Core.Path.{_≡_, refl, ap, sym, _∙_, subst}
+use mathlib.Core.Path.{_≡_, refl, ap, sym, subst}
 use mathlib.Core.Logic.{_⊎_, inl, inr, _≢_, ⊎-elim}
 use mathlib.Core.Bool.{Bool, true, false, not}
 use mathlib.Core.List.{List, [], _∷_, _++_}
 use mathlib.Core.Option.{Option, none, some}
 use borrow.Author.Tests.{not-true}
 use lib.ListN.{getD}
-use Rattle.lists.specs.Choice.{both, give}
-use Rattle.lists.specs.Lists.{In, range, keep, any, all, gather}
+use Rattle.lists.specs.Choice.{both}
+use Rattle.lists.specs.Lists.{In, range, keep, any, all}
 use Rattle.lists.proofs.Cases.{eq-or-ne, true-or-false, not-both}
 use Rattle.lists.proofs.ChoiceLaws.{give-some, give-none}
 use Rattle.lists.proofs.ListLaws.{in-left, in-right, in-append, keep-in, any-true, true-any, in-gather, gather-in, range-in, in-range}
-use Rattle.frame.specs.Frame.{States, Chain, on, SameUnit, SamePotential, Adjacent}
+use Rattle.frame.specs.Frame.{States, on, SameUnit, SamePotential, Adjacent}
 use Rattle.frame.specs.Offset.{Good, Reason}
 use Rattle.frame.proofs.Never.{never-good}
 use Rattle.grid.specs.Grid.{Grid, cells, Cell}
@@ -29,7 +29,7 @@ use Rattle.shape.specs.Shape.{adjacent, shift, UnitInfo, headOr0, unitOf
 use Rattle.shape.specs.Laws.{Translates}
 use Rattle.shape.proofs.Moves.{placement}
 use Rattle.shape.proofs.Translation.{shift-moves}
-use Rattle.shape.proofs.Offsets.{IsUnit, entry-pick, landing-stands, true-adjacent, same-unit, unit-id, unit-cell, good-true, tried-fails}
+use Rattle.shape.proofs.Offsets.{IsUnit, entry-pick, landing-stands, true-adjacent, unit-id, good-true, tried-fails}
 
 head-in : (cs : List ℕ) (c : ℕ) → In c cs → In (headOr0 cs) cs
 unfolding headOr0
