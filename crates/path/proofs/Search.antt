@@ -18,7 +18,6 @@ use Rattle.lists.proofs.ChoiceLaws.{both-true, true-both}
 use Rattle.lists.proofs.ListLaws.{in-left, in-right, in-append}
 use Rattle.frame.specs.Frame.{here, on, SameUnit}
 use Rattle.grid.specs.declared.Direction.{Direction}
-use Rattle.grid.specs.declared.Direction.the-variants.{Up, Down, Left, Right}
 use Rattle.grid.specs.Grid.{Grid, cells, Cell, next, border}
 use Rattle.grid.proofs.Geometry.{Step, Neighbours, step-next}
 use Rattle.borders.specs.Entry.{connectedEntry, Standing}
@@ -26,7 +25,7 @@ use Rattle.borders.specs.Border.{stateOf, stands}
 use Rattle.borders.proofs.Choices.{pick-elim}
 use Rattle.borders.proofs.EntryLaws.{connected-stands}
 use Rattle.borders.proofs.BorderLaws.{stands-state, stands-step, step-stands}
-use Rattle.borders.proofs.Directions.{in-all}
+use Rattle.borders.proofs.Directions.{around, in-around}
 use Rattle.path.specs.Path.{Lists, Search, isNew, listOf, mark, finds, look, looks, lookRound, searchFrom}
 use Rattle.path.specs.Leads.{Leads, arrived, over}
 use Rattle.path.proofs.Found.{Found, blank, blank-set, blank-all, none-at, new-none, old-some, marked-cases, marked-here, found-still}
@@ -167,7 +166,7 @@ module _ (g : Grid) (states : List ℕ) (start : ℕ) where
       let p : List ℕ = listOf (getD xs c none) in
       let e : p ≡ f .0 = ap listOf (f .1) in
       let r =
-      looked-each c fuel (o .0) p (rw e (k .way c (f .0) (f .1))) (Up ∷ Down ∷ Left ∷ Right ∷ []) (record { queue = queue; found = xs })
+      looked-each c fuel (o .0) p (rw e (k .way c (f .0) (f .1))) around (record { queue = queue; found = xs })
       (record {
         size = k .size;
         way = k .way;
@@ -188,7 +187,7 @@ module _ (g : Grid) (states : List ℕ) (start : ℕ) where
         short = after .short;
         begun = after .begun;
         queued = after .queued;
-        closed = λ x y. ⊎-elim (λ (i : x ≡ c). inr (inr (rw i (λ v e n w. r .1 (n .0) v e (in-all (n .0)) (n .1) w)))) (λ z. inr z) (after .closed x y);
+        closed = λ x y. ⊎-elim (λ (i : x ≡ c). inr (inr (rw i (λ v e n w. r .1 (n .0) v e (in-around (n .0)) (n .1) w)))) (λ z. inr z) (after .closed x y);
         room = after .room;
       }
 
