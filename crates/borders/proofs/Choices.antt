@@ -1,9 +1,8 @@
 -- More laws of choices: what is picked, given, or found in neither of two.
 -- Assumes nothing.
 use mathlib.Core.Path.{_≡_, refl}
-use mathlib.Core.Logic.{_⊎_}
 use mathlib.Core.Bool.{Bool, true, false, true≢false}
-use mathlib.Core.Option.{Option, none, some}
+use mathlib.Core.Option.{some}
 use Rattle.lists.specs.Choice.{either, pick, give}
 
 module _ {A : Type 0} where

@@ -1,7 +1,7 @@
 -- Two neighbours are told once, from the upper or left one; and the orders in which directions are gone through leave none out.
 -- Assumes nothing.
 use Prim.Native.Nat.{ℕ}
-use mathlib.Core.Path.{_≡_, refl}
+use mathlib.Core.Path.{refl}
 use mathlib.Core.Logic.{_⊎_, inl, inr}
 use mathlib.Core.List.{List, [], _∷_}
 use Rattle.lists.specs.Lists.{In}
@@ -10,9 +10,17 @@ use Rattle.grid.specs.declared.Direction.the-variants.{Up, Down, Left, Right}
 use Rattle.grid.specs.Grid.{Grid}
 use Rattle.grid.proofs.Geometry.{Step, Neighbours, step-back}
 
+-- "up, down, left, right"
+abbrev pub around : List Direction
+around = Up ∷ Down ∷ Left ∷ Right ∷ []
+
+-- "down before right"
+abbrev pub forward : List Direction
+forward = Down ∷ Right ∷ []
+
 -- c lies down or right of a, over border e
 abbrev pub Ahead : Grid → ℕ → ℕ → ℕ → Type 0
-Ahead g a c e = (d : Direction) × In d (Down ∷ Right ∷ []) × Step g d a c e
+Ahead g a c e = (d : Direction) × In d forward × Step g d a c e
 
 pub down-or-right : (g : Grid) (a c e : ℕ) → Neighbours g a c e → Ahead g a c e ⊎ Ahead g c a e
 down-or-right g a c e n = go (n .0) (n .1)
@@ -23,11 +31,11 @@ down-or-right g a c e n = go (n .0) (n .1)
     go Left s = inr (Right, inr (inl refl), step-back g Left a c e s)
     go Right s = inl (Right, inr (inl refl), s)
 
-pub in-all : (d : Direction) → In d (Up ∷ Down ∷ Left ∷ Right ∷ [])
-in-all Up = inl refl
-in-all Down = inr (inl refl)
-in-all Left = inr (inr (inl refl))
-in-all Right = inr (inr (inr (inl refl)))
+pub in-around : (d : Direction) → In d around
+in-around Up = inl refl
+in-around Down = inr (inl refl)
+in-around Left = inr (inr (inl refl))
+in-around Right = inr (inr (inr (inl refl)))
 
 -- the order of a unit's boundary list
 pub in-unit-order : (d : Direction) → In d (Up ∷ Left ∷ Down ∷ Right ∷ [])

@@ -1,6 +1,6 @@
 -- A Wall's entry stands exactly where the border is a Wall, a Connected one's where it is Connected.
 -- Assumes nothing.
-use Prim.Native.Nat.{ℕ, _+_, _*_, _/_, _%_}
+use Prim.Native.Nat.{ℕ, _+_, _/_, _%_}
 use mathlib.Core.Path.{_≡_, ap, sym, _∙_}
 use native.Mathlib.Omega.{arith}
 use Rattle.borders.specs.Entry.{connectedEntry, wallEntry, Stands}

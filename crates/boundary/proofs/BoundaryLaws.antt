@@ -2,27 +2,27 @@
 -- read in directions down and right for Connected borders, since each has its other cell in the unit and so is told once.
 -- Assumes nothing.
 use Prim.Native.Nat.{ℕ, _+_, _*_, _≤_}
-use mathlib.Core.Path.{_≡_, refl, ap, sym, _∙_}
+use mathlib.Core.Path.{_≡_, ap, sym, _∙_}
 use mathlib.Core.Logic.{_⊎_, inl, inr, _≢_, ⊎-elim, _↔_}
-use mathlib.Core.Bool.{Bool, true, not}
+use mathlib.Core.Bool.{not}
 use mathlib.Core.List.{List, [], _∷_, _++_}
 use native.Mathlib.Omega.{arith}
 use borrow.Author.Tests.{eqb-true, eqb-false, eq-eqb, ne-eqb, not-true}
 use lib.Dec.{eqb}
 use lib.ListN.{getD, length, length-append}
-use Rattle.lists.specs.Choice.{both, when}
+use Rattle.lists.specs.Choice.{both}
 use Rattle.lists.specs.Lists.{In, range, gather}
 use Rattle.lists.proofs.ChoiceLaws.{both-true, true-both}
 use Rattle.lists.proofs.ListLaws.{in-left, in-right, in-append, in-when, when-in, in-gather, gather-in, range-length}
 use Rattle.grid.specs.declared.Direction.{Direction}
 use Rattle.grid.specs.declared.Direction.the-variants.{Up, Down, Left, Right}
-use Rattle.grid.specs.Grid.{Grid, cells, Cell, goesOn, next, border}
-use Rattle.grid.proofs.Geometry.{Step, Neighbours, step-next, neighbours-back}
-use Rattle.borders.specs.Entry.{connectedEntry, wallEntry, Stands, Standing}
-use Rattle.borders.specs.Border.{stateOf, stateAt, stands}
+use Rattle.grid.specs.Grid.{Grid, cells, Cell, next, border}
+use Rattle.grid.proofs.Geometry.{Step, Neighbours, step-next}
+use Rattle.borders.specs.Entry.{connectedEntry, wallEntry, Standing}
+use Rattle.borders.specs.Border.{stateOf, stands}
 use Rattle.borders.proofs.EntryLaws.{connected-stands, wall-stands}
 use Rattle.borders.proofs.BorderLaws.{stands-state, stands-step, step-stands}
-use Rattle.borders.proofs.Directions.{Ahead, down-or-right, in-all, in-unit-order}
+use Rattle.borders.proofs.Directions.{around, forward, Ahead, down-or-right, in-around, in-unit-order}
 use Rattle.groups.specs.Groups.{cellsOf}
 use Rattle.groups.proofs.GroupLaws.{in-cells, cells-in}
 use Rattle.boundary.specs.Boundary.{ahead, connectedAt, wallAt, outerWallAt, unitCell, unitBoundary, potentialCell, potentialBoundary}
@@ -70,7 +70,7 @@ module _ (g : Grid) (states ids : List ℕ) (k : ℕ) where
   in-unit-cell c l cell q m =
       ⊎-elim
       (λ i.
-      let d = in-gather (connectedAt g states ids k c) (Down ∷ Right ∷ []) l i in
+      let d = in-gather (connectedAt g states ids k c) forward l i in
       let o = in-when (both (stands g states 1 (d .0) c) (ahead g ids k c (d .0))) (connectedEntry (border g (d .0) c)) l (d .2) in
       let t = both-true (stands g states 1 (d .0) c) (ahead g ids k c (d .0)) (o .0) in
       inl (record {
@@ -95,7 +95,7 @@ module _ (g : Grid) (states ids : List ℕ) (k : ℕ) where
         wall = stands-state g states 2 (d .0) c (o .0);
         entry = o .1;
       }))
-      (in-append l (gather (connectedAt g states ids k c) (Down ∷ Right ∷ [])) _ m)
+      (in-append l (gather (connectedAt g states ids k c) forward) _ m)
 
   pub in-unit-boundary : (l : ℕ) → In l (unitBoundary g states ids k) → Inside l ⊎ Walled l
   unfolding unitBoundary
@@ -110,8 +110,8 @@ module _ (g : Grid) (states ids : List ℕ) (k : ℕ) where
       let d = h .0 in
       let s = h .2 in
       gather-in (unitCell g states ids k) (cellsOf g ids k) a (connectedEntry e) (cells-in g ids k a (s .cell) p)
-      (in-left (connectedEntry e) (gather (connectedAt g states ids k a) (Down ∷ Right ∷ [])) _
-      (gather-in (connectedAt g states ids k a) (Down ∷ Right ∷ []) d (connectedEntry e) (h .1)
+      (in-left (connectedEntry e) (gather (connectedAt g states ids k a) forward) _
+      (gather-in (connectedAt g states ids k a) forward d (connectedEntry e) (h .1)
       (rw (s .over)
       (when-in (both (stands g states 1 d a) (ahead g ids k a d)) (connectedEntry (border g d a))
       (true-both (stands g states 1 d a) (ahead g ids k a d) (step-stands g states 1 d a c e s w) (eq-eqb _ k (ahead-is d a c e s ∙ q)))))))
@@ -125,7 +125,7 @@ module _ (g : Grid) (states ids : List ℕ) (k : ℕ) where
       let d = n .0 in
       let s = n .1 in
       gather-in (unitCell g states ids k) (cellsOf g ids k) a (wallEntry e) (cells-in g ids k a (s .cell) p)
-      (in-right (wallEntry e) (gather (connectedAt g states ids k a) (Down ∷ Right ∷ [])) _
+      (in-right (wallEntry e) (gather (connectedAt g states ids k a) forward) _
       (gather-in (wallAt g states a) (Up ∷ Left ∷ Down ∷ Right ∷ []) d (wallEntry e) (in-unit-order d)
       (rw (s .over) (when-in (stands g states 2 d a) (wallEntry (border g d a)) (step-stands g states 2 d a c e s w)))))
 
@@ -144,7 +144,7 @@ module _ (g : Grid) (states ids : List ℕ) (k : ℕ) where
   unfolding potentialBoundary potentialCell outerWallAt
   in-potential-boundary l m =
       let c = in-gather (potentialCell g states ids k) (cellsOf g ids k) l m in
-      let d = in-gather (outerWallAt g states ids k (c .0)) (Up ∷ Down ∷ Left ∷ Right ∷ []) l (c .2) in
+      let d = in-gather (outerWallAt g states ids k (c .0)) around l (c .2) in
       let i = in-cells g ids k (c .0) (c .1) in
       let o = in-when (both (stands g states 2 (d .0) (c .0)) (not (ahead g ids k (c .0) (d .0)))) (wallEntry (border g (d .0) (c .0))) l (d .2) in
       let t = both-true (stands g states 2 (d .0) (c .0)) (not (ahead g ids k (c .0) (d .0))) (o .0) in
@@ -165,7 +165,7 @@ module _ (g : Grid) (states ids : List ℕ) (k : ℕ) where
       let d = n .0 in
       let s = n .1 in
       gather-in (potentialCell g states ids k) (cellsOf g ids k) a (wallEntry e) (cells-in g ids k a (s .cell) p)
-      (gather-in (outerWallAt g states ids k a) (Up ∷ Down ∷ Left ∷ Right ∷ []) d (wallEntry e) (in-all d)
+      (gather-in (outerWallAt g states ids k a) around d (wallEntry e) (in-around d)
       (rw (s .over)
       (when-in (both (stands g states 2 d a) (not (ahead g ids k a d))) (wallEntry (border g d a))
       (true-both (stands g states 2 d a) (not (ahead g ids k a d)) (step-stands g states 2 d a c e s w)
@@ -225,7 +225,7 @@ module _ (g : Grid) (states ids : List ℕ) (k : ℕ) where
 
   pub potential-cell-most : (c : ℕ) → length (potentialCell g states ids k c) ≤ 4
   unfolding potentialCell outerWallAt
-  potential-cell-most c = gather-most (outerWallAt g states ids k c) 1 (λ d. when-most (both (stands g states 2 d c) (not (ahead g ids k c d))) _) (Up ∷ Down ∷ Left ∷ Right ∷ [])
+  potential-cell-most c = gather-most (outerWallAt g states ids k c) 1 (λ d. when-most (both (stands g states 2 d c) (not (ahead g ids k c d))) _) around
 
   pub unit-most : length (unitBoundary g states ids k) ≤ length (cellsOf g ids k) * 4
   unfolding unitBoundary

@@ -12,7 +12,7 @@ use Rattle.grid.specs.declared.Direction.the-variants.{Up, Down, Left, Right}
 use Rattle.grid.specs.Grid.{Grid, next, border}
 use Rattle.borders.specs.Entry.{connectedEntry, wallEntry}
 use Rattle.borders.specs.Border.{stands}
-use Rattle.groups.specs.Groups.{groupIds, cellsOf}
+use Rattle.groups.specs.Groups.{cellsOf}
 
 -- the neighbour in that direction is in group k
 abbrev pub ahead : Grid → List ℕ → ℕ → ℕ → Direction → Bool

@@ -2,9 +2,9 @@
 -- Assumes nothing.
 use Prim.Native.Nat.{ℕ}
 use mathlib.Core.Path.{_≡_}
-use mathlib.Core.Logic.{_⊎_, inl, inr, _≢_}
+use mathlib.Core.Logic.{inl, inr, _≢_}
 use native.Mathlib.Omega.{arith}
-use Rattle.frame.specs.Frame.{Relation, States, Symmetric, Chain, here, on, Link, SameUnit, SamePotential, Parted, Adjacent}
+use Rattle.frame.specs.Frame.{Relation, States, Symmetric, Chain, here, on, Link, SameUnit, SamePotential, Adjacent}
 
 pub chain-then : {R : ℕ → ℕ → Type 0} {a b c : ℕ} → Chain R a b → Chain R b c → Chain R a c
 chain-then j here = j

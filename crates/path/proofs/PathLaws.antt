@@ -4,21 +4,20 @@
 -- Assumes nothing.
 use Prim.Native.Nat.{ℕ, _<_}
 use mathlib.Core.Path.{_≡_, refl, ap, sym, _∙_}
-use mathlib.Core.Logic.{_⊎_, inl, inr, ⊎-elim, _↔_}
+use mathlib.Core.Logic.{inl, inr, ⊎-elim, _↔_}
 use mathlib.Core.List.{List, [], _∷_}
-use mathlib.Core.Option.{Option, none, some, Option·some-injective, Option·none-ne-some, Option·some-ne-none}
+use mathlib.Core.Option.{none, some, Option·some-injective, Option·none-ne-some}
 use native.Mathlib.Omega.{arith}
 use lib.ListN.{getD, length, set, replicate}
 use Rattle.lists.proofs.ChoiceLaws.{none-or-some}
-use Rattle.frame.specs.Frame.{Chain, here, on, SameUnit}
+use Rattle.frame.specs.Frame.{here, on, SameUnit}
 use Rattle.grid.specs.Grid.{Grid, cells, Cell}
 use Rattle.grid.proofs.Geometry.{Neighbours}
 use Rattle.borders.specs.Entry.{connectedEntry, Standing}
 use Rattle.borders.specs.Border.{stateOf}
 use Rattle.borders.proofs.EntryLaws.{stands-connected}
-use Rattle.path.specs.Path.{Lists, listOf, search, pathOf, pathList}
+use Rattle.path.specs.Path.{listOf, search, pathOf, pathList}
 use Rattle.path.specs.Leads.{Leads, arrived, over}
-use Rattle.path.proofs.Found.{Found}
 use Rattle.path.proofs.Search.{Ended, starts, search-ends, reaches}
 
 module _ (g : Grid) (start : ℕ) where

@@ -4,21 +4,20 @@ use Prim.Native.Nat.{ℕ, zero, suc, _+_, _≤_, _<_}
 use mathlib.Core.Path.{_≡_, refl, ap, sym, _∙_}
 use mathlib.Core.Logic.{_⊎_, inl, inr, _≢_, ⊎-elim}
 use mathlib.Core.Bool.{Bool, true, false, true≢false}
-use mathlib.Core.List.{List, [], _∷_, _++_}
+use mathlib.Core.List.{List, [], _∷_}
 use mathlib.Core.Option.{Option, none, some, Option·some-injective, Option·none-ne-some}
 use native.Mathlib.Omega.{arith}
-use borrow.Author.Tests.{eqb-true}
+use borrow.Author.Tests.{eqb-true, eq-eqb, ne-eqb}
 use lib.Dec.{eqb}
 use lib.ListN.{getD, length, set, replicate, length-set, length-append, length-replicate}
 use lib.Seq.{getD-set-same, getD-set-other}
-use Rattle.lists.specs.Choice.{both, pick}
+use Rattle.lists.specs.Choice.{both}
 use Rattle.lists.specs.Lists.{In}
-use Rattle.lists.proofs.Cases.{eq-or-ne, true-or-false}
+use Rattle.lists.proofs.Cases.{true-or-false}
 use Rattle.lists.proofs.ChoiceLaws.{both-true, true-both}
 use Rattle.lists.proofs.ListLaws.{in-left, in-right, in-append}
-use Rattle.frame.specs.Frame.{Chain, here, on, SameUnit}
+use Rattle.frame.specs.Frame.{here, on, SameUnit}
 use Rattle.grid.specs.declared.Direction.{Direction}
-use Rattle.grid.specs.declared.Direction.the-variants.{Up, Down, Left, Right}
 use Rattle.grid.specs.Grid.{Grid, cells, Cell, next, border}
 use Rattle.grid.proofs.Geometry.{Step, Neighbours, step-next}
 use Rattle.borders.specs.Entry.{connectedEntry, Standing}
@@ -26,7 +25,7 @@ use Rattle.borders.specs.Border.{stateOf, stands}
 use Rattle.borders.proofs.Choices.{pick-elim}
 use Rattle.borders.proofs.EntryLaws.{connected-stands}
 use Rattle.borders.proofs.BorderLaws.{stands-state, stands-step, step-stands}
-use Rattle.borders.proofs.Directions.{in-all}
+use Rattle.borders.proofs.Directions.{around, in-around}
 use Rattle.path.specs.Path.{Lists, Search, isNew, listOf, mark, finds, look, looks, lookRound, searchFrom}
 use Rattle.path.specs.Leads.{Leads, arrived, over}
 use Rattle.path.proofs.Found.{Found, blank, blank-set, blank-all, none-at, new-none, old-some, marked-cases, marked-here, found-still}
@@ -167,7 +166,7 @@ module _ (g : Grid) (states : List ℕ) (start : ℕ) where
       let p : List ℕ = listOf (getD xs c none) in
       let e : p ≡ f .0 = ap listOf (f .1) in
       let r =
-      looked-each c fuel (o .0) p (rw e (k .way c (f .0) (f .1))) (Up ∷ Down ∷ Left ∷ Right ∷ []) (record { queue = queue; found = xs })
+      looked-each c fuel (o .0) p (rw e (k .way c (f .0) (f .1))) around (record { queue = queue; found = xs })
       (record {
         size = k .size;
         way = k .way;
@@ -188,7 +187,7 @@ module _ (g : Grid) (states : List ℕ) (start : ℕ) where
         short = after .short;
         begun = after .begun;
         queued = after .queued;
-        closed = λ x y. ⊎-elim (λ (i : x ≡ c). inr (inr (rw i (λ v e n w. r .1 (n .0) v e (in-all (n .0)) (n .1) w)))) (λ z. inr z) (after .closed x y);
+        closed = λ x y. ⊎-elim (λ (i : x ≡ c). inr (inr (rw i (λ v e n w. r .1 (n .0) v e (in-around (n .0)) (n .1) w)))) (λ z. inr z) (after .closed x y);
         room = after .room;
       }
 
@@ -198,6 +197,22 @@ module _ (g : Grid) (states : List ℕ) (start : ℕ) where
     pub short : (x : ℕ) (p : List ℕ) → getD xs x none ≡ some p → length p < cells g
     pub begun : getD xs start none ≡ some []
     pub ends : Found xs target ⊎ ((x : ℕ) → Found xs x → Closed xs x)
+
+  -- one turn of the search
+  pub search-empty : (target fuel : ℕ) (xs : Lists) → searchFrom g states target fuel [] xs ≡ xs
+  unfolding searchFrom
+  search-empty target zero xs = refl
+  search-empty target (suc fuel) xs = refl
+
+  pub search-stop : (target fuel c : ℕ) (queue : List ℕ) (xs : Lists) → c ≡ target → searchFrom g states target (suc fuel) (c ∷ queue) xs ≡ xs
+  unfolding searchFrom
+  search-stop target fuel c queue xs q = rw (eq-eqb c target q)
+
+  pub search-on : (target fuel c : ℕ) (queue : List ℕ) (xs : Lists) → c ≢ target
+      → searchFrom g states target (suc fuel) (c ∷ queue) xs
+      ≡ searchFrom g states target fuel (lookRound g states c (record { queue = queue; found = xs }) .queue) (lookRound g states c (record { queue = queue; found = xs }) .found)
+  unfolding searchFrom
+  search-on target fuel c queue xs z = rw (ne-eqb c target z)
 
   empty-ends : (target fuel : ℕ) (xs : Lists) → Searching (λ x. ⊥) fuel [] xs → Ended target xs
   empty-ends target fuel xs k =

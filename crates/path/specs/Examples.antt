@@ -1,9 +1,8 @@
 -- Closed examples of paths.
 -- Assumes nothing.
-use Prim.Native.Nat.{ℕ}
 use mathlib.Core.Path.{_≡_, refl}
-use mathlib.Core.List.{List, [], _∷_}
-use mathlib.Core.Option.{Option, none, some}
+use mathlib.Core.List.{[], _∷_}
+use mathlib.Core.Option.{none, some}
 use Rattle.grid.specs.Grid.{grid}
 use Rattle.path.specs.Path.{pathOf}
 

@@ -1,15 +1,15 @@
 -- The first stage: its list stands, and stands on no board without a Wall inside a unit; where it finds nothing there is none.
 -- Assumes nothing.
 use Prim.Native.Nat.{ℕ}
-use mathlib.Core.Path.{_≡_, refl, ap, sym, _∙_, subst}
-use mathlib.Core.Logic.{_⊎_, inl, inr, ⊎-elim}
+use mathlib.Core.Path.{_≡_, refl, ap, _∙_, subst}
+use mathlib.Core.Logic.{inl, ⊎-elim}
 use mathlib.Core.Bool.{true}
 use mathlib.Core.List.{List, [], _∷_, _++_}
-use mathlib.Core.Option.{Option, none, some}
+use mathlib.Core.Option.{none, some}
 use borrow.Author.Tests.{eqb-true, eq-eqb}
 use lib.Dec.{eqb}
 use lib.ListN.{getD}
-use Rattle.lists.specs.Choice.{both, give}
+use Rattle.lists.specs.Choice.{both}
 use Rattle.lists.specs.Lists.{In, range, first}
 use Rattle.lists.proofs.Cases.{not-both}
 use Rattle.lists.proofs.ChoiceLaws.{both-true, true-both, give-some, give-none}
@@ -17,14 +17,13 @@ use Rattle.lists.proofs.ListLaws.{in-left, in-right, in-append, first-some, fir
 use Rattle.frame.specs.Frame.{States, SameUnit, NoInnerWall}
 use Rattle.frame.proofs.Chains.{unit-back}
 use Rattle.grid.specs.declared.Direction.{Direction}
-use Rattle.grid.specs.declared.Direction.the-variants.{Down, Right}
 use Rattle.grid.specs.Grid.{Grid, cells, Cell, next, border}
 use Rattle.grid.proofs.Geometry.{Step, Neighbours, step-next, neighbours-back}
 use Rattle.borders.specs.Entry.{wallEntry, Standing}
 use Rattle.borders.specs.Border.{stateOf, stands}
 use Rattle.borders.proofs.EntryLaws.{stands-wall, wall-stands}
 use Rattle.borders.proofs.BorderLaws.{stands-state, stands-step, step-stands}
-use Rattle.borders.proofs.Directions.{Ahead, down-or-right}
+use Rattle.borders.proofs.Directions.{forward, Ahead, down-or-right}
 use Rattle.groups.proofs.GroupLaws.{Labels}
 use Rattle.path.specs.Path.{pathOf, pathList}
 use Rattle.path.proofs.PathLaws.{path-list, path-leads, path-stands, leads-joins}
@@ -42,8 +41,8 @@ pub record Inner (g : Grid) (states ids L : List ℕ) : Type 0 where
 pub inner-at : (g : Grid) (states ids L : List ℕ) → innerWall g states ids ≡ some L → Inner g states ids L
 unfolding innerWall innerAt
 inner-at g states ids L q =
-    let c = first-some (λ c. first (innerAt g states ids c) (Down ∷ Right ∷ [])) (range (cells g)) L q in
-    let d = first-some (innerAt g states ids (c .0)) (Down ∷ Right ∷ []) L (c .2) in
+    let c = first-some (λ c. first (innerAt g states ids c) forward) (range (cells g)) L q in
+    let d = first-some (innerAt g states ids (c .0)) forward L (c .2) in
     let there = next g (d .0) (c .0) in
     let test = eqb (getD ids (c .0) 0) (getD ids there 0) in
     let o = give-some (both (stands g states 2 (d .0) (c .0)) test) (pathList g states (c .0) there ++ (wallEntry (border g (d .0) (c .0)) ∷ [])) L (d .2) in
@@ -60,8 +59,8 @@ module _ (g : Grid) (states ids : List ℕ) (m : ℕ) (lu : Labels g ids m (Same
       (true-both (stands g states 2 d a) (eqb (getD ids a 0) (getD ids (next g d a) 0)) (step-stands g states 2 d a c e s w)
       (eq-eqb _ _ (lu .alike a c (s .cell) (s .cell') j ∙ ap (λ i. getD ids i 0) (step-next g d a c e s))))
       (give-none _ (pathList g states a (next g d a) ++ (wallEntry (border g d a) ∷ []))
-      (first-none (innerAt g states ids a) (Down ∷ Right ∷ [])
-      (first-none (λ c. first (innerAt g states ids c) (Down ∷ Right ∷ [])) (range (cells g)) q a (range-in (cells g) a (s .cell))) d (h .1)))
+      (first-none (innerAt g states ids a) forward
+      (first-none (λ c. first (innerAt g states ids c) forward) (range (cells g)) q a (range-in (cells g) a (s .cell))) d (h .1)))
 
   pub inner-none : innerWall g states ids ≡ none → NoInnerWall (Neighbours g) (stateOf states)
   inner-none q a c e w z j =

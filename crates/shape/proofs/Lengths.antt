@@ -1,12 +1,12 @@
 -- The check's list fits in 9 entries a cell: at most one failed landing for each offset, 4 a cell for the unit, and 4 a cell for the
 -- adjacent potential units, which have no cell in common.
 -- Assumes nothing.
-use Prim.Native.Nat.{ℕ, zero, suc, _+_, _*_, _≤_, _<_}
-use mathlib.Core.Path.{_≡_, refl, ap, sym, _∙_}
-use mathlib.Core.Logic.{_⊎_, inl, inr, _≢_, ⊎-elim}
+use Prim.Native.Nat.{ℕ, zero, suc, _*_, _≤_, _<_}
+use mathlib.Core.Path.{_≡_, refl, ap}
+use mathlib.Core.Logic.{_≢_, ⊎-elim}
 use mathlib.Core.Bool.{Bool, true, false, not}
 use mathlib.Core.List.{List, [], _∷_, _++_}
-use mathlib.Core.Option.{Option, none, some}
+use mathlib.Core.Option.{some}
 use native.Mathlib.Omega.{arith}
 use borrow.Author.Tests.{ne-eqb}
 use lib.Dec.{eqb}
@@ -18,13 +18,13 @@ use Rattle.lists.proofs.ChoiceLaws.{give-some, orElse-some}
 use Rattle.lists.proofs.ListLaws.{first-some, range-length}
 use Rattle.grid.specs.Grid.{Grid, cells, next, border}
 use Rattle.borders.specs.Entry.{wallEntry}
-use Rattle.groups.specs.Groups.{groupIds, groupCount, cellsOf}
+use Rattle.groups.specs.Groups.{cellsOf}
 use Rattle.boundary.specs.Boundary.{unitBoundary, potentialBoundary}
 use Rattle.boundary.proofs.Lengths.{when-most, gather-most, gather-both, gather-times}
 use Rattle.boundary.proofs.BoundaryLaws.{unit-most, potential-most, cells-most}
 use Rattle.path.specs.Path.{pathList}
 use Rattle.path.proofs.PathLaws.{path-list-short}
-use Rattle.shape.specs.Shape.{innerWall, adjacent, Try, UnitInfo, unitOf, entryOf, tryAt, fits, failures, boundaries, unitFault, faultIn, shapeFault}
+use Rattle.shape.specs.Shape.{innerWall, adjacent, Try, UnitInfo, unitOf, entryOf, tryAt, fits, failures, boundaries, unitFault, faultIn}
 use Rattle.shape.specs.Shape.Try.{passed, good, failed}
 use Rattle.shape.proofs.InnerWalls.{inner-at}
 

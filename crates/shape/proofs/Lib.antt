@@ -5,3 +5,4 @@ pub mod Units
 pub mod InnerWalls
 pub mod Lengths
 pub mod Theorems
+pub mod Boards

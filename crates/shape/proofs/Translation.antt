@@ -1,19 +1,18 @@
 -- Translations: the shift of a cell computes them, and a step goes with its image. Rows and columns are linear, so one case a direction closes each law.
 -- Assumes nothing.
-use Prim.Native.Nat.{ℕ, _+_, _-_, _*_, _/_, _%_, _≤_, _<_}
+use Prim.Native.Nat.{ℕ, _+_, _-_, _<_}
 use mathlib.Core.Path.{_≡_, refl, ap, sym, _∙_}
-use mathlib.Core.Bool.{true}
 use mathlib.Core.Option.{Option, some, Option·some-injective}
 use native.Mathlib.Omega.{arith}
 use native.Mathlib.Nat.{div-add-mod', div-lt-iff-lt-mul}
 use borrow.Author.Tests.{leb-true, le-leb, ltb-true, lt-ltb}
 use lib.Dec.{leb, ltb}
-use Rattle.lists.specs.Choice.{both, give, through}
+use Rattle.lists.specs.Choice.{both, through}
 use Rattle.lists.proofs.ChoiceLaws.{both-true, true-both, give-some, through-some}
 use Rattle.grid.specs.declared.Direction.{Direction}
 use Rattle.grid.specs.declared.Direction.the-variants.{Up, Down, Left, Right}
-use Rattle.grid.specs.Grid.{Grid, Cell, row, col, border}
-use Rattle.grid.proofs.Geometry.{Beside, Step, coords, same-cell, cell-wide, row-lt, col-lt}
+use Rattle.grid.specs.Grid.{Grid, Cell, row, col}
+use Rattle.grid.proofs.Geometry.{Beside, coords, cell-wide, row-lt, col-lt}
 use Rattle.borders.proofs.Choices.{give-true}
 use Rattle.shape.specs.Shape.{along, shift}
 use Rattle.shape.specs.Laws.{Translates}

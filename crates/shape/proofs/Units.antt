@@ -1,19 +1,19 @@
 -- One unit's stage: a fault's list stands, and stands on no board where the unit has a good offset; a unit without a fault has one.
 -- Assumes nothing.
 use Prim.Native.Nat.{ℕ, _<_}
-use mathlib.Core.Path.{_≡_, refl, ap, sym, _∙_, subst}
+use mathlib.Core.Path.{_≡_, refl, ap, sym, subst}
 use mathlib.Core.Logic.{_⊎_, inl, inr, _≢_, ⊎-elim}
 use mathlib.Core.Bool.{Bool, true, false, not}
 use mathlib.Core.List.{List, [], _∷_, _++_}
 use mathlib.Core.Option.{Option, none, some}
 use borrow.Author.Tests.{not-true}
 use lib.ListN.{getD}
-use Rattle.lists.specs.Choice.{both, give}
-use Rattle.lists.specs.Lists.{In, range, keep, any, all, gather}
+use Rattle.lists.specs.Choice.{both}
+use Rattle.lists.specs.Lists.{In, range, keep, any, all}
 use Rattle.lists.proofs.Cases.{eq-or-ne, true-or-false, not-both}
 use Rattle.lists.proofs.ChoiceLaws.{give-some, give-none}
 use Rattle.lists.proofs.ListLaws.{in-left, in-right, in-append, keep-in, any-true, true-any, in-gather, gather-in, range-in, in-range}
-use Rattle.frame.specs.Frame.{States, Chain, on, SameUnit, SamePotential, Adjacent}
+use Rattle.frame.specs.Frame.{Relation, States, on, SameUnit, SamePotential, Adjacent}
 use Rattle.frame.specs.Offset.{Good, Reason}
 use Rattle.frame.proofs.Never.{never-good}
 use Rattle.grid.specs.Grid.{Grid, cells, Cell}
@@ -29,7 +29,7 @@ use Rattle.shape.specs.Shape.{adjacent, shift, UnitInfo, headOr0, unitOf
 use Rattle.shape.specs.Laws.{Translates}
 use Rattle.shape.proofs.Moves.{placement}
 use Rattle.shape.proofs.Translation.{shift-moves}
-use Rattle.shape.proofs.Offsets.{IsUnit, entry-pick, landing-stands, true-adjacent, same-unit, unit-id, unit-cell, good-true, tried-fails}
+use Rattle.shape.proofs.Offsets.{IsUnit, entry-pick, landing-stands, true-adjacent, unit-id, good-true, tried-fails}
 
 head-in : (cs : List ℕ) (c : ℕ) → In c cs → In (headOr0 cs) cs
 unfolding headOr0
@@ -73,6 +73,12 @@ module _ (g : Grid) (states ids pids : List ℕ) (n : ℕ) where
 
 module _ (g : Grid) (states ids pids : List ℕ) (m n : ℕ)
     (lu : Labels g ids m (SameUnit (Neighbours g) (stateOf states))) (lp : Labels g pids n (SamePotential (Neighbours g) (stateOf states))) where
+  abbrev Nb : Relation
+  Nb = Neighbours g
+
+  abbrev s : States
+  s = stateOf states
+
   -- each number below the count is a unit's
   unit-is : (k : ℕ) → k < m → IsUnit g ids pids (unitOf g ids pids k)
   unfolding unitOf
@@ -82,7 +88,7 @@ module _ (g : Grid) (states ids pids : List ℕ) (m n : ℕ)
       let f = in-cells g ids k (headOr0 cs) (head-in cs (c .0) (cells-in g ids k (c .0) (c .1) (c .2))) in
       record { in-unit = in-cells g ids k; unit-in = cells-in g ids k; cell = f .0; id = f .1; own = refl }
 
-  adjacent-cell : (f q : ℕ) → Cell g f → Adjacent (Neighbours g) (stateOf states) f q → Cell g q
+  adjacent-cell : (f q : ℕ) → Cell g f → Adjacent Nb s f q → Cell g q
   adjacent-cell f q l (inl j) = chain-cell g (λ e. stateOf states e ≢ 2) l j
   adjacent-cell f q l (inr p) = chain-cell g (λ e. stateOf states e ≢ 2) (p .between .1 .cell') (p .far-in)
 
@@ -98,8 +104,8 @@ module _ (g : Grid) (states ids pids : List ℕ) (m n : ℕ)
         stood e (in-right e (unitBoundary g states ids (u .number)) _
         (gather-in (potentialBoundary g states pids) (keep (adjacent g states pids (u .own)) (range n)) q e (keep-in (adjacent g states pids (u .own)) (range n) q (range-in n q l) a) i))
 
-    bounds : (q a c e : ℕ) → Adjacent (Neighbours g) (stateOf states) (u .first) q → SamePotential (Neighbours g) (stateOf states) q a → Neighbours g a c e → stateOf states e ≡ 2
-        → SamePotential (Neighbours g) (stateOf states) q c ⊎ (S e ≡ 2)
+    bounds : (q a c e : ℕ) → Adjacent Nb s (u .first) q → SamePotential Nb s q a → Nb a c e → stateOf states e ≡ 2
+        → SamePotential Nb s q c ⊎ (S e ≡ 2)
     bounds q a c e k j w z =
         let qn = adjacent-cell (u .first) q (is .cell) k in
         let p = getD pids q 0 in
@@ -111,9 +117,9 @@ module _ (g : Grid) (states ids pids : List ℕ) (m n : ℕ)
         (bounding-listed g states pids p a c e w (sym (lp .alike q a qn (w .1 .cell) j)) y z))))
         (eq-or-ne (getD pids c 0) p)
 
-    reason : Reason (Neighbours g) (stateOf states) S (u .first)
+    reason : Reason Nb s S (u .first)
     reason =
-        let id : (a : ℕ) → SameUnit (Neighbours g) (stateOf states) (u .first) a → getD ids a 0 ≡ u .number = unit-id g states ids pids m n lu lp u is in
+        let id : (a : ℕ) → SameUnit Nb s (u .first) a → getD ids a 0 ≡ u .number = unit-id g states ids pids m n lu lp u is in
         record {
           joins = λ a c e j w q. stands-connected S e (stood-unit (connectedEntry e) (connected-listed g states ids (u .number) a c e w (id a j) (id c (on j (e, w, q))) q));
           walls = λ a c e j w q. stands-wall S e (stood-unit (wallEntry e) (wall-listed g states ids (u .number) a c e w (id a j) q));
@@ -122,7 +128,7 @@ module _ (g : Grid) (states ids pids : List ℕ) (m n : ℕ)
 
   -- THE UNIT'S LIST stands on no board where the unit has a good offset
   pub unit-never : (k : ℕ) → k < m → (L : List ℕ) → unitFault g states ids pids n k ≡ some L → (S : States) → Standing S L
-      → (f : ℕ) × Cell g f × ((t : ℕ) → Cell g t → Good (Neighbours g) S f (Translates g f t) → ⊥)
+      → (f : ℕ) × Cell g f × ((t : ℕ) → Cell g t → Good Nb S f (Translates g f t) → ⊥)
   unfolding fits failures tryAt
   unit-never k l L q S stood =
       let u = unitOf g ids pids k in
@@ -135,7 +141,7 @@ module _ (g : Grid) (states ids pids : List ℕ) (m n : ℕ)
         is .cell,
         λ t tn good.
             let moves = shift-moves g (u .first) t in
-            never-good (Neighbours g) (neighbours-back g) (stateOf states) S (u .first) told (Translates g (u .first) t) (placement g (shift g (u .first) t) (Translates g (u .first) t) moves) good
+            never-good Nb (neighbours-back g) s S (u .first) told (Translates g (u .first) t) (placement g (shift g (u .first) t) (Translates g (u .first) t) moves) good
             (tried-fails g states ids pids m n lu lp u is (shift g (u .first) t) (Translates g (u .first) t) moves S
             (λ e i. stood' e (in-left e (failures g states ids pids u) _ (gather-in (λ t. entryOf (tryAt g states ids pids u t)) (range (cells g)) t e (range-in (cells g) t tn) i)))
             (λ y. not-both _ (true-any tried (range (cells g)) t (range-in (cells g) t tn) y) (o .0))),
@@ -143,7 +149,7 @@ module _ (g : Grid) (states ids pids : List ℕ) (m n : ℕ)
 
   -- a unit without a fault has a good offset
   pub unit-good : (k : ℕ) → k < m → unitFault g states ids pids n k ≡ none
-      → (f : ℕ) × (t : ℕ) × Cell g f × Cell g t × (getD ids f 0 ≡ k) × Good (Neighbours g) (stateOf states) f (Translates g f t)
+      → (f : ℕ) × (t : ℕ) × Cell g f × Cell g t × (getD ids f 0 ≡ k) × Good Nb s f (Translates g f t)
   unfolding unitFault fits tryAt unitOf
   unit-good k l q =
       let u = unitOf g ids pids k in
