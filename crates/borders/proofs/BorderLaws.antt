@@ -9,7 +9,8 @@ use lib.Dec.{eqb}
 use Rattle.lists.proofs.ChoiceLaws.{both-true, true-both}
 use Rattle.grid.specs.declared.Direction.{Direction}
 use Rattle.grid.specs.Grid.{Grid, Cell, goesOn, next, border}
-use Rattle.grid.proofs.Geometry.{Step, goes-step, step-goes}
+use Rattle.grid.specs.Steps.{Step}
+use Rattle.grid.proofs.Geometry.{goes-step, step-goes}
 use Rattle.borders.specs.Border.{stateOf, stateAt, stands}
 
 module _ (g : Grid) (states : List ℕ) (k : ℕ) (d : Direction) (c : ℕ) where

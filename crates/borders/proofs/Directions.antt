@@ -8,7 +8,8 @@ use Rattle.lists.specs.Lists.{In}
 use Rattle.grid.specs.declared.Direction.{Direction}
 use Rattle.grid.specs.declared.Direction.the-variants.{Up, Down, Left, Right}
 use Rattle.grid.specs.Grid.{Grid}
-use Rattle.grid.proofs.Geometry.{Step, Neighbours, step-back}
+use Rattle.grid.specs.Steps.{Step, Neighbours}
+use Rattle.grid.proofs.Geometry.{step-back}
 
 -- "up, down, left, right"
 abbrev pub around : List Direction

@@ -17,7 +17,8 @@ use Rattle.lists.proofs.ListLaws.{in-left, in-right, in-append, in-when, when-i
 use Rattle.grid.specs.declared.Direction.{Direction}
 use Rattle.grid.specs.declared.Direction.the-variants.{Up, Down, Left, Right}
 use Rattle.grid.specs.Grid.{Grid, cells, Cell, next, border}
-use Rattle.grid.proofs.Geometry.{Step, Neighbours, step-next}
+use Rattle.grid.specs.Steps.{Step, Neighbours}
+use Rattle.grid.proofs.Geometry.{step-next}
 use Rattle.borders.specs.Entry.{connectedEntry, wallEntry, Standing}
 use Rattle.borders.specs.Border.{stateOf, stands}
 use Rattle.borders.proofs.EntryLaws.{connected-stands, wall-stands}

@@ -12,7 +12,7 @@ use lib.ListN.{getD, length, set, replicate}
 use Rattle.lists.proofs.ChoiceLaws.{none-or-some}
 use Rattle.frame.specs.Frame.{here, on, SameUnit}
 use Rattle.grid.specs.Grid.{Grid, cells, Cell}
-use Rattle.grid.proofs.Geometry.{Neighbours}
+use Rattle.grid.specs.Steps.{Neighbours}
 use Rattle.borders.specs.Entry.{connectedEntry, Standing}
 use Rattle.borders.specs.Border.{stateOf}
 use Rattle.borders.proofs.EntryLaws.{stands-connected}

@@ -19,7 +19,8 @@ use Rattle.lists.proofs.ListLaws.{in-left, in-right, in-append}
 use Rattle.frame.specs.Frame.{here, on, SameUnit}
 use Rattle.grid.specs.declared.Direction.{Direction}
 use Rattle.grid.specs.Grid.{Grid, cells, Cell, next, border}
-use Rattle.grid.proofs.Geometry.{Step, Neighbours, step-next}
+use Rattle.grid.specs.Steps.{Step, Neighbours}
+use Rattle.grid.proofs.Geometry.{step-next}
 use Rattle.borders.specs.Entry.{connectedEntry, Standing}
 use Rattle.borders.specs.Border.{stateOf, stands}
 use Rattle.borders.proofs.Choices.{pick-elim}

@@ -3,7 +3,7 @@
 use Prim.Native.Nat.{ℕ}
 use mathlib.Core.List.{List, [], _∷_}
 use Rattle.grid.specs.Grid.{Grid}
-use Rattle.grid.proofs.Geometry.{Neighbours}
+use Rattle.grid.specs.Steps.{Neighbours}
 use Rattle.borders.specs.Entry.{connectedEntry}
 
 -- "Entries run from target back to start": p lists, as Connected, borders that lead from a cell back to the start

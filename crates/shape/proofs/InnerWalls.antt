@@ -18,7 +18,8 @@ use Rattle.frame.specs.Frame.{States, SameUnit, NoInnerWall}
 use Rattle.frame.proofs.Chains.{unit-back}
 use Rattle.grid.specs.declared.Direction.{Direction}
 use Rattle.grid.specs.Grid.{Grid, cells, Cell, next, border}
-use Rattle.grid.proofs.Geometry.{Step, Neighbours, step-next, neighbours-back}
+use Rattle.grid.specs.Steps.{Step, Neighbours}
+use Rattle.grid.proofs.Geometry.{step-next, neighbours-back}
 use Rattle.borders.specs.Entry.{wallEntry, Standing}
 use Rattle.borders.specs.Border.{stateOf, stands}
 use Rattle.borders.proofs.EntryLaws.{stands-wall, wall-stands}

@@ -6,7 +6,7 @@ use mathlib.Core.Option.{Option, some, Option·some-injective}
 use Rattle.frame.specs.Offset.{Placement}
 use Rattle.grid.specs.declared.Direction.{Direction}
 use Rattle.grid.specs.Grid.{Grid, Cell, border}
-use Rattle.grid.proofs.Geometry.{Step, Neighbours}
+use Rattle.grid.specs.Steps.{Step, Neighbours}
 
 -- `put` computes the relation T
 pub record Moves (g : Grid) (put : ℕ → Option ℕ) (T : ℕ → ℕ → Type 0) : Type 0 where

@@ -19,7 +19,8 @@ use Rattle.frame.specs.Frame.{Relation, States, SameUnit, SamePotential, Adjace
 use Rattle.frame.specs.Offset.{Tried, Good, OnWall, OnConnected, Fails}
 use Rattle.grid.specs.declared.Direction.{Direction}
 use Rattle.grid.specs.Grid.{Grid, Cell, goesOn, next, border}
-use Rattle.grid.proofs.Geometry.{Neighbours, goes-step, step-goes, step-next, neighbours-back, one-border}
+use Rattle.grid.specs.Steps.{Neighbours}
+use Rattle.grid.proofs.Geometry.{goes-step, step-goes, step-next, neighbours-back, one-border}
 use Rattle.borders.specs.Entry.{connectedEntry, wallEntry, Stands, Standing}
 use Rattle.borders.specs.Border.{stateOf, stateAt, stands}
 use Rattle.borders.proofs.Choices.{either-false}

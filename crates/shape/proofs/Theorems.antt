@@ -17,7 +17,8 @@ use Rattle.frame.specs.Offset.{Good}
 use Rattle.frame.proofs.Never.{good-move}
 use Rattle.frame.proofs.Partners.{partner-good, good-partner}
 use Rattle.grid.specs.Grid.{Grid, cells, Cell}
-use Rattle.grid.proofs.Geometry.{Neighbours, neighbours-back, border-lt}
+use Rattle.grid.specs.Steps.{Neighbours}
+use Rattle.grid.proofs.Geometry.{neighbours-back, border-lt}
 use Rattle.borders.specs.Entry.{Standing}
 use Rattle.borders.specs.Border.{stateOf, StatesOk}
 use Rattle.groups.specs.Groups.{groupIds, groupCount}

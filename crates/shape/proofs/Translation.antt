@@ -12,7 +12,8 @@ use Rattle.lists.proofs.ChoiceLaws.{both-true, true-both, give-some, through-so
 use Rattle.grid.specs.declared.Direction.{Direction}
 use Rattle.grid.specs.declared.Direction.the-variants.{Up, Down, Left, Right}
 use Rattle.grid.specs.Grid.{Grid, Cell, row, col}
-use Rattle.grid.proofs.Geometry.{Beside, coords, cell-wide, row-lt, col-lt}
+use Rattle.grid.specs.Steps.{Beside}
+use Rattle.grid.proofs.Geometry.{coords, cell-wide, row-lt, col-lt}
 use Rattle.borders.proofs.Choices.{give-true}
 use Rattle.shape.specs.Shape.{along, shift}
 use Rattle.shape.specs.Laws.{Translates}

@@ -17,7 +17,8 @@ use Rattle.frame.specs.Frame.{Relation, States, on, SameUnit, SamePotential, Ad
 use Rattle.frame.specs.Offset.{Good, Reason}
 use Rattle.frame.proofs.Never.{never-good}
 use Rattle.grid.specs.Grid.{Grid, cells, Cell}
-use Rattle.grid.proofs.Geometry.{Neighbours, neighbours-back}
+use Rattle.grid.specs.Steps.{Neighbours}
+use Rattle.grid.proofs.Geometry.{neighbours-back}
 use Rattle.borders.specs.Entry.{connectedEntry, wallEntry, Standing}
 use Rattle.borders.specs.Border.{stateOf}
 use Rattle.borders.proofs.EntryLaws.{stands-wall, stands-connected}

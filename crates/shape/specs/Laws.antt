@@ -5,7 +5,7 @@ use mathlib.Core.Path.{_≡_}
 use mathlib.Core.Logic.{_⊎_}
 use Rattle.frame.specs.Frame.{States, NoInnerWall, Partner}
 use Rattle.grid.specs.Grid.{Grid, Cell, row, col, borderCount}
-use Rattle.grid.proofs.Geometry.{Neighbours}
+use Rattle.grid.specs.Steps.{Neighbours}
 
 -- "A board is full when no border is undecided"
 abbrev pub FullBoard : Grid → States → Type 0
