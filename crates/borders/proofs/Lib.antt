@@ -1,4 +1,6 @@
 pub mod Choices
+pub mod Congruence
 pub mod EntryLaws
 pub mod BorderLaws
 pub mod Directions
+pub mod Agreement

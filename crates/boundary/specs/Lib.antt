@@ -1,4 +1,5 @@
 -- Defined here: the two boundary lists, each in its own order (`Boundary`), with closed examples (`Examples`).
--- Proved in proofs/: which entries are in each list, that each stands as listed, and that there are at most 4 a cell (`BoundaryLaws`).
+-- Proved in proofs/: which entries are in each list, that each stands as listed, and that there are at most 4 a cell (`BoundaryLaws`);
+-- the lists depend on the board's borders alone (`Agreement`).
 pub mod Boundary
 pub mod Examples

@@ -1,10 +1,10 @@
 -- Full boards that are right, and one that is not: the laws say something both ways.
 -- Assumes nothing.
-use Prim.Native.Nat.{ℕ, zero, suc, _<_}
-use mathlib.Core.Path.{_≡_, refl}
-use mathlib.Core.Logic.{_⊎_, inl, inr}
-use mathlib.Core.List.{List, [], _∷_}
-use mathlib.Core.Option.{none, some, Option·some-ne-none}
+use Prim.Native.Nat.{zero, suc}
+use mathlib.Core.Path.{refl}
+use mathlib.Core.Logic.{inl, inr}
+use mathlib.Core.List.{[], _∷_}
+use mathlib.Core.Option.{Option·some-ne-none}
 use native.Mathlib.Omega.{arith}
 use Rattle.grid.specs.Grid.{grid}
 use Rattle.borders.specs.Border.{stateOf}

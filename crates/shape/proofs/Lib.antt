@@ -6,3 +6,4 @@ pub mod InnerWalls
 pub mod Lengths
 pub mod Theorems
 pub mod Boards
+pub mod Agreement
