@@ -3,3 +3,5 @@ pub mod SetsLaws
 pub mod EdgeLaws
 pub mod FloodSteps
 pub mod TurnLaws
+pub mod Counting
+pub mod Lending
