@@ -5,3 +5,4 @@ pub mod FloodSteps
 pub mod TurnLaws
 pub mod Counting
 pub mod Lending
+pub mod InfoLaws

@@ -4,3 +4,4 @@ pub mod Groups
 pub mod Turn
 pub mod Floods
 pub mod Lent
+pub mod Info
