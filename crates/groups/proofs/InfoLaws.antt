@@ -157,9 +157,9 @@ module _ (i : GroupInfo) where
 
 -- starts that rise: each group has a cell, and ends at the last cell or before it
 module _ (n count : ℕ) (starts : List ℕ) (rise : startsRise n count starts ≡ true) where
-  pub start-zero : getD starts 0 0 ≡ 0
+  pub from-zero : getD starts 0 0 ≡ 0
   unfolding startsRise
-  start-zero = eqb-true (getD starts 0 0) 0 (both-true (eqb (getD starts 0 0) 0) (all (rises n count starts) (range count)) rise .0)
+  from-zero = eqb-true (getD starts 0 0) 0 (both-true (eqb (getD starts 0 0) 0) (all (rises n count starts) (range count)) rise .0)
 
   pub start-before-end : (k : ℕ) → k < count → getD starts k 0 < endOf n count starts k
   unfolding startsRise

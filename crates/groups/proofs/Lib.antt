@@ -6,3 +6,4 @@ pub mod TurnLaws
 pub mod Counting
 pub mod Lending
 pub mod InfoLaws
+pub mod Theorems
