@@ -1,0 +1,4 @@
+pub mod ReadLaws
+pub mod ListLaws
+pub mod FileLaws
+pub mod NumberLaws
