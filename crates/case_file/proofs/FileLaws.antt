@@ -11,18 +11,16 @@ use borrow.Author.Tests.{eq-eqb, ne-eqb, le-leb, lt-leb}
 use lib.ListN.{length, getD, drop, length-drop, drop-of-length-le}
 use lib.Dec.{eqb, leb}
 use lib.Seq.{drop-cons}
-use denote.Enum.Declared.{tagOf}
 use Rattle.lists.specs.Choice.{pick, both, give, through}
 use Rattle.lists.proofs.Cases.{le-or-lt}
 use Rattle.case_file.specs.declared.Call.{Call}
 use Rattle.case_file.specs.declared.Span.{Span}
-use Rattle.case_file.specs.declared.Counted.the-variants.{Fits}
+use Rattle.case_file.specs.declared.Counted.the-variants.{Fits, Cut}
 use Rattle.case_file.specs.declared.File.the-variants as file
 use Rattle.case_file.specs.Sound.{numbersOf, callsOf, callListOf, isEnd, listsOf, restOf, decodeOf}
 use Rattle.case_file.specs.Layout.{wordAt, spanOf, sizeOf, countedAt, fileOf}
 use Rattle.case_file.proofs.ReadLaws.{byte-at, byte-out, word-at, word-out, numbers-length}
 use Rattle.case_file.proofs.ListLaws.{numbers-none, numbers-cut, numbers-some, Whole, call-cases, headed}
-use Rattle.case_file.proofs.Counted.{the-type}
 
 -- a list that was read from a byte on leaves the bytes from another on
 abbrev Within : {A : Type 0} → List ℕ → Option (List A × List ℕ) → Type 0
@@ -52,12 +50,12 @@ module _ {A : Type 0} (bs : List ℕ) (at : ℕ) where
         inside = omega (arith, m, w .1);
       }
 
-  pub missing : (o : Option (List A × List ℕ)) → tagOf the-type (countedAt bs at o) ≡ 1 → o ≡ none
+  pub missing : (o : Option (List A × List ℕ)) → Cut ≡ countedAt bs at o → o ≡ none
   missing none q = refl
-  missing (some p) q = let z : _≡_ {A = ℕ} 0 1 = q in absurd (omega arith)
+  missing (some p) q = let z : _≡_ {A = ℕ} 0 1 = cc in absurd (omega arith)
 
 -- every list that is read from within the file leaves off within it
-numbers-cases : (bs : List ℕ) (at : ℕ) → (at + 2 + 2 * wordAt bs at ≤ length bs) ⊎ (numbersOf (drop at bs) ≡ none)
+pub numbers-cases : (bs : List ℕ) (at : ℕ) → (at + 2 + 2 * wordAt bs at ≤ length bs) ⊎ (numbersOf (drop at bs) ≡ none)
 numbers-cases bs at =
     let w = wordAt bs at in
     ⊎-elim

@@ -8,7 +8,6 @@ use mathlib.Core.Option.{Option, none, some, Option·some-injective, Option·non
 use native.Mathlib.Omega.{arith}
 use lib.Dec.{eqb}
 use lib.ListN.{length, getD, drop, length-drop}
-use denote.Enum.Declared.{tagOf}
 use Rattle.lists.specs.Choice.{through}
 use Rattle.lists.proofs.Cases.{le-or-lt, eq-or-ne}
 use Rattle.lists.proofs.ChoiceLaws.{through-some}
@@ -19,7 +18,6 @@ use Rattle.case_file.specs.declared.Counted.the-variants.{Fits}
 use Rattle.case_file.specs.Sound.{numbersOf, manyOf, callOf, callsOf, callListOf}
 use Rattle.case_file.specs.Layout.{wordAt, numbersAt, spanOf, sizeOf, stepAt, countedAt}
 use Rattle.case_file.proofs.ReadLaws.{word-at, word-out, many-at, many-out, numbers-length, call-out, call-undo, call-ask, call-other, call-cut, call-decide}
-use Rattle.case_file.proofs.Step.{the-type}
 
 module _ (bs : List ℕ) (at : ℕ) where
   pub numbers-none : length bs < at + 2 → numbersOf (drop at bs) ≡ none
@@ -83,8 +81,12 @@ module _ (bs : List ℕ) (at : ℕ) where
       rw (d, n) (o .1, o .2))
       call-cases
 
-  pub step-unsound : tagOf the-type (stepAt at (callOf (drop at bs))) ≡ 1 → callOf (drop at bs) ≡ none
-  step-unsound q = ⊎-elim (λ e. e) (λ (o : Whole). let z : _≡_ {A = ℕ} 0 1 = simp (o .1) at q in absurd (omega arith)) call-cases
+  pub step-unsound : step.Unsound ≡ stepAt at (callOf (drop at bs)) → callOf (drop at bs) ≡ none
+  step-unsound q =
+      ⊎-elim
+      (λ e. e)
+      (λ (o : Whole). let f : step.Unsound ≡ step.Call (o .0) (at + sizeOf (o .0)) = simp (o .1) at q in let z : _≡_ {A = ℕ} 0 1 = cc in absurd (omega arith))
+      call-cases
 
 -- what a list of calls leaves behind it
 abbrev behindOf : Option (List Call × List ℕ) → Option (List ℕ)
@@ -177,7 +179,7 @@ module _ (bs : List ℕ) (at : ℕ) where
   unfolding callListOf through
   calls-none h = rw (word-out bs at (omega arith))
 
-  calls-word : at + 2 ≤ length bs → callListOf (drop at bs) ≡ callsOf (wordAt bs at) (drop (at + 2) bs)
+  pub calls-word : at + 2 ≤ length bs → callListOf (drop at bs) ≡ callsOf (wordAt bs at) (drop (at + 2) bs)
   unfolding callListOf through
   calls-word h = rw (word-at bs at (omega arith))
 

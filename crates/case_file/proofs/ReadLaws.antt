@@ -57,7 +57,7 @@ module _ (bs : List ℕ) (at n : ℕ) where
 two-more : (n : ℕ) → 2 * suc n ≡ suc (suc (2 * n))
 two-more n = omega arith
 
-words-length : (n : ℕ) (bs : List ℕ) → 2 * n ≤ length bs → length (wordsOf (take (2 * n) bs)) ≡ n
+pub words-length : (n : ℕ) (bs : List ℕ) → 2 * n ≤ length bs → length (wordsOf (take (2 * n) bs)) ≡ n
 unfolding wordsOf
 words-length zero bs h = refl
 words-length (suc n) [] h = absurd (omega arith)

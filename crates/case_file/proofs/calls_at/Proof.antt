@@ -44,7 +44,7 @@ returns-2 c =
     let m = c .before in
     let t = m .before .before in
     let a = t .before .before .before .before .before .args in
-    let u = step-unsound (a .file .now) (t .before .loop .next) (rw (m .before .call-at .ensures) at (m .match .keys2)) in
+    let u = step-unsound (a .file .now) (t .before .loop .next) (sym (c .enum-told .given .1) ∙ m .before .call-at .ensures) in
     let e = calls-cut (a .file .now) (a .at) (t .before .before .word .result) (t .before .before .word .ensures .0) (omega arith)
     (walking-stop (t .before .loop .inv) (t .loop-test .taken) u) in
     simp e

@@ -60,7 +60,7 @@ returns-2 : tie.Need-returns-2
 returns-2 c =
     let k = c .before .before in
     let bs = bytes (k .before) in
-    no-walls bs (k .before .if1 .left) (missing bs 5 (numbersOf (drop 5 bs)) (rw (k .numbers-at .ensures) at (c .before .match .keys2)))
+    no-walls bs (k .before .if1 .left) (missing bs 5 (numbersOf (drop 5 bs)) (sym (c .enum-told .given .1) ∙ k .numbers-at .ensures))
 
 numbers-at-requires-2 : tie.Need-numbers-at-requires-2
 numbers-at-requires-2 c κs = walls-found c .inside
@@ -78,7 +78,7 @@ returns-3 c =
     let bs = bytes1 o in
     let at = o .before .walls .given .0 .1 .0 in
     no-clues bs (o .before .before .before .before .if1 .left) (walls-found o)
-    (missing bs at (numbersOf (drop at bs)) (rw (k .numbers-at2 .ensures) at (c .before .match2 .keys2)))
+    (missing bs at (numbersOf (drop at bs)) (sym (c .enum-told2 .given .1) ∙ k .numbers-at2 .ensures))
 
 calls-at-requires : tie.Need-calls-at-requires
 calls-at-requires c κs = clues-found c .inside
@@ -97,7 +97,7 @@ returns-4 c =
     let bs = bytes2 o in
     let at = o .before .clues .given .0 .1 .0 in
     no-calls bs (q .before .before .before .before .if1 .left) (walls-found q) (clues-found o)
-    (missing bs at (callListOf (drop at bs)) (rw (k .calls-at .ensures) at (c .before .match3 .keys2)))
+    (missing bs at (callListOf (drop at bs)) (sym (c .enum-told3 .given .1) ∙ k .calls-at .ensures))
 
 returns-5 : tie.Need-returns-5
 returns-5 c =
