@@ -27,6 +27,33 @@ mod c {
         pub board: Board,
     }
 
+    #[repr(C)]
+    #[derive(Clone, Copy)]
+    pub struct UnionFind {
+        pub parent: [u16; 1024],
+        pub n: usize,
+    }
+
+    #[repr(C)]
+    pub struct Made {
+        pub code: u8,
+        pub union: UnionFind,
+    }
+
+    #[repr(C)]
+    pub struct Found {
+        pub code: u8,
+        pub root: usize,
+        pub union: UnionFind,
+    }
+
+    #[repr(C)]
+    pub struct United {
+        pub code: u8,
+        pub united: bool,
+        pub union: UnionFind,
+    }
+
     // Numbers and records by value cross, and every value of them is answered: these calls are safe.
     unsafe extern "C" {
         pub safe fn sendai_neighbour(height: usize, width: usize, cell: usize, direction: u8) -> Place;
@@ -34,6 +61,9 @@ mod c {
         pub safe fn sendai_board_decide(board: Board, border: usize, wall: bool) -> Decided;
         pub safe fn sendai_board_undo(board: Board) -> Decided;
         pub safe fn sendai_board_check(board: Board) -> u8;
+        pub safe fn sendai_union_new(n: usize) -> Made;
+        pub safe fn sendai_union_find(union: UnionFind, x: usize) -> Found;
+        pub safe fn sendai_union_unite(union: UnionFind, x: usize, y: usize) -> United;
     }
 }
 
@@ -114,5 +144,32 @@ impl Board {
 
     pub fn ledger(&self) -> Vec<u16> {
         self.0.ledger[..self.0.len].to_vec()
+    }
+}
+
+/// A union record.
+#[derive(Clone, Copy)]
+pub struct Union(c::UnionFind);
+
+impl Union {
+    pub fn make(vertices: usize) -> Result<Union, u8> {
+        let made = c::sendai_union_new(vertices);
+        accepted(made.code).map(|()| Union(made.union))
+    }
+
+    pub fn find(&mut self, x: usize) -> Result<usize, u8> {
+        let found = c::sendai_union_find(self.0, x);
+        self.0 = found.union;
+        accepted(found.code).map(|()| found.root)
+    }
+
+    pub fn unite(&mut self, x: usize, y: usize) -> Result<bool, u8> {
+        let united = c::sendai_union_unite(self.0, x, y);
+        self.0 = united.union;
+        accepted(united.code).map(|()| united.united)
+    }
+
+    pub fn parents(&self) -> Vec<u16> {
+        self.0.parent[..self.0.n].to_vec()
     }
 }

@@ -2,9 +2,13 @@
 // by value, laid out as in C; a slice is a pointer and a length. An enum does not cross: it is handed over as numbers.
 mod boards;
 mod places;
+mod unions;
 
 pub use boards::sendai_board_check;
 pub use boards::sendai_board_decide;
 pub use boards::sendai_board_make;
 pub use boards::sendai_board_undo;
 pub use places::sendai_neighbour;
+pub use unions::sendai_union_find;
+pub use unions::sendai_union_new;
+pub use unions::sendai_union_unite;

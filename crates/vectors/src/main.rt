@@ -4,6 +4,7 @@ mod board_runs;
 mod case;
 mod numbering;
 mod sample;
+mod union_runs;
 
 use case::Counts;
 use libc::STDOUT_FILENO;
@@ -22,6 +23,7 @@ fn replay_case(s: &[u8], at: usize) -> Counts {
     match kind {
         1 => numbering::replay(s, at),
         2 => board_runs::replay(s, at),
+        7 => union_runs::replay(s, at),
         _ => case::unknown(),
     }
 }
@@ -78,4 +80,5 @@ fn check_file(name: &[u8]) {
 fn main() {
     check_file(b"numbering.bin");
     check_file(b"board.bin");
+    check_file(b"union_find.bin");
 }
