@@ -1,5 +1,6 @@
 //! A module a layer: what is compared, on which inputs.
 pub mod board;
+pub mod hand_over;
 pub mod numbering;
 pub mod union_find;
 
@@ -28,10 +29,11 @@ pub struct Layer {
     pub sample: fn(&mut Sample),
 }
 
-pub const LAYERS: [Layer; 3] = [
+pub const LAYERS: [Layer; 4] = [
     Layer { name: "numbering", kind: 1, run: numbering::run, sample: numbering::sample },
     Layer { name: "board", kind: 2, run: board::run, sample: board::sample },
     Layer { name: "union_find", kind: 7, run: union_find::run, sample: union_find::sample },
+    Layer { name: "hand_over", kind: 10, run: hand_over::run, sample: hand_over::sample },
 ];
 
 /// Repeats a step for so long.

@@ -54,7 +54,14 @@ mod c {
         pub union: UnionFind,
     }
 
-    // Numbers and records by value cross, and every value of them is answered: these calls are safe.
+    #[repr(C)]
+    pub struct Hand {
+        pub code: u8,
+        pub length: usize,
+    }
+
+    // Numbers and records by value cross, and every value of them is answered: these calls are safe. A slice crosses as a
+    // pointer and a length: those calls have a wrapper below.
     unsafe extern "C" {
         pub safe fn sendai_neighbour(height: usize, width: usize, cell: usize, direction: u8) -> Place;
         pub safe fn sendai_board_make(height: usize, width: usize) -> Decided;
@@ -64,6 +71,7 @@ mod c {
         pub safe fn sendai_union_new(n: usize) -> Made;
         pub safe fn sendai_union_find(union: UnionFind, x: usize) -> Found;
         pub safe fn sendai_union_unite(union: UnionFind, x: usize, y: usize) -> United;
+        pub fn sendai_hand_over(entries: *const u16, length: usize, buf: *mut u16, room: usize) -> Hand;
     }
 }
 
@@ -172,4 +180,32 @@ impl Union {
     pub fn parents(&self) -> Vec<u16> {
         self.0.parent[..self.0.n].to_vec()
     }
+}
+
+/// What the places of a buffer hold before a call.
+const UNTOUCHED: u16 = 0xbeef;
+
+/// A buffer with room for a call's list. What the call answered is taken out of it, and the other places must be untouched.
+struct Buffer(Vec<u16>);
+
+impl Buffer {
+    fn new(room: usize) -> Buffer {
+        Buffer(vec![UNTOUCHED; room])
+    }
+
+    fn list(mut self, code: u8, length: usize) -> Result<Vec<u16>, u8> {
+        let used = if code == 0 { length } else { 0 };
+        assert!(self.0[used..].iter().all(|&place| place == UNTOUCHED), "places behind the list were written");
+        self.0.truncate(length);
+        accepted(code).map(|()| self.0)
+    }
+}
+
+/// Hand-over into a buffer of so many places.
+pub fn hand_over(entries: &[u16], room: usize) -> Result<Vec<u16>, u8> {
+    let mut buffer = Buffer::new(room);
+    let (place, length) = (buffer.0.as_mut_ptr(), entries.len());
+    // both slices live through the call, and neither overlaps the other
+    let hand = unsafe { c::sendai_hand_over(entries.as_ptr(), length, place, room) };
+    buffer.list(hand.code, hand.length)
 }
