@@ -6,3 +6,4 @@ pub mod Told
 pub mod Trace
 pub mod Loop
 pub mod Walk
+pub mod Answers

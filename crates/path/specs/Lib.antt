@@ -6,4 +6,5 @@
 pub mod Path
 pub mod Leads
 pub mod Trace
+pub mod Answer
 pub mod Examples
