@@ -1,3 +1,5 @@
 pub mod Lengths
 pub mod BoundaryLaws
 pub mod Agreement
+pub mod AppendLaws
+pub mod ListingLaws
