@@ -3,3 +3,5 @@ pub mod BoundaryLaws
 pub mod Agreement
 pub mod AppendLaws
 pub mod ListingLaws
+pub mod GroupParts
+pub mod AnswerLaws

@@ -6,3 +6,6 @@ pub mod Boundary
 pub mod Examples
 pub mod Appended
 pub mod Listing
+pub mod Answer
+pub mod Tmp
+pub mod Handed

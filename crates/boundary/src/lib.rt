@@ -1,13 +1,25 @@
 // Boundary lists (`reason_for_unit_and_its_boundary`, `reason_for_potential_unit_boundary`): the borders that tell a unit and its
 // Walls, and the Walls that part a potential unit from others.
 ghost use mathlib.Core.Path.{_≡_};
-ghost use Prim.Native.Nat.{_+_, _<_};
+ghost use mathlib.Core.Bool.{true, false};
+ghost use Prim.Native.Nat.{_+_, _*_, _<_, _≤_};
+ghost use lib.ListN.{length};
 ghost use Rattle.lists.specs.Lists.{gather};
 ghost use Rattle.grid.specs.Grid.{grid};
 ghost use Rattle.boundary.specs.Listing.{lists as listsOf, entryOf, listedAt, listedOf, boundary as boundaryOf, Ready, Listable};
 ghost use Rattle.boundary.specs.Appended.{Appended};
+ghost use Rattle.boundary.specs.Handed.{Handed};
+ghost use Rattle.boundary.specs.Answer.{answerOf, written, groupOutcome, boundaryOutcome};
+ghost use Rattle.boundary.specs.Tmp.{endOf};
+use board::Board;
 use grid::Beyond;
 use grid::Direction;
+
+// How many places of the buffer hold the list, or the number of the question that refuses the call.
+pub enum BoundaryAnswer {
+    Listed(usize),
+    Refused(u8),
+}
 
 // Which borders of a cell are listed: Connected ones inside its group, all Walls, or Walls into another group.
 enum Kind {
@@ -170,4 +182,107 @@ pub fn append_boundary<'a>(
         i += 1;
     }
     n
+}
+
+pub fn end_of(starts: &[u16], count: usize, n: usize, group: usize) -> usize
+    requires { ⌜ (group < count) × (count ≤ length (now starts)) ⌝ }
+    ensures { λ r. ⌜ r ≡ endOf n count (now (starts .entry)) group ⌝ }
+{
+    let next = group + 1;
+    if next < count {
+        return wide(starts[next]);
+    }
+    n
+}
+
+// Questions 3 and 6, then the list of a group of a grouped board.
+fn list_group<'a>(
+    states: &'a [u8],
+    ids: &'a [u16],
+    starts: &'a [u16],
+    flat: &'a [u16],
+    count: usize,
+    height: usize,
+    width: usize,
+    is_potential: bool,
+    group: usize,
+    buffer: &mut [u16],
+) -> BoundaryAnswer
+    requires { ⌜ Handed (grid height width) (now states) «is_potential» (now ids) (now starts) (now flat) count ⌝ }
+    ensures { λ r. ⌜ r ≡ answerOf (groupOutcome (grid height width) (now (states .entry)) «is_potential» group (length (now (buffer .entry)))) ⌝ }
+    ensures { λ _.
+        ⌜ now (buffer .exit) ≡ written (groupOutcome (grid height width) (now (states .entry)) «is_potential» group (length (now (buffer .entry)))) (now (buffer .entry)) ⌝ }
+{
+    if count <= group {
+        return BoundaryAnswer::Refused(3);
+    }
+    let n = height * width;
+    if buffer.len() < 9 * n {
+        return BoundaryAnswer::Refused(6);
+    }
+    let from = wide(starts[group]);
+    let to = end_of(starts, count, n, group);
+    BoundaryAnswer::Listed(append_boundary(
+        states,
+        &ids[..n],
+        &flat[from..to],
+        height,
+        width,
+        is_potential,
+        group,
+        buffer,
+        0,
+    ))
+}
+
+// Questions 1 and 2, then the board is grouped.
+fn reason(b: Board, is_potential: bool, group: usize, buffer: &mut [u16]) -> BoundaryAnswer
+    ensures { λ r. ⌜ r ≡ answerOf (boundaryOutcome b «is_potential» group (length (now (buffer .entry)))) ⌝ }
+    ensures { λ _. ⌜ now (buffer .exit) ≡ written (boundaryOutcome b «is_potential» group (length (now (buffer .entry)))) (now (buffer .entry)) ⌝ }
+{
+    let code = board::check(b);
+    if code != 0 {
+        return BoundaryAnswer::Refused(code);
+    }
+    let states = b.states;
+    let mut ids = [0u16; 1024];
+    let mut starts = [0u16; 1024];
+    let mut flat = [0u16; 1024];
+    let count = groups::groups_of(
+        &states,
+        b.height,
+        b.width,
+        is_potential,
+        &mut ids,
+        &mut starts,
+        &mut flat,
+    );
+    list_group(
+        &states,
+        &ids,
+        &starts,
+        &flat,
+        count,
+        b.height,
+        b.width,
+        is_potential,
+        group,
+        buffer,
+    )
+}
+
+// The list of a unit: its Connected borders, and the Walls of its cells.
+pub fn reason_for_unit_and_its_boundary(b: Board, unit: usize, buffer: &mut [u16]) -> BoundaryAnswer
+    ensures { λ r. ⌜ r ≡ answerOf (boundaryOutcome b false unit (length (now (buffer .entry)))) ⌝ }
+    ensures { λ _. ⌜ now (buffer .exit) ≡ written (boundaryOutcome b false unit (length (now (buffer .entry)))) (now (buffer .entry)) ⌝ }
+{
+    reason(b, false, unit, buffer)
+}
+
+// The list of a potential unit: the Walls that part it from others.
+pub fn reason_for_potential_unit_boundary(b: Board, unit: usize, buffer: &mut [u16]) -> BoundaryAnswer
+    ensures { λ r. ⌜ r ≡ answerOf (boundaryOutcome b true unit (length (now (buffer .entry)))) ⌝ }
+    ensures { λ _. ⌜ now (buffer .exit) ≡ written (boundaryOutcome b true unit (length (now (buffer .entry)))) (now (buffer .entry)) ⌝ }
+{
+    reason(b, true, unit, buffer)
 }
