@@ -2,8 +2,8 @@
 -- Assumes nothing.
 use mathlib.Core.Path.{_≡_, refl}
 use mathlib.Core.Bool.{true, false}
-use mathlib.Core.List.{List, [], _∷_}
-use Rattle.grid.specs.Grid.{Grid, grid}
+use mathlib.Core.List.{[], _∷_}
+use Rattle.grid.specs.Grid.{grid}
 use Rattle.groups.specs.Groups.{groupIds, groupCount}
 use Rattle.groups.specs.Turn.{inTurn, startsOf}
 
