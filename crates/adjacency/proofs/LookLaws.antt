@@ -2,7 +2,7 @@
 -- Assumes nothing.
 use Prim.Native.Nat.{ℕ, _+_, _*_, _≤_, _<_}
 use mathlib.Core.Path.{_≡_, refl, ap, sym, _∙_}
-use mathlib.Core.Logic.{_⊎_, inl, inr, _≢_, ⊎-elim}
+use mathlib.Core.Logic.{_⊎_, _≢_, ⊎-elim}
 use mathlib.Core.Bool.{Bool, true, false, not}
 use mathlib.Core.List.{List, [], _∷_, _++_}
 use native.Mathlib.Omega.{arith}
@@ -12,7 +12,7 @@ use denote.Enum.Declared.{tagOf}
 use lib.Dec.{eqb}
 use lib.ListN.{getD, length, set, length-set, take}
 use lib.Seq.{getD-set-same, getD-set-other, take-suc, take-all}
-use Rattle.lists.specs.Choice.{both, either}
+use Rattle.lists.specs.Choice.{either}
 use Rattle.lists.specs.Lists.{any}
 use Rattle.lists.proofs.Cases.{eq-or-ne, not-both}
 use Rattle.lists.proofs.ChoiceLaws.{either-true, left-either, right-either, same-truth}
@@ -20,7 +20,7 @@ use Rattle.grid.specs.declared.Direction.{Direction}
 use Rattle.grid.specs.declared.Direction.the-variants.{Up, Down, Left, Right}
 use Rattle.grid.specs.declared.Beyond.{Beyond}
 use Rattle.grid.specs.declared.Beyond.the-variants.{At}
-use Rattle.grid.specs.Grid.{Grid, On, Cell, goesOn, next, border, stepOf}
+use Rattle.grid.specs.Grid.{Grid, Cell, stepOf}
 use Rattle.grid.proofs.Beyond.{the-type}
 use Rattle.grid.proofs.Geometry.{Step, goes-step, border-lt}
 use Rattle.borders.specs.Border.{stateAt, stands}

@@ -3,7 +3,7 @@
 use Prim.Native.Nat.{ℕ, _+_, _≤_, _<_}
 use mathlib.Core.Path.{_≡_, refl, ap, sym, _∙_}
 use mathlib.Core.Logic.{_≢_, ⊎-elim}
-use mathlib.Core.Bool.{Bool, true, false, not}
+use mathlib.Core.Bool.{Bool, true, false}
 use mathlib.Core.List.{List}
 use native.Mathlib.Omega.{arith}
 use borrow.Author.Tests.{eqb-true, eq-eqb, ne-eqb, not-false}
@@ -15,7 +15,7 @@ use Rattle.lists.proofs.Cases.{eq-or-ne, le-or-lt, true-or-false, not-both}
 use Rattle.grid.specs.Grid.{Grid}
 use Rattle.groups.specs.Groups.{cellsOf}
 use Rattle.shape.specs.Shape.{adjacent}
-use Rattle.adjacency.specs.Adjacency.{behind, parted, Written, Adjacency, Marking, Unmarked, MarksOf}
+use Rattle.adjacency.specs.Adjacency.{behind, parted, Written, Adjacency, Unmarked, MarksOf}
 
 module _ (list : List ℕ) (from mark : ℕ) (marks : List ℕ) where
   pub written-none : Written list from from mark marks marks

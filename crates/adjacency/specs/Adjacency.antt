@@ -1,7 +1,7 @@
 -- What the functions that list and mark adjacent potential units ask and promise. The list has, for each potential unit, those behind
 -- its Walls, each once, from its start up to the next one's.
 -- Assumes nothing.
-use Prim.Native.Nat.{ℕ, _+_, _≤_, _<_}
+use Prim.Native.Nat.{ℕ, _+_, _*_, _≤_, _<_}
 use mathlib.Core.Path.{_≡_}
 use mathlib.Core.Logic.{_≢_}
 use mathlib.Core.Bool.{Bool, true, not}
@@ -10,11 +10,11 @@ use lib.Dec.{eqb}
 use lib.ListN.{getD, length}
 use Rattle.lists.specs.Choice.{either}
 use Rattle.lists.specs.Lists.{any}
-use Rattle.grid.specs.declared.Direction.{Direction}
 use Rattle.grid.specs.declared.Direction.the-variants.{Up, Down, Left, Right}
 use Rattle.grid.specs.Grid.{Grid, Limits, cells, Cell, borderCount}
 use Rattle.groups.specs.Groups.{cellsOf}
 use Rattle.shape.specs.Shape.{wallTo, adjacent}
+use Rattle.adjacency.specs.Turns.{InTurn}
 
 -- q is behind a Wall of cell c
 unfoldable pub behind : Grid → List ℕ → List ℕ → ℕ → ℕ → Bool
@@ -56,6 +56,31 @@ pub record Written (list : List ℕ) (from to mark : ℕ) (marks marks' : List �
   pub other : (q : ℕ) → ((i : ℕ) → from ≤ i → i < to → getD list i 0 ≢ q) → getD marks' q 0 ≡ getD marks q 0
   pub long : length marks' ≡ length marks
 
+-- nothing is marked
+abbrev pub Unmarked : List ℕ → Type 0
+Unmarked marks = (q : ℕ) → getD marks q 0 ≡ 0
+
+-- the list's places from len up to len' have exactly those that pass the test, at most k, and nothing is marked
+pub record Listed (test : ℕ → Bool) (k : ℕ) (marks list : List ℕ) (len : ℕ) (marks' list' : List ℕ) (len' : ℕ) : Type 0 where
+  pub more : len ≤ len'
+  pub most : len' ≤ len + k
+  pub has : (q : ℕ) → test q ≡ true → (i : ℕ) × (len ≤ i) × (i < len') × (getD list' i 0 ≡ q)
+  pub only : (i : ℕ) → len ≤ i → i < len' → test (getD list' i 0) ≡ true
+  pub before : (i : ℕ) → i < len → getD list' i 0 ≡ getD list i 0
+  pub clear : Unmarked marks'
+  pub marks-long : length marks' ≡ length marks
+  pub list-long : length list' ≡ length list
+
+-- the slices belong to a board, the potential units' cells stand in turn, and there is room for a start more than there are lists, and for
+-- 4 units a cell
+pub record Listing (g : Grid) (states pids : List ℕ) (count : ℕ) (first flat marks starts list : List ℕ) : Type 0 where
+  pub limits : Limits g
+  pub states-long : borderCount g ≤ length states
+  pub turns : InTurn g pids count first flat
+  pub marks-long : count ≤ length marks
+  pub starts-long : count < length starts
+  pub list-long : 4 * cells g ≤ length list
+
 -- the lists of the first `count` potential units
 pub record Adjacency (g : Grid) (states pids : List ℕ) (count : ℕ) (starts list : List ℕ) : Type 0 where
   pub long : count < length starts
@@ -73,10 +98,6 @@ pub record Marking (p : ℕ) (starts list marks : List ℕ) : Type 0 where
   pub list-long : getD starts (p + 1) 0 ≤ length list
   pub small : (i : ℕ) → getD starts p 0 ≤ i → i < getD starts (p + 1) 0 → getD list i 0 < length marks
   pub own : p < length marks
-
--- nothing is marked
-abbrev pub Unmarked : List ℕ → Type 0
-Unmarked marks = (q : ℕ) → getD marks q 0 ≡ 0
 
 -- exactly the potential units adjacent to p are marked
 abbrev pub MarksOf : Grid → List ℕ → List ℕ → ℕ → List ℕ → Type 0

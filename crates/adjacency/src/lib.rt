@@ -6,7 +6,7 @@ ghost use Prim.Native.Nat.{ℕ, _*_, _<_, _≤_};
 ghost use lib.ListN.{getD, length};
 ghost use Rattle.grid.specs.Grid.{Grid, grid, Cell};
 ghost use Rattle.shape.specs.Shape.{wallTo};
-ghost use Rattle.adjacency.specs.Adjacency.{behind, parted, Looks, Looked, Written, Adjacency, Marking, Unmarked, MarksOf};
+ghost use Rattle.adjacency.specs.Adjacency.{behind, parted, Looks, Looked, Written, Listed, Listing, Adjacency, Marking, Unmarked, MarksOf};
 use grid::Beyond;
 use grid::Direction;
 
@@ -147,6 +147,70 @@ fn write_marks(list: &[u16], from: usize, to: usize, mark: u8, marks: &mut [u8])
     while i < to {
         marks[wide(list[i])] = mark;
         i += 1;
+    }
+}
+
+// Lists the potential units behind the Walls of one, whose cells are lent, from place len on; returns the place behind them.
+// The marks serve to list each once, and are taken away again.
+fn list_one<'a>(
+    states: &'a [u8],
+    height: usize,
+    width: usize,
+    pids: &'a [u16],
+    cells: &'a [u16],
+    marks: &mut [u8],
+    list: &mut [u16],
+    len: usize,
+) -> usize
+    requires { ⌜ Looks (grid height width) (now states) (now pids) (4 * length (now cells)) (now marks) (now list) len ⌝ }
+    requires { ⌜ ((i : ℕ) → i < length (now cells) → Cell (grid height width) (getD (now cells) i 0)) ⌝ }
+    requires { ⌜ Unmarked (now marks) ⌝ }
+    ensures { λ r.
+        ⌜ Listed (parted (grid height width) (now (states .entry)) (now (pids .entry)) (now (cells .entry))) (4 * length (now (cells .entry))) (now (marks .entry)) (now (list .entry)) len (now (marks .exit)) (now (list .exit)) r ⌝ }
+{
+    let end = look_all(states, height, width, pids, cells, marks, list, len);
+    write_marks(list, len, end, 0, marks);
+    end
+}
+
+// Lists, for each of `count` potential units, those behind its Walls: `first` has where its cells begin in `flat`, and `starts` gets
+// where its list begins.
+pub fn list_adjacent<'a>(
+    states: &'a [u8],
+    height: usize,
+    width: usize,
+    pids: &'a [u16],
+    first: &'a [u16],
+    flat: &'a [u16],
+    count: usize,
+    marks: &mut [u8],
+    starts: &mut [usize],
+    list: &mut [u16],
+)
+    requires { ⌜ Listing (grid height width) (now states) (now pids) count (now first) (now flat) (now marks) (now starts) (now list) ⌝ }
+    requires { ⌜ Unmarked (now marks) ⌝ }
+    ensures { λ _. ⌜ Adjacency (grid height width) (now (states .entry)) (now (pids .entry)) count (now (starts .exit)) (now (list .exit)) ⌝ }
+    ensures { λ _. ⌜ Unmarked (now (marks .exit)) ⌝ }
+{
+    let n = height * width;
+    let mut len = 0;
+    let mut p = 0;
+    starts[0] = 0;
+    while p < count {
+        let from = wide(first[p]);
+        let to = groups::end_of(first, count, n, p);
+        len = list_one(
+            states,
+            height,
+            width,
+            pids,
+            &flat[from..to],
+            marks,
+            list,
+            len,
+        );
+        p += 1;
+        starts[p] = len;
     }
 }
 

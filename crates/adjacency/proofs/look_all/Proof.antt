@@ -1,5 +1,5 @@
 -- `adjacency::look_all` meets its contract: the loop's invariant is that the cells before place i are done. Assumes nothing.
-use Prim.Native.Nat.{_-_, _≤_, _*_}
+use Prim.Native.Nat.{_-_, _≤_}
 use native.Mathlib.Omega.{arith}
 use borrow.Author.Needs.{needs}
 use denote.Ref.{now}
