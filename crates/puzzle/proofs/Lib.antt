@@ -1,0 +1,2 @@
+pub mod Basics
+pub mod Making

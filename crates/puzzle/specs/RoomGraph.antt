@@ -1,0 +1,59 @@
+-- A room's graph (01, "Room graph"), over each cell's room: `ids` has it at the cell's number.
+-- Assumes nothing.
+use Prim.Native.Nat.{ℕ, suc, _+_, _*_, _/_, _%_}
+use mathlib.Core.Bool.{Bool, not}
+use mathlib.Core.List.{List, [], _∷_, map}
+use lib.Dec.{eqb}
+use lib.ListN.{getD, length}
+use Rattle.lists.specs.Choice.{both, when, pick}
+use Rattle.lists.specs.Lists.{gather}
+use Rattle.grid.specs.declared.Direction.{Direction}
+use Rattle.grid.specs.declared.Direction.the-variants.{Down, Right}
+use Rattle.grid.specs.Grid.{Grid, goesOn, next, border}
+use Rattle.borders.specs.Border.{stateOf}
+use Rattle.boundary.specs.Boundary.{ahead}
+use Rattle.groups.specs.Groups.{cellsOf}
+use Rattle.puzzle.specs.Stub.{Graph, graph}
+use Rattle.puzzle.specs.Rooms.{isGiven}
+
+-- a border, told from its upper or left cell
+pub record Spot : Type 0 where
+  pub cell : ℕ
+  pub direction : Direction
+
+-- "where the other cell is in the room and the border isn't a given wall"
+unfoldable pub inRoom : Grid → List ℕ → List ℕ → ℕ → ℕ → Direction → Bool
+unfolding goesOn next border isGiven
+inRoom g given ids r c d = both (goesOn g d c) (both (ahead g ids r c d) (not (isGiven given (border g d c))))
+
+-- "takes its cells in row order [..]; for each, the edge down and then the edge right"
+unfoldable pub spots : Grid → List ℕ → List ℕ → ℕ → List Spot
+unfolding gather when inRoom cellsOf
+spots g given ids r =
+    gather (λ c. gather (λ d. when (inRoom g given ids r c d) (record { cell = c; direction = d })) (Down ∷ Right ∷ [])) (cellsOf g ids r)
+
+-- the board's border of each edge
+unfoldable pub roomBorders : Grid → List ℕ → List ℕ → ℕ → List ℕ
+unfolding spots border
+roomBorders g given ids r = map (λ (s : Spot). border g (s .direction) (s .cell)) (spots g given ids r)
+
+-- the place of a cell among those of its room: its vertex
+unfoldable pub place : List ℕ → ℕ → ℕ
+place [] c = 0
+place (x ∷ xs) c = pick (eqb x c) 0 (suc (place xs c))
+
+-- the graph of room r, whose count is its clue
+unfoldable pub roomGraph : Grid → List ℕ → List ℕ → List ℕ → ℕ → Graph
+unfolding spots cellsOf place next
+roomGraph g given clues ids r =
+    let cs = cellsOf g ids r in
+    let ss = spots g given ids r in
+    graph (length cs) (length ss) (map (λ (s : Spot). place cs (s .cell)) ss) (map (λ (s : Spot). place cs (next g (s .direction) (s .cell))) ss) (getD clues r 0)
+
+-- the state of each edge, on a board whose borders have these states
+abbrev pub edgeState : List ℕ → List ℕ → ℕ → ℕ
+edgeState borders states i = stateOf states (getD borders i 0)
+
+-- an entry of the graph "in board border numbers"
+abbrev pub onBoard : List ℕ → ℕ → ℕ
+onBoard borders l = 2 * getD borders (l / 2) 0 + l % 2
