@@ -52,7 +52,7 @@ pub states-length : (n : ℕ) (s : ℕ → ℕ) → length (statesOf n s) ≡ n
 unfolding statesOf
 states-length n s = simp length-map (range-length n)
 
-map-at : (s : ℕ → ℕ) (l : List ℕ) (e : ℕ) → e < length l → getD (map s l) e 0 ≡ s (getD l e 0)
+pub map-at : (s : ℕ → ℕ) (l : List ℕ) (e : ℕ) → e < length l → getD (map s l) e 0 ≡ s (getD l e 0)
 map-at s [] e h = omega arith
 map-at s (x ∷ l) zero h = refl
 map-at s (x ∷ l) (suc e) h = map-at s l e (omega arith)

@@ -6,6 +6,7 @@ use mathlib.Core.Option.{Option, none, some}
 use Rattle.lists.specs.Choice.{pick, orElse, through}
 use Rattle.lists.specs.Lists.{range, first}
 use Rattle.grid.specs.Grid.{Grid}
+use Rattle.borders.specs.Border.{stateOf}
 use Rattle.shape.specs.Shape.{shapeFault}
 use Rattle.puzzle.specs.declared.Check.{Check}
 use Rattle.puzzle.specs.declared.Check.the-variants.{Shape, Room}
@@ -26,7 +27,7 @@ unfoldable pub roomCheck : Grid → List ℕ → List ℕ → List ℕ → List 
 unfolding through roomFault roomGraph roomBorders
 roomCheck g given clues states ids r =
     let borders = roomBorders g given ids r in
-    let list = through (roomFault (roomGraph g given clues ids r) (edgeState borders states)) (λ l. some (found (Room r) (map (onBoard borders) l))) in
+    let list = through (roomFault (roomGraph g given clues ids r) (edgeState borders (stateOf states))) (λ l. some (found (Room r) (map (onBoard borders) l))) in
     pick (clued clues r) list none
 
 -- "An ask runs the shape check, then clued rooms in order, in board border numbers, up to the first fault."

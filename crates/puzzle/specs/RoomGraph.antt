@@ -10,7 +10,6 @@ use Rattle.lists.specs.Lists.{gather}
 use Rattle.grid.specs.declared.Direction.{Direction}
 use Rattle.grid.specs.declared.Direction.the-variants.{Down, Right}
 use Rattle.grid.specs.Grid.{Grid, goesOn, next, border}
-use Rattle.borders.specs.Border.{stateOf}
 use Rattle.boundary.specs.Boundary.{ahead}
 use Rattle.groups.specs.Groups.{cellsOf}
 use Rattle.puzzle.specs.Stub.{Graph, graph}
@@ -50,9 +49,9 @@ roomGraph g given clues ids r =
     let ss = spots g given ids r in
     graph (length cs) (length ss) (map (λ (s : Spot). place cs (s .cell)) ss) (map (λ (s : Spot). place cs (next g (s .direction) (s .cell))) ss) (getD clues r 0)
 
--- the state of each edge, on a board whose borders have these states
-abbrev pub edgeState : List ℕ → List ℕ → ℕ → ℕ
-edgeState borders states i = stateOf states (getD borders i 0)
+-- the state of each edge, where border e has the state s e
+abbrev pub edgeState : List ℕ → (ℕ → ℕ) → ℕ → ℕ
+edgeState borders s i = s (getD borders i 0)
 
 -- an entry of the graph "in board border numbers"
 abbrev pub onBoard : List ℕ → ℕ → ℕ
