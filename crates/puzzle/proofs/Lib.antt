@@ -6,3 +6,7 @@ pub mod Places
 pub mod Stub
 pub mod RoomLaws
 pub mod RoomUnits
+pub mod FaultLaws
+pub mod Asks
+pub mod Orders
+pub mod Demand3

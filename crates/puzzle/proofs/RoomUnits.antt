@@ -93,9 +93,9 @@ module _ (F E : List Edge) (cs : List ℕ) (rising : Rising cs)
   parts-count = begun-count (length cs) (omega arith) ∙ countTo-keep (isRoot E) cs
 
 -- THE ROOM'S GRAPH
-module _ (g : Grid) (given clues : List ℕ) (r : ℕ) where
+module _ (g : Grid) (given : List ℕ) (r : ℕ) where
   abbrev graph : Graph
-  graph = roomGraph g given clues (roomIds g given) r
+  graph = roomGraph g given (roomIds g given) r
 
   abbrev borders : List ℕ
   borders = roomBorders g given (roomIds g given) r
@@ -107,11 +107,11 @@ module _ (g : Grid) (given clues : List ℕ) (r : ℕ) where
   pub record EdgeAt (i : ℕ) : Type 0 where
     pub spot : Spot
     pub inside : Inside g given r spot
-    pub from-is : getD (roomGraph g given clues (roomIds g given) r .us) i 0 ≡ place (roomCells g given r) (spot .cell)
-    pub into-is : getD (roomGraph g given clues (roomIds g given) r .vs) i 0 ≡ place (roomCells g given r) (next g (spot .direction) (spot .cell))
+    pub from-is : getD (roomGraph g given (roomIds g given) r .us) i 0 ≡ place (roomCells g given r) (spot .cell)
+    pub into-is : getD (roomGraph g given (roomIds g given) r .vs) i 0 ≡ place (roomCells g given r) (next g (spot .direction) (spot .cell))
     pub border-is : getD (roomBorders g given (roomIds g given) r) i 0 ≡ border g (spot .direction) (spot .cell)
 
-  pub edge-at : (i : ℕ) → i < roomGraph g given clues (roomIds g given) r .edges → EdgeAt i
+  pub edge-at : (i : ℕ) → i < roomGraph g given (roomIds g given) r .edges → EdgeAt i
   unfolding roomGraph roomBorders
   edge-at i l =
       let o = at-place (spots g given (roomIds g given) r) i l in

@@ -14,7 +14,13 @@ use Rattle.parts.specs.Parts.{Edge, edge, Has, Joined, over, Within, begun}
 use Rattle.parts.proofs.PartLaws.{edge-ends, ends-edge}
 use Rattle.parts.proofs.PartLists.{within}
 use Rattle.parts.proofs.UniteLaws.{begun-more}
-use Rattle.puzzle.specs.Stub.{Graph, edgeAt, edgesIf, partsIf}
+use mathlib.Core.Option.{Option, none, some}
+use lib.ListN.{length}
+use mathlib.Core.Logic.{_⊎_, _↔_}
+use Prim.Native.Nat.{_/_}
+use Rattle.lists.specs.Lists.{In}
+use Rattle.borders.specs.Entry.{Standing}
+use Rattle.puzzle.specs.Stub.{Graph, edgeAt, edgesIf, partsIf, connectedParts, roomFault}
 
 module _ (p : ℕ → Bool) (g : Graph) (s : ℕ → ℕ) where
   -- an edge from c to d that passes, and its number
@@ -52,3 +58,21 @@ module _ (p : ℕ → Bool) (g : Graph) (s : ℕ → ℕ) where
       let k : Has (edgesIf p g s m) (getD (g .us) i 0) (getD (g .vs) i 0) = edges-in m i l t in
       ⊎-elim (λ (e : p (s m) ≡ true). rw e (inr k)) (λ (e : p (s m) ≡ false). rw e k) (true-or-false (p (s m))))
       (le-or-lt m i)
+
+pub room-listed : (g : Graph) (k : ℕ) (s : ℕ → ℕ) (L : List ℕ) → roomFault g k s ≡ some L → Standing s L
+room-listed g k s L q = ?
+
+pub room-inside : (g : Graph) (k : ℕ) (s : ℕ → ℕ) (L : List ℕ) → roomFault g k s ≡ some L → (l : ℕ) → In l L → l / 2 < g .edges
+room-inside g k s L q = ?
+
+pub room-short : (g : Graph) (k : ℕ) (s : ℕ → ℕ) (L : List ℕ) → roomFault g k s ≡ some L → length L ≤ g .edges
+room-short g k s L q = ?
+
+pub room-again : (g : Graph) (k : ℕ) (s : ℕ → ℕ) (L : List ℕ) → roomFault g k s ≡ some L → (t : ℕ → ℕ) → Standing t L → (M : List ℕ) × (roomFault g k t ≡ some M)
+room-again g k s L q t st = ?
+
+pub room-decides : (g : Graph) (k : ℕ) (s : ℕ → ℕ) → k ≤ g .vertices → ((i : ℕ) → i < g .edges → (s i ≡ 1) ⊎ (s i ≡ 2)) → (roomFault g k s ≡ none) ↔ (connectedParts g s ≡ k)
+room-decides g k s h f = ?
+
+pub room-agrees : (g : Graph) (k : ℕ) (s t : ℕ → ℕ) → ((i : ℕ) → i < g .edges → s i ≡ t i) → roomFault g k s ≡ roomFault g k t
+room-agrees g k s t h = ?

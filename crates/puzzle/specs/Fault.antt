@@ -11,7 +11,7 @@ use Rattle.shape.specs.Shape.{shapeFault}
 use Rattle.puzzle.specs.declared.Check.{Check}
 use Rattle.puzzle.specs.declared.Check.the-variants.{Shape, Room}
 use Rattle.puzzle.specs.Stub.{roomFault}
-use Rattle.puzzle.specs.Rooms.{roomIds, roomCount, clued}
+use Rattle.puzzle.specs.Rooms.{roomIds, roomCount, clued, clueOf}
 use Rattle.puzzle.specs.RoomGraph.{roomBorders, roomGraph, edgeState, onBoard}
 
 -- "which check found it, shape or a room with its number", and the list
@@ -27,7 +27,7 @@ unfoldable pub roomCheck : Grid → List ℕ → List ℕ → List ℕ → List 
 unfolding through roomFault roomGraph roomBorders
 roomCheck g given clues states ids r =
     let borders = roomBorders g given ids r in
-    let list = through (roomFault (roomGraph g given clues ids r) (edgeState borders (stateOf states))) (λ l. some (found (Room r) (map (onBoard borders) l))) in
+    let list = through (roomFault (roomGraph g given ids r) (clueOf clues r) (edgeState borders (stateOf states))) (λ l. some (found (Room r) (map (onBoard borders) l))) in
     pick (clued clues r) list none
 
 -- "An ask runs the shape check, then clued rooms in order, in board border numbers, up to the first fault."

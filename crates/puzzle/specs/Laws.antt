@@ -29,7 +29,7 @@ pub record HoldsUnits (g : Grid) (s : States) (Room : ℕ → Type 0) (k : ℕ) 
   pub apart : (i j : ℕ) → i < j → j < k → SameUnit (Neighbours g) s (getD heads i 0) (getD heads j 0) → ⊥
   pub whole : (c : ℕ) → Room c → (f : ℕ) × In f heads × SameUnit (Neighbours g) s f c
 
-pub record Right (g : Grid) (given clues : List ℕ) (s : States) : Type 0 where
+pub record RightBoard (g : Grid) (given clues : List ℕ) (s : States) : Type 0 where
   -- "every given wall is Wall"
   pub given-walls : GivenWalls given s
   -- "no Wall has one unit on both sides; each unit has a different unit that is its translate and shares a Wall with it"

@@ -5,3 +5,4 @@ pub mod Fault
 pub mod Laws
 pub mod Puzzle
 pub mod Run
+pub mod Demand3

@@ -41,13 +41,13 @@ unfoldable pub place : List ℕ → ℕ → ℕ
 place [] c = 0
 place (x ∷ xs) c = pick (eqb x c) 0 (suc (place xs c))
 
--- the graph of room r, whose count is its clue
-unfoldable pub roomGraph : Grid → List ℕ → List ℕ → List ℕ → ℕ → Graph
+-- the graph of room r
+unfoldable pub roomGraph : Grid → List ℕ → List ℕ → ℕ → Graph
 unfolding spots cellsOf place next
-roomGraph g given clues ids r =
+roomGraph g given ids r =
     let cs = cellsOf g ids r in
     let ss = spots g given ids r in
-    graph (length cs) (length ss) (map (λ (s : Spot). place cs (s .cell)) ss) (map (λ (s : Spot). place cs (next g (s .direction) (s .cell))) ss) (getD clues r 0)
+    graph (length cs) (length ss) (map (λ (s : Spot). place cs (s .cell)) ss) (map (λ (s : Spot). place cs (next g (s .direction) (s .cell))) ss)
 
 -- the state of each edge, where border e has the state s e
 abbrev pub edgeState : List ℕ → (ℕ → ℕ) → ℕ → ℕ

@@ -16,10 +16,9 @@ pub record Graph : Type 0 where
   pub edges : ℕ
   pub us : List ℕ
   pub vs : List ℕ
-  pub count : ℕ
 
-abbrev pub graph : ℕ → ℕ → List ℕ → List ℕ → ℕ → Graph
-graph n m us vs count = record { vertices = n; edges = m; us = us; vs = vs; count = count }
+abbrev pub graph : ℕ → ℕ → List ℕ → List ℕ → Graph
+graph n m us vs = record { vertices = n; edges = m; us = us; vs = vs }
 
 abbrev pub edgeAt : Graph → ℕ → Edge
 edgeAt g i = edge (getD (g .us) i 0) (getD (g .vs) i 0)
@@ -44,9 +43,9 @@ partsIf p g s = begun (edgesIf p g s (g .edges)) (g .vertices)
 abbrev pub connectedParts : Graph → (ℕ → ℕ) → ℕ
 connectedParts g s = partsIf isConnected g s
 
-unfoldable pub tippedOf : Graph → (ℕ → ℕ) → Bool
+unfoldable pub tippedOf : Graph → ℕ → (ℕ → ℕ) → Bool
 unfolding partsIf
-tippedOf g s = both (ltb (connectedParts g s) (g .count)) (ltb (connectedParts g s) (g .vertices))
+tippedOf g count s = both (ltb (connectedParts g s) count) (ltb (connectedParts g s) (g .vertices))
 
 abbrev pub joinedParts : Graph → (ℕ → ℕ) → ℕ
 joinedParts g s = partsIf notWall g s
@@ -55,9 +54,9 @@ unfoldable pub entriesOf : (ℕ → ℕ) → ℕ → Graph → (ℕ → ℕ) →
 unfolding gather when range
 entriesOf entry k g s = gather (λ i. when (eqb (s i) k) (entry i)) (range (g .edges))
 
-unfoldable pub roomFault : Graph → (ℕ → ℕ) → Option (List ℕ)
+unfoldable pub roomFault : Graph → ℕ → (ℕ → ℕ) → Option (List ℕ)
 unfolding orElse give tippedOf entriesOf partsIf
-roomFault g s =
+roomFault g count s =
     orElse
-    (give (tippedOf g s) (entriesOf connectedEntry 1 g s))
-    (give (ltb (g .count) (joinedParts g s)) (entriesOf wallEntry 2 g s))
+    (give (tippedOf g count s) (entriesOf connectedEntry 1 g s))
+    (give (ltb count (joinedParts g s)) (entriesOf wallEntry 2 g s))
