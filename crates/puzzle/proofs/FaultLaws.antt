@@ -35,7 +35,7 @@ use Rattle.puzzle.specs.Rooms.{roomIds, roomCount, roomCells, clued, clu
 use Rattle.puzzle.specs.RoomGraph.{Spot, inRoom, spots, roomBorders, roomGraph, edgeState, onBoard}
 use Rattle.puzzle.specs.Fault.{Found, found, roomCheck, faultOf}
 use Rattle.puzzle.specs.Laws.{InRoom, GivenWalls, HoldsUnits, RightBoard}
-use Rattle.puzzle.proofs.Stub.{room-listed, room-short, room-again, room-decides, room-agrees}
+use Rattle.puzzle.proofs.RoomCheck.{room-listed, room-short, room-again, room-decides, room-agrees}
 use Rattle.puzzle.proofs.Places.{in-map, map-in}
 use Rattle.puzzle.proofs.RoomUnits.{edge-at, room-units}
 

@@ -4,6 +4,7 @@ pub mod Answers
 pub mod Reached
 pub mod Places
 pub mod Stub
+pub mod RoomCheck
 pub mod RoomLaws
 pub mod RoomUnits
 pub mod FaultLaws

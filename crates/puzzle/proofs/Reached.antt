@@ -134,17 +134,17 @@ module _ (h w : ℕ) (given clues : List ℕ) (a : Accepted h w given clues) whe
       record {
         constants = refl;
         stood = record {
-            height-is = refl;
-            width-is = refl;
-            states-long = states-length 1984 (freshState given);
-            ledger-long = zeros-length;
-            len-is = refl;
-            sound = sound-empty (borderCount (grid h w)) (isGiven given);
-            follows = record {
-                stands = λ e k. states-at 1984 (freshState given) e (omega (arith, borderCount-le (grid h w) (a .limits)));
-                names = refl;
-              };
+          height-is = refl;
+          width-is = refl;
+          states-long = states-length 1984 (freshState given);
+          ledger-long = zeros-length;
+          len-is = refl;
+          sound = sound-empty (borderCount (grid h w)) (isGiven given);
+          follows = record {
+            stands = λ e k. states-at 1984 (freshState given) e (omega (arith, borderCount-le (grid h w) (a .limits)));
+            names = refl;
           };
+        };
       }
 
   module _ (L : List Decision) (b : Board) (r : Stood h w given L b) where

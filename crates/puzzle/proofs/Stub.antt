@@ -59,20 +59,11 @@ module _ (p : ℕ → Bool) (g : Graph) (s : ℕ → ℕ) where
       ⊎-elim (λ (e : p (s m) ≡ true). rw e (inr k)) (λ (e : p (s m) ≡ false). rw e k) (true-or-false (p (s m))))
       (le-or-lt m i)
 
-pub room-listed : (g : Graph) (k : ℕ) (s : ℕ → ℕ) (L : List ℕ) → roomFault g k s ≡ some L → Standing s L
-room-listed g k s L q = ?
-
-pub room-inside : (g : Graph) (k : ℕ) (s : ℕ → ℕ) (L : List ℕ) → roomFault g k s ≡ some L → (l : ℕ) → In l L → l / 2 < g .edges
-room-inside g k s L q = ?
-
-pub room-short : (g : Graph) (k : ℕ) (s : ℕ → ℕ) (L : List ℕ) → roomFault g k s ≡ some L → length L ≤ g .edges
-room-short g k s L q = ?
-
-pub room-again : (g : Graph) (k : ℕ) (s : ℕ → ℕ) (L : List ℕ) → roomFault g k s ≡ some L → (t : ℕ → ℕ) → Standing t L → (M : List ℕ) × (roomFault g k t ≡ some M)
-room-again g k s L q t st = ?
-
-pub room-decides : (g : Graph) (k : ℕ) (s : ℕ → ℕ) → k ≤ g .vertices → ((i : ℕ) → i < g .edges → (s i ≡ 1) ⊎ (s i ≡ 2)) → (roomFault g k s ≡ none) ↔ (connectedParts g s ≡ k)
-room-decides g k s h f = ?
-
-pub room-agrees : (g : Graph) (k : ℕ) (s t : ℕ → ℕ) → ((i : ℕ) → i < g .edges → s i ≡ t i) → roomFault g k s ≡ roomFault g k t
-room-agrees g k s t h = ?
+pub parts-fewer : (p q : ℕ → Bool) (g : Graph) (s t : ℕ → ℕ) → ((i : ℕ) → i < g .edges → p (s i) ≡ true → q (t i) ≡ true) → partsIf q g t ≤ partsIf p g s
+unfolding partsIf
+parts-fewer p q g s t h =
+    begun-more (edgesIf p g s (g .edges)) (edgesIf q g t (g .edges))
+    (λ c d k.
+    let o = in-edges p g s (g .edges) c d k in
+    over (rw (o .from, o .into) at (edges-in q g t (g .edges) (o .number) (o .below) (h (o .number) (o .below) (o .passes)))))
+    (g .vertices)

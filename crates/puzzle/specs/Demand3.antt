@@ -75,26 +75,21 @@ pub record Demand3 (h w : ℕ) (given clues : List ℕ) : Type 0 where
   -- "Take every two lists [..]. If by 01's ledger the same borders stand after both lists, the next ask with a long enough buffer answers both alike."
   pub same : (a b : List Call) → ((e : ℕ) → e < borderCount (grid h w) → stateAfter h w given a e ≡ stateAfter h w given b e)
       → (bufA bufB : List ℕ) → Long h w bufA → Long h w bufB → Alike (askOf (after h w given clues a) bufA) (askOf (after h w given clues b) bufB)
-
   -- "That answer, list included, is exactly what 01's shape check and room counts give on the standing borders."
   pub exact : (calls : List Call) (buf : List ℕ) → Long h w buf
       → Gives (askOf (after h w given clues calls) buf) (faultOf (grid h w) given clues (statesOf (borderCount (grid h w)) (stateAfter h w given calls)))
-
   -- "Suppose it is a fault. Then each listed border stands as listed."
   pub listed : (calls : List Call) (buf : List ℕ) → Long h w buf → IsFault (askOf (after h w given clues calls) buf .answer)
       → Standing (stateAfter h w given calls) (listOf (askOf (after h w given clues calls) buf))
-
   -- "Every full board with the given walls and the listed borders as listed breaks the puzzle's laws." (That given walls are Wall is one of them.)
   pub excludes : (calls : List Call) (buf : List ℕ) → Long h w buf → IsFault (askOf (after h w given clues calls) buf .answer)
       → (s : States) → FullBoard (grid h w) s → Standing s (listOf (askOf (after h w given clues calls) buf)) → RightBoard (grid h w) given clues s → ⊥
-
   -- "And in whatever order the listed borders other than given walls are decided, each once and with its listed value, on a fresh such puzzle,
   -- the next ask there with a long enough buffer answers a fault again." Each of these decides is accepted.
   pub again : (calls : List Call) (buf : List ℕ) → Long h w buf → IsFault (askOf (after h w given clues calls) buf .answer)
       → (order : List ℕ) → OrderOf given (listOf (askOf (after h w given clues calls) buf)) order
       → ((r : Reply) → In r (replies (freshOf h w given clues) (map decideAs order)) → r ≡ coded 0)
       × ((buf' : List ℕ) → Long h w buf' → IsFault (askOf (after h w given clues (map decideAs order)) buf' .answer))
-
   -- "Where the standing borders make a full board, the answer is clear exactly when that board obeys the laws."
   pub full : (calls : List Call) → FullBoard (grid h w) (stateAfter h w given calls) → (buf : List ℕ) → Long h w buf
       → (askOf (after h w given clues calls) buf .answer ≡ Clear) ↔ RightBoard (grid h w) given clues (stateAfter h w given calls)

@@ -50,13 +50,13 @@ tippedOf g count s = both (ltb (connectedParts g s) count) (ltb (connectedParts 
 abbrev pub joinedParts : Graph → (ℕ → ℕ) → ℕ
 joinedParts g s = partsIf notWall g s
 
-unfoldable pub entriesOf : (ℕ → ℕ) → ℕ → Graph → (ℕ → ℕ) → List ℕ
+unfoldable pub entriesOf : (ℕ → ℕ) → ℕ → ℕ → (ℕ → ℕ) → List ℕ
 unfolding gather when range
-entriesOf entry k g s = gather (λ i. when (eqb (s i) k) (entry i)) (range (g .edges))
+entriesOf entry k m s = gather (λ i. when (eqb (s i) k) (entry i)) (range m)
 
 unfoldable pub roomFault : Graph → ℕ → (ℕ → ℕ) → Option (List ℕ)
 unfolding orElse give tippedOf entriesOf partsIf
 roomFault g count s =
     orElse
-    (give (tippedOf g count s) (entriesOf connectedEntry 1 g s))
-    (give (ltb count (joinedParts g s)) (entriesOf wallEntry 2 g s))
+    (give (tippedOf g count s) (entriesOf connectedEntry 1 (g .edges) s))
+    (give (ltb count (joinedParts g s)) (entriesOf wallEntry 2 (g .edges) s))
