@@ -12,7 +12,8 @@ use lib.Dec.{eqb}
 use Rattle.lists.proofs.ChoiceLaws.{both-true, true-both}
 use Rattle.grid.specs.declared.Direction.{Direction}
 use Rattle.grid.specs.Grid.{Grid, cells, Cell, goesOn, next, border}
-use Rattle.grid.proofs.Geometry.{Step, Neighbours, goes-step, step-goes, step-next, neighbours-back}
+use Rattle.grid.specs.Steps.{Step, Neighbours}
+use Rattle.grid.proofs.Geometry.{goes-step, step-goes, step-next, neighbours-back}
 use Rattle.borders.specs.Border.{stateOf}
 use Rattle.borders.proofs.Directions.{down-or-right}
 use Rattle.parts.specs.Parts.{Within, begun, part}

@@ -18,7 +18,8 @@ use Rattle.frame.specs.Frame.{Chain, here, on, Link, SameUnit, SamePotential}
 use Rattle.frame.proofs.Chains.{chain-then, chain-map, link-back}
 use Rattle.grid.specs.declared.Direction.the-variants.{Down, Right}
 use Rattle.grid.specs.Grid.{Grid, cells, Cell, goesOn, next, border}
-use Rattle.grid.proofs.Geometry.{Neighbours, goes-step, step-goes, step-next, neighbours-back, border-lt}
+use Rattle.grid.specs.Steps.{Neighbours}
+use Rattle.grid.proofs.Geometry.{goes-step, step-goes, step-next, neighbours-back, border-lt}
 use Rattle.borders.specs.Border.{stateOf, StatesOk}
 use Rattle.borders.proofs.Directions.{Ahead, down-or-right}
 use Rattle.parts.specs.Parts.{edge, Has, Joined, same, over, back, then, begun, part, Within, parts}

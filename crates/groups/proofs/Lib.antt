@@ -3,3 +3,7 @@ pub mod SetsLaws
 pub mod EdgeLaws
 pub mod FloodSteps
 pub mod TurnLaws
+pub mod Counting
+pub mod Lending
+pub mod InfoLaws
+pub mod Theorems
