@@ -1,11 +1,11 @@
 -- Laws of `climb` and `shortened`: steps up, roots, and one law for each way through `find_in`.
 -- Assumes nothing.
-use Prim.Native.Nat.{ℕ, zero, suc, _-_, _≤_, _<_}
-use mathlib.Core.Path.{_≡_, refl, sym, ap, _∙_}
+use Prim.Native.Nat.{ℕ, zero, suc, _-_, _<_}
+use mathlib.Core.Path.{_≡_, refl}
 use mathlib.Core.List.{List}
 use native.Mathlib.Omega.{arith}
 use native.Mathlib.Numerals.{sub-one}
-use lib.ListN.{getD, set, length, length-set}
+use lib.ListN.{set, length, length-set}
 use lib.Seq.{set-getD}
 use Rattle.union_find.specs.Chains.{up, climb, shortened}
 use Rattle.union_find.specs.Requires.{Stays, Parents}

@@ -6,3 +6,6 @@ pub mod KeepLaws
 pub mod HoldLaws
 pub mod UniteLaws
 pub mod ShortLaws
+pub mod JoinLaws
+pub mod CallLaws
+pub mod Theorem

@@ -2,21 +2,19 @@
 -- Assumes nothing.
 use Prim.Native.Nat.{ℕ, zero, suc, _+_, _-_, _≤_, _<_}
 use mathlib.Core.Path.{_≡_, refl, sym, ap, _∙_}
-use mathlib.Core.Logic.{_⊎_, inl, inr, ⊎-elim}
+use mathlib.Core.Logic.{⊎-elim}
 use mathlib.Core.Bool.{Bool, true, false, true≢false}
 use mathlib.Core.List.{List}
 use native.Mathlib.Omega.{arith}
 use borrow.Author.Tests.{eqb-true, eq-eqb, ltb-true, lt-ltb}
 use lib.Dec.{ltb}
-use Rattle.lists.specs.Lists.{range, all}
-use Rattle.lists.specs.Choice.{both}
-use Rattle.lists.proofs.Cases.{le-or-lt, true-or-false}
+use Rattle.lists.specs.Lists.{range}
+use Rattle.lists.proofs.Cases.{true-or-false}
 use Rattle.lists.proofs.ChoiceLaws.{both-true, true-both}
 use Rattle.lists.proofs.ListLaws.{all-true, true-all, range-in, in-range}
 use Rattle.union_find.specs.Chains.{up, climb, isRoot, parentsExist, chainsEnd}
-use Rattle.union_find.specs.Requires.{Parents}
 use Rattle.union_find.specs.UnionFind.{holdsOf}
-use Rattle.union_find.proofs.ChainLaws.{climb-more, climb-root, climb-below}
+use Rattle.union_find.proofs.ChainLaws.{climb-more}
 use Rattle.union_find.proofs.Tally.{tally, tally-le, tally-more}
 
 -- x's chain ends at r

@@ -1,10 +1,10 @@
 -- "shortens the chain: each vertex on it then names the root": those vertices, and no other, get another parent.
 -- Assumes nothing.
 use Prim.Native.Nat.{ℕ, zero, suc, _<_}
-use mathlib.Core.Path.{_≡_, refl, sym, ap, _∙_}
+use mathlib.Core.Path.{_≡_, refl, sym, _∙_}
 use mathlib.Core.Logic.{_≢_, ⊎-elim}
 use mathlib.Core.List.{List}
-use lib.ListN.{set, length}
+use lib.ListN.{length}
 use lib.Seq.{getD-set-same, getD-set-other}
 use Rattle.lists.proofs.Cases.{eq-or-ne}
 use Rattle.union_find.specs.Chains.{up, climb, shortened}

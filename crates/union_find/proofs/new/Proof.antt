@@ -1,6 +1,5 @@
 -- `union_find::new` meets its contract: too many vertices are refused, and the others are made alone.
 -- Assumes nothing.
-use mathlib.Core.Path.{ap}
 use borrow.Author.Needs.{needs}
 use borrow.Author.Tests.{lt-ltb, le-ltb}
 use Rattle.union_find.specs.UnionFind.{zeros}

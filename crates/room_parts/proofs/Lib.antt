@@ -1,0 +1,5 @@
+pub mod EdgeLaws
+pub mod CountLaws
+pub mod WalkLaws
+pub mod LinkLaws
+pub mod JoinedLaws

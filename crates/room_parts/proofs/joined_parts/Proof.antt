@@ -1,0 +1,128 @@
+-- `room_parts::joined_parts` meets its contract: `Linking` of the edges so far, and then the sweep's count.
+-- Assumes nothing.
+use Prim.Native.Nat.{_+_, _<_, _-_}
+use mathlib.Core.Logic.{⊎-elim}
+use native.Mathlib.Omega.{arith}
+use borrow.Author.Needs.{needs}
+use denote.Ref.{now}
+use Rattle.room_parts.specs.Graph.{graph, statesIn}
+use Rattle.room_parts.proofs.JoinedLaws.{zeros, Linking, linking-none, linking-skip, room, u-below, v-below, linking-more, sweep-ready, counted}
+use Rattle.room_parts.proofs.joined_parts.Statement.{statement}
+use Rattle.room_parts.proofs.joined_parts.Tie as tie
+
+abbrev Inv-loop : tie.InvT-loop
+Inv-loop n m us vs states head₀ next₀ to₀ arcs₀ i₀ head next to arcs i = Linking (graph n m us vs) (statesIn states) head next to arcs i
+
+abbrev μ-loop : tie.MeasureT-loop
+μ-loop n m us vs states head₀ next₀ to₀ arcs₀ i₀ head next to arcs i = m - i
+
+loop-holds : tie.Need-loop-holds Inv-loop μ-loop
+unfolding zeros
+loop-holds c = let s = c .before .before .before in linking-none (s .args .n) (s .args .m) (now (s .args .us)) (now (s .args .vs)) (now (s .args .states)) (s .pre)
+
+shared-slice-read-if1 : tie.Need-shared-slice-read-if1 Inv-loop μ-loop
+shared-slice-read-if1 c = omega arith
+
+mul-wide : tie.Need-mul-wide Inv-loop μ-loop
+mul-wide c = omega arith
+
+shared-slice-read-wide : tie.Need-shared-slice-read-wide Inv-loop μ-loop
+shared-slice-read-wide c = omega arith
+
+wide-requires : tie.Need-wide-requires Inv-loop μ-loop
+wide-requires c κs = search needs
+
+mul-wide-2 : tie.Need-mul-wide-2 Inv-loop μ-loop
+mul-wide-2 c = omega arith
+
+shared-slice-read-wide-2 : tie.Need-shared-slice-read-wide-2 Inv-loop μ-loop
+shared-slice-read-wide-2 c = omega arith
+
+wide-requires-2 : tie.Need-wide-requires-2 Inv-loop μ-loop
+wide-requires-2 c κs = search needs
+
+-- the edge's ends and its arcs' numbers are on the arrays
+fits : (c : tie.After-wide2 Inv-loop μ-loop)
+    → let a = c .before .before .before .before .before .before .before in
+    (a .loop .arcs + 1 < 3968) × (c .before .before .wide .result < 1024) × (c .wide2 .result < 1024)
+fits c =
+    let k = c .before .before .before .before .before .before in
+    let a = k .before in
+    let s = a .before .before .before .before in
+    let l = s .pre .few-vertices in
+    let x = u-below (s .args .n) (s .args .m) (now (s .args .us)) (now (s .args .vs)) (now (s .args .states)) (s .pre) (a .loop .head) (a .loop .next) (a .loop .to) (a .loop .arcs) (a .loop .i) (a .loop .inv) (k .loop-test .taken) (c .before .before .wide .result) (c .wide2 .result) (c .before .before .wide .ensures) (c .wide2 .ensures) in
+    let y = v-below (s .args .n) (s .args .m) (now (s .args .us)) (now (s .args .vs)) (now (s .args .states)) (s .pre) (a .loop .head) (a .loop .next) (a .loop .to) (a .loop .arcs) (a .loop .i) (a .loop .inv) (k .loop-test .taken) (c .before .before .wide .result) (c .wide2 .result) (c .before .before .wide .ensures) (c .wide2 .ensures) in
+    (room (s .args .n) (s .args .m) (now (s .args .us)) (now (s .args .vs)) (now (s .args .states)) (s .pre) (a .loop .head) (a .loop .next) (a .loop .to) (a .loop .arcs) (a .loop .i) (a .loop .inv) (k .loop-test .taken), omega arith, omega arith)
+
+link-requires : tie.Need-link-requires Inv-loop μ-loop
+link-requires c κs = let f = fits (c .before .before .before) in (omega (arith, f .0), f .1, f .2)
+
+add-link : tie.Need-add-link Inv-loop μ-loop
+add-link c = omega (arith, fits (c .before .before .before .before .before .before .before) .0)
+
+link-requires-2 : tie.Need-link-requires-2 Inv-loop μ-loop
+link-requires-2 c κs = let f = fits (c .before .before .before .before .before .before .before) in (f .0, f .2, f .1)
+
+add-arcs : tie.Need-add-arcs Inv-loop μ-loop
+add-arcs c = omega (arith, fits (c .before .before .before .before .before .before .before .before) .0)
+
+add-i : tie.Need-add-i Inv-loop μ-loop
+add-i c = omega arith
+
+loop-less : tie.Need-loop-less Inv-loop μ-loop
+loop-less c = omega arith
+
+loop-again : tie.Need-loop-again Inv-loop μ-loop
+loop-again c =
+    let k = c .before .before in
+    let a = k .before in
+    let s = a .before .before .before .before in
+    ⊎-elim
+    (λ w.
+    rw (w .13, w .14, w .15, w .16)
+    (linking-more (s .args .n) (s .args .m) (now (s .args .us)) (now (s .args .vs)) (now (s .args .states)) (s .pre) (a .loop .head) (a .loop .next) (a .loop .to) (a .loop .arcs) (a .loop .i) (a .loop .inv) (k .loop-test .taken) (w .2 .result) (w .4 .result) (w .2 .ensures) (w .4 .ensures) (w .0 .taken) _ _ _ _ _ _ (w .8 .ensures .0) (w .8 .ensures .1 .0)
+    (w .8 .ensures .1 .1)
+    (w .12 .ensures .0)
+    (w .12 .ensures .1 .0)
+    (w .12 .ensures .1 .1)))
+    (λ w. rw (w .1, w .2, w .3, w .4) (linking-skip (s .args .n) (s .args .m) (now (s .args .us)) (now (s .args .vs)) (now (s .args .states)) (s .pre) (a .loop .head) (a .loop .next) (a .loop .to) (a .loop .arcs) (a .loop .i) (a .loop .inv) (k .loop-test .taken) (w .0 .left)))
+    (c .if1 .came)
+
+sweep-requires : tie.Need-sweep-requires Inv-loop μ-loop
+unfolding zeros
+sweep-requires c κs =
+    let k = c .before .before .before .before in
+    let a = k .before in
+    let s = a .before .before .before .before in
+    sweep-ready (s .args .n) (s .args .m) (now (s .args .us)) (now (s .args .vs)) (now (s .args .states)) (s .pre) (a .loop .head) (a .loop .next) (a .loop .to) (a .loop .arcs) (a .loop .i) (a .loop .inv) (k .loop-test .left)
+
+returns : tie.Need-returns Inv-loop μ-loop
+returns c =
+    let k = c .before .before .before .before .before in
+    let a = k .before in
+    let s = a .before .before .before .before in
+    counted (s .args .n) (s .args .m) (now (s .args .us)) (now (s .args .vs)) (now (s .args .states)) (s .pre) (a .loop .head) (a .loop .next) (a .loop .to) (a .loop .arcs) (a .loop .i) (a .loop .inv) (k .loop-test .left) (c .sweep .result) (c .sweep .ensures)
+
+pub joined-parts-spec : {M : Type 1} → statement M
+joined-parts-spec =
+    tie.close
+    (tie.spec
+    Inv-loop
+    μ-loop
+    loop-holds
+    shared-slice-read-if1
+    mul-wide
+    shared-slice-read-wide
+    wide-requires
+    mul-wide-2
+    shared-slice-read-wide-2
+    wide-requires-2
+    link-requires
+    add-link
+    link-requires-2
+    add-arcs
+    add-i
+    loop-less
+    loop-again
+    sweep-requires
+    returns)

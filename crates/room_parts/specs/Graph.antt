@@ -1,0 +1,65 @@
+-- Room graphs (01, "Room graph") and the two counts of the room check (01, "Union and room count").
+-- Assumes nothing.
+use Prim.Native.Nat.{ℕ, zero, suc, _≤_, _<_}
+use mathlib.Core.Bool.{Bool, not}
+use mathlib.Core.List.{List, [], _∷_}
+use lib.Dec.{eqb, ltb}
+use lib.ListN.{getD, length}
+use Rattle.lists.specs.Choice.{both, pick}
+use Rattle.parts.specs.Parts.{Edge, edge, begun, root, merge}
+
+-- `edges` edges, each between the two vertices that `us` and `vs` name at its number
+pub record Graph : Type 0 where
+  pub vertices : ℕ
+  pub edges : ℕ
+  pub us : List ℕ
+  pub vs : List ℕ
+
+abbrev pub graph : ℕ → ℕ → List ℕ → List ℕ → Graph
+graph n m us vs = record { vertices = n; edges = m; us = us; vs = vs }
+
+abbrev pub edgeAt : Graph → ℕ → Edge
+edgeAt g i = edge (getD (g .us) i 0) (getD (g .vs) i 0)
+
+-- a list of states, as the state of each edge
+abbrev pub statesIn : List ℕ → ℕ → ℕ
+statesIn l i = getD l i 0
+
+abbrev pub isConnected : ℕ → Bool
+isConnected k = eqb k 1
+
+abbrev pub notWall : ℕ → Bool
+notWall k = not (eqb k 2)
+
+-- of the first m edges those whose state passes, the last first
+unfoldable pub edgesIf : (ℕ → Bool) → Graph → (ℕ → ℕ) → ℕ → List Edge
+edgesIf p g s zero = []
+edgesIf p g s (suc m) = pick (p (s m)) (edgeAt g m ∷ edgesIf p g s m) (edgesIf p g s m)
+
+-- how many parts the edges whose state passes make of the vertices
+unfoldable pub partsIf : (ℕ → Bool) → Graph → (ℕ → ℕ) → ℕ
+unfolding edgesIf begun root merge
+partsIf p g s = begun (edgesIf p g s (g .edges)) (g .vertices)
+
+-- "Starting from the vertex count, each uniting Connected edge takes one": what is left is the number of parts
+abbrev pub connectedParts : Graph → (ℕ → ℕ) → ℕ
+connectedParts g s = partsIf isConnected g s
+
+-- "once below the count": an edge united, and what is left is below the count
+unfoldable pub tippedOf : Graph → ℕ → (ℕ → ℕ) → Bool
+unfolding partsIf
+tippedOf g count s = both (ltb (connectedParts g s) count) (ltb (connectedParts g s) (g .vertices))
+
+-- "the parts joined without Walls"
+abbrev pub joinedParts : Graph → (ℕ → ℕ) → ℕ
+joinedParts g s = partsIf notWall g s
+
+-- what the functions ask of n vertices and m edges that they are lent
+pub record Lent (n m : ℕ) (us vs states : List ℕ) : Type 0 where
+  pub few-vertices : n ≤ 1024
+  pub few-edges : m ≤ 1984
+  pub us-long : m ≤ length us
+  pub vs-long : m ≤ length vs
+  pub states-long : m ≤ length states
+  pub us-exist : (i : ℕ) → i < m → getD us i 0 < n
+  pub vs-exist : (i : ℕ) → i < m → getD vs i 0 < n

@@ -1,0 +1,148 @@
+// The parts of a room graph (the two counts of `CityCountConstraint::find_inconsistency`): how many its Connected edges leave, counted down
+// by a union, and how many there are when only Walls part vertices, counted by a walk that calls itself.
+ghost use mathlib.Core.Path.{_≡_};
+ghost use Prim.Native.Nat.{_+_, _<_};
+ghost use lib.ListN.{getD, set};
+ghost use Rattle.lists.specs.Choice.{both, pick};
+ghost use Rattle.union_find.specs.Chains.{united, hung};
+ghost use Rattle.union_find.specs.Requires.{Parents};
+ghost use Rattle.room_parts.specs.Walk.{Walk, Walked, Sweep, Counted};
+ghost use Rattle.room_parts.specs.Graph.{graph, statesIn, isConnected, tippedOf, joinedParts, Lent};
+
+// A 16-bit number as an index.
+fn wide(x: u16) -> usize
+    ensures { λ r. ⌜ r ≡ x ⌝ }
+{
+    x as usize
+}
+
+// Unites the ends of a Connected edge, and tells whether they were in two parts.
+fn take_edge(p: &mut [u16; 1024], n: usize, state: u8, u: usize, v: usize) -> bool
+    requires { ⌜ Parents n (now p) ⌝ }
+    requires { ⌜ (u < n) × (v < n) ⌝ }
+    ensures { λ r. ⌜ r ≡ both (isConnected state) (united n (now (p .entry)) u v) ⌝ }
+    ensures { λ r. ⌜ now (p .exit) ≡ pick (isConnected state) (hung n (now (p .entry)) u v) (now (p .entry)) ⌝ }
+{
+    if state == 1 {
+        return union_find::unite_in(p, n, u, v);
+    }
+    false
+}
+
+// Counts down from the vertices, one for each uniting Connected edge: did that go below the count?
+pub fn tipped<'a>(
+    n: usize,
+    m: usize,
+    us: &'a [u16],
+    vs: &'a [u16],
+    states: &'a [u8],
+    count: usize,
+) -> bool
+    requires { ⌜ Lent n m (now us) (now vs) (now states) ⌝ }
+    ensures { λ r. ⌜ r ≡ tippedOf (graph n m (now (us .entry)) (now (vs .entry))) count (statesIn (now (states .entry))) ⌝ }
+{
+    let mut p = [0u16; 1024];
+    union_find::alone(&mut p, n);
+    let mut left = n;
+    let mut i = 0;
+    while i < m {
+        if take_edge(&mut p, n, states[i], wide(us[i]), wide(vs[i])) {
+            left -= 1;
+            if left < count {
+                return true;
+            }
+        }
+        i += 1;
+    }
+    false
+}
+
+// Puts arc `k`, from `u` to `v`, at the front of `u`'s list.
+fn link(
+    head: &mut [u16; 1024],
+    next: &mut [u16; 3968],
+    to: &mut [u16; 3968],
+    k: usize,
+    u: usize,
+    v: usize,
+)
+    requires { ⌜ (k < 3968) × (u < 1024) × (v < 1024) ⌝ }
+    ensures { λ _. ⌜ now (head .exit) ≡ set (now (head .entry)) u (k + 1) ⌝ }
+    ensures { λ _. ⌜ now (next .exit) ≡ set (now (next .entry)) k (getD (now (head .entry)) u 0) ⌝ }
+    ensures { λ _. ⌜ now (to .exit) ≡ set (now (to .entry)) k v ⌝ }
+{
+    next[k] = head[u];
+    to[k] = v as u16;
+    head[u] = (k + 1) as u16;
+}
+
+// Marks `u` and all that is joined to it. The walk calls itself, at most `left` deep.
+fn walk<'a>(
+    head: &'a [u16; 1024],
+    next: &'a [u16; 3968],
+    to: &'a [u16; 3968],
+    seen: &mut [u8; 1024],
+    u: usize,
+    left: usize,
+)
+    requires { ⌜ Walk (now head) (now next) (now to) (now seen) u left ⌝ }
+    ensures { λ _. ⌜ Walked (now (head .entry)) (now (next .entry)) (now (to .entry)) (now (seen .entry)) u (now (seen .exit)) ⌝ }
+{
+    seen[u] = 1;
+    let mut at = wide(head[u]);
+    while 0 < at {
+        let arc = at - 1;
+        let v = wide(to[arc]);
+        if seen[v] == 0 {
+            walk(head, next, to, seen, v, left - 1);
+        }
+        at = wide(next[arc]);
+    }
+}
+
+// Walks from each vertex without a mark, and counts these walks: one a part.
+fn sweep<'a>(
+    head: &'a [u16; 1024],
+    next: &'a [u16; 3968],
+    to: &'a [u16; 3968],
+    seen: &mut [u8; 1024],
+    n: usize,
+) -> usize
+    requires { ⌜ Sweep n (now head) (now next) (now to) (now seen) ⌝ }
+    ensures { λ r. ⌜ Counted n (now (head .entry)) (now (next .entry)) (now (to .entry)) r ⌝ }
+{
+    let mut parts = 0;
+    let mut s = 0;
+    while s < n {
+        if seen[s] == 0 {
+            walk(head, next, to, seen, s, n);
+            parts += 1;
+        }
+        s += 1;
+    }
+    parts
+}
+
+// How many parts there are when only Walls part vertices.
+pub fn joined_parts<'a>(n: usize, m: usize, us: &'a [u16], vs: &'a [u16], states: &'a [u8]) -> usize
+    requires { ⌜ Lent n m (now us) (now vs) (now states) ⌝ }
+    ensures { λ r. ⌜ r ≡ joinedParts (graph n m (now (us .entry)) (now (vs .entry))) (statesIn (now (states .entry))) ⌝ }
+{
+    let mut head = [0u16; 1024];
+    let mut next = [0u16; 3968];
+    let mut to = [0u16; 3968];
+    let mut arcs = 0;
+    let mut i = 0;
+    while i < m {
+        if states[i] != 2 {
+            let u = wide(us[i]);
+            let v = wide(vs[i]);
+            link(&mut head, &mut next, &mut to, arcs, u, v);
+            link(&mut head, &mut next, &mut to, arcs + 1, v, u);
+            arcs += 2;
+        }
+        i += 1;
+    }
+    let mut seen = [0u8; 1024];
+    sweep(&head, &next, &to, &mut seen, n)
+}
