@@ -1,6 +1,8 @@
 //! A module a layer: what is compared, on which inputs.
 pub mod board;
+pub mod hand_over;
 pub mod numbering;
+pub mod union_find;
 
 use crate::boards::{self, Standing};
 use crate::random::Random;
@@ -21,14 +23,17 @@ pub struct Limits {
 /// What is compared, and the part of it that is stored.
 pub struct Layer {
     pub name: &'static str,
+    /// The first byte of its sample.
+    pub kind: u8,
     pub run: fn(&Limits) -> Tally,
     pub sample: fn(&mut Sample),
 }
 
-/// In order: a sample's kind is its layer's place here, from 1.
-pub const LAYERS: [Layer; 2] = [
-    Layer { name: "numbering", run: numbering::run, sample: numbering::sample },
-    Layer { name: "board", run: board::run, sample: board::sample },
+pub const LAYERS: [Layer; 4] = [
+    Layer { name: "numbering", kind: 1, run: numbering::run, sample: numbering::sample },
+    Layer { name: "board", kind: 2, run: board::run, sample: board::sample },
+    Layer { name: "union_find", kind: 7, run: union_find::run, sample: union_find::sample },
+    Layer { name: "hand_over", kind: 10, run: hand_over::run, sample: hand_over::sample },
 ];
 
 /// Repeats a step for so long.

@@ -1,4 +1,6 @@
 //! The Rust beside the port. README.md has the commands.
+#![allow(dead_code)]
+
 mod answers;
 mod bench;
 mod boards;

@@ -27,13 +27,51 @@ mod c {
         pub board: Board,
     }
 
-    // Numbers and records by value cross, and every value of them is answered: these calls are safe.
+    #[repr(C)]
+    #[derive(Clone, Copy)]
+    pub struct UnionFind {
+        pub parent: [u16; 1024],
+        pub n: usize,
+    }
+
+    #[repr(C)]
+    pub struct Made {
+        pub code: u8,
+        pub union: UnionFind,
+    }
+
+    #[repr(C)]
+    pub struct Found {
+        pub code: u8,
+        pub root: usize,
+        pub union: UnionFind,
+    }
+
+    #[repr(C)]
+    pub struct United {
+        pub code: u8,
+        pub united: bool,
+        pub union: UnionFind,
+    }
+
+    #[repr(C)]
+    pub struct Hand {
+        pub code: u8,
+        pub length: usize,
+    }
+
+    // Numbers and records by value cross, and every value of them is answered: these calls are safe. A slice crosses as a
+    // pointer and a length: those calls have a wrapper below.
     unsafe extern "C" {
         pub safe fn sendai_neighbour(height: usize, width: usize, cell: usize, direction: u8) -> Place;
         pub safe fn sendai_board_make(height: usize, width: usize) -> Decided;
         pub safe fn sendai_board_decide(board: Board, border: usize, wall: bool) -> Decided;
         pub safe fn sendai_board_undo(board: Board) -> Decided;
         pub safe fn sendai_board_check(board: Board) -> u8;
+        pub safe fn sendai_union_new(n: usize) -> Made;
+        pub safe fn sendai_union_find(union: UnionFind, x: usize) -> Found;
+        pub safe fn sendai_union_unite(union: UnionFind, x: usize, y: usize) -> United;
+        pub fn sendai_hand_over(entries: *const u16, length: usize, buf: *mut u16, room: usize) -> Hand;
     }
 }
 
@@ -115,4 +153,59 @@ impl Board {
     pub fn ledger(&self) -> Vec<u16> {
         self.0.ledger[..self.0.len].to_vec()
     }
+}
+
+/// A union record.
+#[derive(Clone, Copy)]
+pub struct Union(c::UnionFind);
+
+impl Union {
+    pub fn make(vertices: usize) -> Result<Union, u8> {
+        let made = c::sendai_union_new(vertices);
+        accepted(made.code).map(|()| Union(made.union))
+    }
+
+    pub fn find(&mut self, x: usize) -> Result<usize, u8> {
+        let found = c::sendai_union_find(self.0, x);
+        self.0 = found.union;
+        accepted(found.code).map(|()| found.root)
+    }
+
+    pub fn unite(&mut self, x: usize, y: usize) -> Result<bool, u8> {
+        let united = c::sendai_union_unite(self.0, x, y);
+        self.0 = united.union;
+        accepted(united.code).map(|()| united.united)
+    }
+
+    pub fn parents(&self) -> Vec<u16> {
+        self.0.parent[..self.0.n].to_vec()
+    }
+}
+
+/// What the places of a buffer hold before a call.
+const UNTOUCHED: u16 = 0xbeef;
+
+/// A buffer with room for a call's list. What the call answered is taken out of it, and the other places must be untouched.
+struct Buffer(Vec<u16>);
+
+impl Buffer {
+    fn new(room: usize) -> Buffer {
+        Buffer(vec![UNTOUCHED; room])
+    }
+
+    fn list(mut self, code: u8, length: usize) -> Result<Vec<u16>, u8> {
+        let used = if code == 0 { length } else { 0 };
+        assert!(self.0[used..].iter().all(|&place| place == UNTOUCHED), "places behind the list were written");
+        self.0.truncate(length);
+        accepted(code).map(|()| self.0)
+    }
+}
+
+/// Hand-over into a buffer of so many places.
+pub fn hand_over(entries: &[u16], room: usize) -> Result<Vec<u16>, u8> {
+    let mut buffer = Buffer::new(room);
+    let (place, length) = (buffer.0.as_mut_ptr(), entries.len());
+    // both slices live through the call, and neither overlaps the other
+    let hand = unsafe { c::sendai_hand_over(entries.as_ptr(), length, place, room) };
+    buffer.list(hand.code, hand.length)
 }

@@ -79,9 +79,9 @@ pub fn few_boards(count: usize) -> Vec<Standing> {
 
 /// Writes each layer's file to the folder.
 pub fn write(folder: &Path) {
-    for (kind, layer) in (1..).zip(&LAYERS) {
+    for layer in &LAYERS {
         let mut sample = Sample { cases: 0, bytes: vec![] };
         (layer.sample)(&mut sample);
-        sample.write(kind, folder, &format!("{}.bin", layer.name));
+        sample.write(layer.kind, folder, &format!("{}.bin", layer.name));
     }
 }

@@ -20,6 +20,7 @@ fn compare(tally: &mut Tally, height: usize, width: usize, calls: &[Call]) {
         let on = || format!("{height} by {width}, call {at} of {calls:?}");
         tally.same(&theirs, &answer, on);
         tally.same(&(rust.states(), rust.ledger()), &(ours.states(), ours.ledger()), on);
+        tally.same(&Ok(()), &ours.check(), on);
     }
 }
 

@@ -1,3 +1,7 @@
 pub mod Lengths
 pub mod BoundaryLaws
 pub mod Agreement
+pub mod AppendLaws
+pub mod ListingLaws
+pub mod GroupParts
+pub mod AnswerLaws

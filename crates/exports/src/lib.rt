@@ -1,10 +1,17 @@
 // The public calls for programs in Rust and C, each a thin wrapper with its call's contract. A record goes in and comes back
 // by value, laid out as in C; a slice is a pointer and a length. An enum does not cross: it is handed over as numbers.
 mod boards;
+mod copies;
+mod hands;
 mod places;
+mod unions;
 
 pub use boards::sendai_board_check;
 pub use boards::sendai_board_decide;
 pub use boards::sendai_board_make;
 pub use boards::sendai_board_undo;
+pub use hands::sendai_hand_over;
 pub use places::sendai_neighbour;
+pub use unions::sendai_union_find;
+pub use unions::sendai_union_new;
+pub use unions::sendai_union_unite;

@@ -13,7 +13,7 @@ use Rattle.grid.specs.Grid.{Grid, cells, Cell, next, border}
 use Rattle.borders.specs.Entry.{connectedEntry}
 use Rattle.borders.proofs.Directions.{around}
 use Rattle.borders.proofs.Agreement.{Agree, stands-reads}
-use Rattle.path.specs.Path.{Lists, Search, isNew, listOf, mark, finds, look, looks, lookRound, searchFrom, search, pathOf, pathList}
+use Rattle.path.specs.Path.{Lists, Search, isNew, listOf, mark, finds, look, looks, lookAll, lookRound, searchFrom, search, pathOf, pathList}
 use Rattle.path.proofs.Search.{Searching, taken, starts}
 
 module _ (g : Grid) (a b : List ℕ) (agree : Agree g a b) where
@@ -26,7 +26,7 @@ module _ (g : Grid) (a b : List ℕ) (agree : Agree g a b) where
       ap (looks g a c p ds) look-agrees ∙ looks-agree c cell p ds (look g b c p d s)
 
   round-agrees : (c : ℕ) → Cell g c → (s : Search) → lookRound g a c s ≡ lookRound g b c s
-  unfolding lookRound
+  unfolding lookRound lookAll
   round-agrees c cell s = looks-agree c cell (listOf (getD (s .found) c none)) around s
 
   search-agrees : (start target fuel : ℕ) (queue : List ℕ) (xs : Lists) → Searching g a start (λ x. ⊥) fuel queue xs → searchFrom g a target fuel queue xs ≡ searchFrom g b target fuel queue xs

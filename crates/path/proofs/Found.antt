@@ -11,15 +11,10 @@ use lib.ListN.{getD, length, set, replicate}
 use lib.Seq.{getD-set-same, getD-set-other}
 use Rattle.lists.proofs.Cases.{eq-or-ne}
 use Rattle.path.specs.Path.{Lists, isNew}
+use Rattle.path.specs.Trace.{blank}
 
 abbrev pub Found : Lists → ℕ → Type 0
 Found xs c = (p : List ℕ) × (getD xs c none ≡ some p)
-
--- how many cells are not found
-unfoldable pub blank : Lists → ℕ
-blank [] = 0
-blank (none ∷ xs) = suc (blank xs)
-blank (some p ∷ xs) = blank xs
 
 pub blank-set : (xs : Lists) (x : ℕ) (p : List ℕ) → x < length xs → getD xs x none ≡ none → blank (set xs x (some p)) + 1 ≡ blank xs
 unfolding blank

@@ -2,3 +2,8 @@ pub mod Found
 pub mod Search
 pub mod PathLaws
 pub mod Agreement
+pub mod Told
+pub mod Trace
+pub mod Loop
+pub mod Walk
+pub mod Answers

@@ -26,12 +26,12 @@ module _ (g : Grid) (start : ℕ) where
   leads-joins arrived s k = here
   leads-joins (over {e = e} n w) s k = on (leads-joins w s (λ l m. k l (inr m))) (e, n, stands-connected s e (k (connectedEntry e) (inl refl)))
 
-  leads-nowhere : {c : ℕ} {p : List ℕ} → Leads g start c p → length p ≡ 0 → c ≡ start
+  pub leads-nowhere : {c : ℕ} {p : List ℕ} → Leads g start c p → length p ≡ 0 → c ≡ start
   leads-nowhere arrived q = refl
   leads-nowhere (over n w) q = absurd (omega arith)
 
 module _ (g : Grid) (states : List ℕ) (start target : ℕ) (cell : Cell g start) where
-  ended : Ended g states start target (search g states start target)
+  pub ended : Ended g states start target (search g states start target)
   unfolding search
   ended = search-ends g states start target (cells g) (start ∷ []) (set (replicate (cells g) none) start (some [])) (starts g states start cell)
 

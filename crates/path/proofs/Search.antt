@@ -27,9 +27,10 @@ use Rattle.borders.proofs.Choices.{pick-elim}
 use Rattle.borders.proofs.EntryLaws.{connected-stands}
 use Rattle.borders.proofs.BorderLaws.{stands-state, stands-step, step-stands}
 use Rattle.borders.proofs.Directions.{around, in-around}
-use Rattle.path.specs.Path.{Lists, Search, isNew, listOf, mark, finds, look, looks, lookRound, searchFrom}
+use Rattle.path.specs.Path.{Lists, Search, isNew, listOf, mark, finds, look, looks, lookAll, lookRound, searchFrom}
+use Rattle.path.specs.Trace.{blank}
 use Rattle.path.specs.Leads.{Leads, arrived, over}
-use Rattle.path.proofs.Found.{Found, blank, blank-set, blank-all, none-at, new-none, old-some, marked-cases, marked-here, found-still}
+use Rattle.path.proofs.Found.{Found, blank-set, blank-all, none-at, new-none, old-some, marked-cases, marked-here, found-still}
 
 module _ (g : Grid) (states : List ℕ) (start : ℕ) where
   -- p leads from c back to the start over borders that stand Connected
@@ -160,7 +161,7 @@ module _ (g : Grid) (states : List ℕ) (start : ℕ) where
   -- c is taken out and looks round
   pub taken : (c fuel : ℕ) (queue : List ℕ) (xs : Lists) → Searching (λ x. ⊥) (suc fuel) (c ∷ queue) xs
       → Searching (λ x. ⊥) fuel (lookRound g states c (record { queue = queue; found = xs }) .queue) (lookRound g states c (record { queue = queue; found = xs }) .found)
-  unfolding lookRound listOf
+  unfolding lookRound lookAll listOf
   taken c fuel queue xs k =
       let o = k .queued c (inl refl) in
       let f = o .1 in

@@ -5,4 +5,6 @@
 -- depends on the board's borders alone (`Agreement`).
 pub mod Path
 pub mod Leads
+pub mod Trace
+pub mod Answer
 pub mod Examples

@@ -51,9 +51,14 @@ looks g states c p [] s = s
 looks g states c p (d ∷ ds) s = looks g states c p ds (look g states c p d s)
 
 -- "neighbours up, down, left, right"
+unfoldable pub lookAll : Grid → List ℕ → ℕ → List ℕ → Search → Search
+unfolding looks
+lookAll g states c p s = looks g states c p (Up ∷ Down ∷ Left ∷ Right ∷ []) s
+
+-- c looks round, with the list that it was found with
 unfoldable pub lookRound : Grid → List ℕ → ℕ → Search → Search
-unfolding looks listOf
-lookRound g states c s = looks g states c (listOf (getD (s .found) c none)) (Up ∷ Down ∷ Left ∷ Right ∷ []) s
+unfolding lookAll listOf
+lookRound g states c s = lookAll g states c (listOf (getD (s .found) c none)) s
 
 -- at most `fuel` cells are taken out; "it stops when the target is taken out"
 unfoldable pub searchFrom : Grid → List ℕ → ℕ → ℕ → List ℕ → Lists → Lists

@@ -9,22 +9,26 @@ ghost use Rattle.union_find.specs.Requires.{Stays, Parents};
 ghost use Rattle.union_find.specs.UnionFind.{holdsOf, newOf, findOf, uniteOf};
 
 // The first `n` places of `parent` are the vertices; what stands behind them is no part of the record.
+#[repr(C)]
 pub struct UnionFind {
     pub parent: [u16; 1024],
     pub n: usize,
 }
 
+#[repr(C)]
 pub struct Made {
     pub code: u8,
     pub union: UnionFind,
 }
 
+#[repr(C)]
 pub struct Found {
     pub code: u8,
     pub root: usize,
     pub union: UnionFind,
 }
 
+#[repr(C)]
 pub struct United {
     pub code: u8,
     pub united: bool,

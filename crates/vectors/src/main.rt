@@ -2,8 +2,10 @@
 // case that differs, and a line of counts for each layer.
 mod board_runs;
 mod case;
+mod hand_runs;
 mod numbering;
 mod sample;
+mod union_runs;
 
 use case::Counts;
 use libc::STDOUT_FILENO;
@@ -22,6 +24,8 @@ fn replay_case(s: &[u8], at: usize) -> Counts {
     match kind {
         1 => numbering::replay(s, at),
         2 => board_runs::replay(s, at),
+        7 => union_runs::replay(s, at),
+        10 => hand_runs::replay(s, at),
         _ => case::unknown(),
     }
 }
@@ -78,4 +82,6 @@ fn check_file(name: &[u8]) {
 fn main() {
     check_file(b"numbering.bin");
     check_file(b"board.bin");
+    check_file(b"union_find.bin");
+    check_file(b"hand_over.bin");
 }

@@ -1,6 +1,7 @@
 // Numbers in a sample's bytes. A place past the end reads as 0, so that a sample that is cut short shows as differences.
 ghost use mathlib.Core.Path.{_≡_};
 ghost use Prim.Native.Nat.{_<_, _≤_};
+ghost use Rattle.io.specs.Counts.{Counts};
 
 fn wide(x: u8) -> usize
     ensures { λ r. ⌜ r < 256 ⌝ }
@@ -75,4 +76,26 @@ pub fn same_bytes<'a>(s: &'a [u8], at: usize, list: &'a [u8], n: usize) -> bool 
         i += 1;
     }
     true
+}
+
+fn word16(s: &[u8], at: usize) -> u16 {
+    word(s, at) as u16
+}
+
+// Copies the list at a place, its length in front, as far as there is room, and answers how many numbers it copied.
+pub fn load(s: &[u8], at: usize, list: &mut [u16]) -> usize
+    ensures { λ r. ⌜ Counts r (now (list .exit)) ⌝ }
+{
+    let n = word(s, at);
+    let mut place = after(at, 2);
+    let mut i = 0;
+    while i < n {
+        if list.len() <= i {
+            return i;
+        }
+        list[i] = word16(s, place);
+        place = after(place, 2);
+        i += 1;
+    }
+    i
 }

@@ -1,0 +1,66 @@
+-- `boundary::append_around` meets its contract: at each turn the lists of the directions that are left are still to append. Assumes nothing.
+use Prim.Native.Nat.{_-_}
+use mathlib.Core.Path.{_≡_}
+use native.Mathlib.Omega.{arith}
+use borrow.Author.Needs.{needs}
+use lib.ListN.{length, drop}
+use Rattle.lists.specs.Lists.{gather}
+use Rattle.grid.specs.declared.Direction.the-variants.{Up}
+use Rattle.boundary.specs.Listing.{listedAt}
+use Rattle.boundary.proofs.AppendLaws.{Rest, rest-all, turn-room, turn-on, turns-end}
+use Rattle.boundary.proofs.append_around.Statement.{statement}
+use Rattle.boundary.proofs.append_around.Tie as tie
+
+abbrev Inv-loop : tie.InvT-loop
+Inv-loop states ids m kind buf₀ at order n₀ i₀ buf n i =
+    let f = listedAt states ids m kind in
+    (length order ≡ 4) × Rest buf₀ at (gather f order) buf n (gather f (drop i order))
+
+abbrev μ-loop : tie.MeasureT-loop
+μ-loop states ids m kind buf₀ at order n₀ i₀ buf n i = 4 - i
+
+loop-holds : tie.Need-loop-holds Inv-loop μ-loop
+loop-holds c = (search needs, rest-all _ _ _)
+
+array-copy-out-append-entry : tie.Need-array-copy-out-append-entry Inv-loop μ-loop
+array-copy-out-append-entry c = omega arith
+
+append-entry-requires : tie.Need-append-entry-requires Inv-loop μ-loop
+append-entry-requires c κs =
+    let k = c .before .before in
+    let l = k .before .loop in
+    let p = k .before .before .before .before .before .pre in
+    record { lent = p .lent; cell = p .cell; room = turn-room _ _ Up (l .i) (l .inv .1) (omega arith) (p .room) }
+
+add-i : tie.Need-add-i Inv-loop μ-loop
+add-i c = omega arith
+
+loop-less : tie.Need-loop-less Inv-loop μ-loop
+loop-less c = omega arith
+
+loop-again : tie.Need-loop-again Inv-loop μ-loop
+loop-again c =
+    let a = c .before .before in
+    let l = a .before .before .before .before .loop in
+    (l .inv .0, turn-on _ _ Up (l .i) (l .inv .1) (omega arith) (a .append-entry .ensures))
+
+same-length : tie.Need-same-length Inv-loop μ-loop
+same-length c = c .before .loop .inv .1 .long
+
+returns : tie.Need-returns Inv-loop μ-loop
+returns c = let l = c .before .loop in turns-end _ _ Up (l .i) (l .inv .1) (omega arith)
+
+pub append-around-spec : {M : Type 1} → statement M
+append-around-spec =
+    tie.close
+    (tie.spec
+    Inv-loop
+    μ-loop
+    loop-holds
+    array-copy-out-append-entry
+    append-entry-requires
+    add-i
+    loop-less
+    loop-again
+    same-length
+    returns)

@@ -1,0 +1,20 @@
+use Rattle.boundary.proofs.reason_for_unit_and_its_boundary.Statement.{statement}
+use Rattle.boundary.proofs.reason_for_unit_and_its_boundary.Tie as tie
+use Rattle.boundary.proofs.reason_for_unit_and_its_boundary.Reads as reads
+use Rattle.boundary.proofs.reason_for_unit_and_its_boundary.Lts as lts
+use Rattle.boundary.proofs.reason.Reads as reason-reads
+
+-- src/lib.rt:263:5
+reason-requires : tie.Need-reason-requires
+reason-requires c κs = ?
+
+-- src/lib.rt:259:1
+same-length : tie.Need-same-length
+same-length c = ?
+
+-- src/lib.rt:259:1
+returns : tie.Need-returns
+returns c = ?
+
+pub reason-for-unit-and-its-boundary-spec : {M : Type 1} → statement M
+reason-for-unit-and-its-boundary-spec = tie.close (tie.spec reason-requires same-length returns)

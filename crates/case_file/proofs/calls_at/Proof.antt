@@ -1,0 +1,92 @@
+-- `case_file::calls_at` meets its contract: the invariant `Walking` says what the calls that are left leave behind them.
+-- Assumes nothing.
+use Prim.Native.Nat.{_-_, _+_}
+use mathlib.Core.Path.{sym, _∙_}
+use native.Mathlib.Omega.{arith}
+use native.Mathlib.Nat.{sub-zero}
+use borrow.Author.Needs.{needs}
+use Rattle.case_file.proofs.ListLaws.{Walking, walking-next, walking-stop, walking-end, step-unsound, calls-none, calls-cut, calls-fits}
+use Rattle.case_file.proofs.calls_at.Statement.{statement}
+use Rattle.case_file.proofs.calls_at.Tie as tie
+
+abbrev Inv-loop : tie.InvT-loop
+Inv-loop file at count next₀ k₀ next k = Walking file (at + 2) count next k
+
+abbrev μ-loop : tie.MeasureT-loop
+μ-loop file at count next₀ k₀ next k = count - k
+
+sub-if1 : tie.Need-sub-if1 Inv-loop μ-loop
+sub-if1 c = search needs
+
+returns : tie.Need-returns Inv-loop μ-loop
+returns c = let a = c .before .before .args in simp (calls-none (a .file .now) (a .at) (omega arith))
+
+word-requires : tie.Need-word-requires Inv-loop μ-loop
+word-requires c κs = omega arith
+
+add-next : tie.Need-add-next Inv-loop μ-loop
+add-next c = omega arith
+
+loop-holds : tie.Need-loop-holds Inv-loop μ-loop
+loop-holds c = record { within = omega arith; inside = omega arith; left = simp sub-zero }
+
+call-at-requires : tie.Need-call-at-requires Inv-loop μ-loop
+call-at-requires c κs = search needs
+
+enum-known-behind : tie.Need-enum-known-behind Inv-loop μ-loop
+enum-known-behind c = search needs
+
+enum-told : tie.Need-enum-told Inv-loop μ-loop
+enum-told c = search needs
+
+returns-2 : tie.Need-returns-2 Inv-loop μ-loop
+returns-2 c =
+    let m = c .before in
+    let t = m .before .before in
+    let a = t .before .before .before .before .before .args in
+    let u = step-unsound (a .file .now) (t .before .loop .next) (sym (c .enum-told .given .1) ∙ m .before .call-at .ensures) in
+    let e = calls-cut (a .file .now) (a .at) (t .before .before .word .result) (t .before .before .word .ensures .0) (omega arith)
+    (walking-stop (t .before .loop .inv) (t .loop-test .taken) u) in
+    simp e
+
+add-k : tie.Need-add-k Inv-loop μ-loop
+add-k c = omega arith
+
+loop-less : tie.Need-loop-less Inv-loop μ-loop
+loop-less c = omega arith
+
+loop-again : tie.Need-loop-again Inv-loop μ-loop
+loop-again c =
+    let g = c .before .behind .given in
+    let t = c .before .before .before .before in
+    walking-next (t .before .loop .inv) (t .loop-test .taken) (g .0 .0) (g .0 .1 .0) (sym (g .1) ∙ c .before .before .before .call-at .ensures)
+
+add-t7 : tie.Need-add-t7 Inv-loop μ-loop
+add-t7 c = omega arith
+
+returns-3 : tie.Need-returns-3 Inv-loop μ-loop
+returns-3 c =
+    let a = c .before .before .before .before .before .args in
+    calls-fits (a .file .now) (a .at) (c .before .before .word .result) (c .before .loop .next) (c .before .before .word .ensures .0)
+    (omega arith) (c .before .loop .inv .inside) (walking-end (c .before .loop .inv) (c .loop-test .left))
+
+pub calls-at-spec : {M : Type 1} → statement M
+calls-at-spec =
+    tie.close
+    (tie.spec
+    Inv-loop
+    μ-loop
+    sub-if1
+    returns
+    word-requires
+    add-next
+    loop-holds
+    call-at-requires
+    enum-known-behind
+    enum-told
+    returns-2
+    add-k
+    loop-less
+    loop-again
+    add-t7
+    returns-3)

@@ -1,0 +1,64 @@
+-- `case_file::decode` meets its contract: one law for each way out, and what `rest` ensures for the last.
+-- Assumes nothing.
+use mathlib.Core.Path.{sym, ap, _∙_}
+use borrow.Author.Needs.{needs}
+use Rattle.case_file.specs.Layout.{fileOf}
+use Rattle.case_file.proofs.FileLaws.{front-short, front-version, front-length, front-long, front-good}
+use Rattle.case_file.proofs.decode.Statement.{statement}
+use Rattle.case_file.proofs.decode.Tie as tie
+
+returns : tie.Need-returns
+returns c = front-short (c .before .before .args .file .now) (c .if1 .taken)
+
+shared-slice-read-if2 : tie.Need-shared-slice-read-if2
+shared-slice-read-if2 c = search needs
+
+returns-2 : tie.Need-returns-2
+returns-2 c = let k = c .before .before in front-version (k .before .before .args .file .now) (k .if1 .left) (c .if2 .taken)
+
+word-requires : tie.Need-word-requires
+word-requires c κs = search needs
+
+sub-if3 : tie.Need-sub-if3
+sub-if3 c = search needs
+
+returns-3 : tie.Need-returns-3
+returns-3 c =
+    let w = c .before in
+    let k = w .before .before .before in
+    front-length (k .before .before .args .file .now) (k .if1 .left) (w .before .if2 .left) (rw (w .word .ensures .0) at (c .if3 .taken))
+
+returns-4 : tie.Need-returns-4
+returns-4 c =
+    let w = c .before .before in
+    let k = w .before .before .before in
+    front-long (k .before .before .args .file .now) (k .if1 .left) (w .before .if2 .left) (rw (w .word .ensures .0) at (c .before .if3 .left))
+    (rw (w .word .ensures .0) at (c .if4 .taken))
+
+rest-requires : tie.Need-rest-requires
+rest-requires c κs = search needs
+
+returns-5 : tie.Need-returns-5
+returns-5 c =
+    let e = c .before in
+    let w = e .before .before in
+    let k = w .before .before .before in
+    c .rest .ensures
+    ∙ ap fileOf
+    (sym
+    (front-good (k .before .before .args .file .now) (k .if1 .left) (w .before .if2 .left) (rw (w .word .ensures .0) at (e .before .if3 .left))
+    (rw (w .word .ensures .0) at (e .if4 .left))))
+
+pub decode-spec : {M : Type 1} → statement M
+decode-spec =
+    tie.close
+    (tie.spec
+    returns
+    shared-slice-read-if2
+    returns-2
+    word-requires
+    sub-if3
+    returns-3
+    returns-4
+    rest-requires
+    returns-5)

@@ -1,0 +1,22 @@
+-- `case_file::reach` meets its contract: a list has two bytes a number, as far as the file goes (`numbers-count`).
+-- Assumes nothing.
+use native.Mathlib.Omega.{arith}
+use borrow.Author.Needs.{needs}
+use Rattle.case_file.proofs.NumberLaws.{numbers-count}
+use Rattle.case_file.proofs.reach.Statement.{statement}
+use Rattle.case_file.proofs.reach.Tie as tie
+
+returns : tie.Need-returns
+returns c = let a = c .before .args in omega (arith, numbers-count (a .file .now) (a .at) (a .count))
+
+sub-room : tie.Need-sub-room
+sub-room c = search needs
+
+returns-2 : tie.Need-returns-2
+returns-2 c = let a = c .before .before .args in omega (arith, numbers-count (a .file .now) (a .at) (a .count))
+
+returns-3 : tie.Need-returns-3
+returns-3 c = let a = c .before .before .args in omega (arith, numbers-count (a .file .now) (a .at) (a .count))
+
+pub reach-spec : {M : Type 1} → statement M
+reach-spec = tie.close (tie.spec returns sub-room returns-2 returns-3)

@@ -1,0 +1,77 @@
+-- `lines::entries` meets its contract: the invariant `Spacing` says what is left to write, one law a turn and one at the end.
+-- Assumes nothing.
+use Prim.Native.Nat.{_-_}
+use mathlib.Core.Path.{refl}
+use native.Mathlib.Omega.{arith}
+use borrow.Author.Needs.{needs}
+use lib.ListN.{length, length-set}
+use Rattle.lines.proofs.LineLaws.{Spacing, spacing-next, spacing-end, spacing-all, entry-digits}
+use Rattle.lines.proofs.entries.Statement.{statement}
+use Rattle.lines.proofs.entries.Tie as tie
+
+abbrev Inv-loop : tie.InvT-loop
+Inv-loop list buf₀ at next₀ i₀ buf next i = Spacing list buf₀ at buf next i
+
+abbrev μ-loop : tie.MeasureT-loop
+μ-loop list buf₀ at next₀ i₀ buf next i = length list - i
+
+loop-holds : tie.Need-loop-holds Inv-loop μ-loop
+loop-holds c = record { within = omega arith; long = refl; most = omega arith; count = refl; left = refl }
+
+mul-wide : tie.Need-mul-wide Inv-loop μ-loop
+mul-wide c = omega arith
+
+shared-slice-read-wide : tie.Need-shared-slice-read-wide Inv-loop μ-loop
+shared-slice-read-wide c = omega arith
+
+wide-requires : tie.Need-wide-requires Inv-loop μ-loop
+wide-requires c κs = search needs
+
+slice-write-buf : tie.Need-slice-write-buf Inv-loop μ-loop
+slice-write-buf c = let t = c .before .before in omega (arith, t .loop-test .taken, t .before .loop .inv .most)
+
+add-digits : tie.Need-add-digits Inv-loop μ-loop
+add-digits c = let t = c .before .before .before in omega (arith, t .loop-test .taken, t .before .loop .inv .most)
+
+digits-requires : tie.Need-digits-requires Inv-loop μ-loop
+digits-requires c κs =
+    let t = c .before .before .before in
+    simp length-set (omega (arith, t .loop-test .taken, t .before .loop .inv .most, entry-digits (c .before .wide .result) (c .before .wide .ensures .1)))
+
+add-i : tie.Need-add-i Inv-loop μ-loop
+add-i c = omega arith
+
+loop-less : tie.Need-loop-less Inv-loop μ-loop
+loop-less c = omega arith
+
+loop-again : tie.Need-loop-again Inv-loop μ-loop
+loop-again c =
+    let d = c .before .before in
+    let w = d .before .before in
+    let t = w .before .before in
+    spacing-next (t .before .loop .inv) (t .loop-test .taken) (w .wide .ensures .0) (w .wide .ensures .1) (d .digits .ensures .0) (d .digits .ensures .1)
+
+same-length : tie.Need-same-length Inv-loop μ-loop
+same-length c = c .before .loop .inv .long
+
+returns : tie.Need-returns Inv-loop μ-loop
+returns c = let f = c .before .loop .inv in ((spacing-end f (c .loop-test .left), omega (arith, f .most, f .within)), spacing-all f (c .loop-test .left))
+
+pub entries-spec : {M : Type 1} → statement M
+entries-spec =
+    tie.close
+    (tie.spec
+    Inv-loop
+    μ-loop
+    loop-holds
+    mul-wide
+    shared-slice-read-wide
+    wide-requires
+    slice-write-buf
+    add-digits
+    digits-requires
+    add-i
+    loop-less
+    loop-again
+    same-length
+    returns)

@@ -1,0 +1,63 @@
+-- `lines::put` meets its contract: the invariant `Putting` says what is left, one law a turn and one at the end.
+-- Assumes nothing.
+use Prim.Native.Nat.{_-_}
+use mathlib.Core.Path.{refl}
+use native.Mathlib.Omega.{arith}
+use native.Mathlib.Nat.{add-zero}
+use lib.ListN.{length}
+use Rattle.lines.proofs.LineLaws.{Putting, putting-next, putting-end}
+use Rattle.lines.proofs.put.Statement.{statement}
+use Rattle.lines.proofs.put.Tie as tie
+
+abbrev Inv-loop : tie.InvT-loop
+Inv-loop word buf₀ at i₀ buf i = Putting word buf₀ at buf i
+
+abbrev μ-loop : tie.MeasureT-loop
+μ-loop word buf₀ at i₀ buf i = length word - i
+
+loop-holds : tie.Need-loop-holds Inv-loop μ-loop
+loop-holds c = record { within = omega arith; long = refl; left = simp add-zero }
+
+shared-slice-read-buf : tie.Need-shared-slice-read-buf Inv-loop μ-loop
+shared-slice-read-buf c = omega arith
+
+add-buf : tie.Need-add-buf Inv-loop μ-loop
+add-buf c = omega arith
+
+slice-write-buf : tie.Need-slice-write-buf Inv-loop μ-loop
+slice-write-buf c = omega (arith, c .before .before .loop .inv .long)
+
+add-i : tie.Need-add-i Inv-loop μ-loop
+add-i c = omega arith
+
+loop-less : tie.Need-loop-less Inv-loop μ-loop
+loop-less c = omega arith
+
+loop-again : tie.Need-loop-again Inv-loop μ-loop
+loop-again c = putting-next (c .before .before .loop .inv) (c .before .loop-test .taken)
+
+add-result : tie.Need-add-result Inv-loop μ-loop
+add-result c = omega arith
+
+same-length : tie.Need-same-length Inv-loop μ-loop
+same-length c = c .before .loop .inv .long
+
+returns : tie.Need-returns Inv-loop μ-loop
+returns c = (omega arith, putting-end (c .before .loop .inv) (c .loop-test .left))
+
+pub put-spec : {M : Type 1} → statement M
+put-spec =
+    tie.close
+    (tie.spec
+    Inv-loop
+    μ-loop
+    loop-holds
+    shared-slice-read-buf
+    add-buf
+    slice-write-buf
+    add-i
+    loop-less
+    loop-again
+    add-result
+    same-length
+    returns)

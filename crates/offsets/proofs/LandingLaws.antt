@@ -1,0 +1,169 @@
+-- What lies beyond a cell, and where its border lands, as facts; a landing by doubled coordinates is the definition's.
+-- Assumes nothing.
+use Prim.Native.Nat.{ℕ, _+_, _*_, _<_, _≤_}
+use mathlib.Core.Path.{_≡_, refl, ap, ap₂, sym, _∙_}
+use mathlib.Core.Logic.{_⊎_, ⊎-elim, _≢_}
+use mathlib.Core.Bool.{Bool, true, false, not}
+use mathlib.Core.List.{List, [], _∷_}
+use mathlib.Core.Option.{Option, none, some}
+use native.Mathlib.Omega.{arith}
+use borrow.Author.Tests.{not-true, not-false}
+use denote.Enum.Declared.{tagOf}
+use lib.Dec.{eqb}
+use lib.IntN.{ℤ}
+use lib.ListN.{getD, length}
+use lib.Signed.{mag}
+use mir.Syntax.{w32}
+use mir.Val.{SFits, toZ, ofZ}
+use mir.ValLaws.{toZ-ofZ}
+use Rattle.lists.specs.Choice.{both, either, pick, give, through}
+use Rattle.lists.proofs.Cases.{true-or-false}
+use Rattle.grid.specs.declared.Direction.{Direction}
+use Rattle.grid.specs.declared.Direction.the-variants.{Up, Down, Left, Right}
+use Rattle.grid.specs.declared.Beyond.{Beyond}
+use Rattle.grid.specs.declared.Beyond.the-variants.{At, End, Refused}
+use Rattle.grid.proofs.Beyond.{the-type}
+use Rattle.grid.specs.Grid.{Grid, Limits, cells, Cell, row, col, goesOn, next, border, borderCount, stepOf}
+use Rattle.grid.proofs.Geometry.{goes-step, border-lt, borderCount-le, cells-le}
+use Rattle.borders.specs.Border.{stateAt, stands}
+use Rattle.offsets.specs.declared.reach.Shift.{Shift}
+use Rattle.offsets.specs.declared.places.Place.{Place}
+use Rattle.offsets.specs.declared.places.Landing.{Landing}
+use Rattle.offsets.specs.declared.places.Landing.the-variants.{Border, Outside}
+use Rattle.offsets.specs.declared.landings.Fail.{Fail}
+use Rattle.offsets.specs.declared.landings.Fail.the-variants.{Nowhere, At as Entry}
+use Rattle.offsets.specs.Places.{aheadOf, coordinateOf, borderOf, landOf}
+use Rattle.offsets.specs.Reach.{moved}
+use Rattle.offsets.specs.Landings.{failOf, badState, badOf, entryOf, keptOf, landingOf, failAt, Seen, Turning}
+use Rattle.offsets.proofs.PlaceLaws.{coordinate-moves, place-lands}
+use Rattle.offsets.proofs.ReachLaws.{Fell, fell, fell-cell}
+
+-- what a step answers
+pub record Beyonds (g : Grid) (d : Direction) (c n e : ℕ) : Type 0 where
+  pub goes : goesOn g d c ≡ true
+  pub next-is : n ≡ next g d c
+  pub border-is : e ≡ border g d c
+
+module _ (g : Grid) (d : Direction) (c : ℕ) where
+  pub step-at : (n e : ℕ) → At n e ≡ stepOf g d c → Beyonds g d c n e
+  step-at n e = go (goesOn g d c) refl
+    where
+      go : (t : Bool) → goesOn g d c ≡ t → At n e ≡ pick t (At (next g d c) (border g d c)) End → Beyonds g d c n e
+      go true p q = record { goes = p; next-is = cc; border-is = cc }
+      go false p q = absurd (let z : _≡_ {A = ℕ} 0 1 = cc in omega arith)
+
+  pub step-end : (b : Beyond) → (tagOf the-type b ≡ 1) ⊎ (tagOf the-type b ≡ 2) → b ≡ stepOf g d c → goesOn g d c ≡ false
+  step-end b k = go (goesOn g d c) refl b k
+    where
+      go : (t : Bool) → goesOn g d c ≡ t → (b : Beyond) → (tagOf the-type b ≡ 1) ⊎ (tagOf the-type b ≡ 2) → b ≡ pick t (At (next g d c) (border g d c)) End → goesOn g d c ≡ false
+      go true p (At n e) k q = absurd (⊎-elim (λ r. omega arith) (λ r. omega arith) k)
+      go true p End k q = absurd (let z : _≡_ {A = ℕ} 0 1 = cc in omega arith)
+      go true p (Refused n) k q = absurd (let z : _≡_ {A = ℕ} 0 1 = cc in omega arith)
+      go false p b k q = p
+
+  pub lands-on : (e : ℕ) → Border e ≡ borderOf (stepOf g d c) → (goesOn g d c ≡ true) × (e ≡ border g d c)
+  lands-on e = go (goesOn g d c) refl
+    where
+      go : (t : Bool) → goesOn g d c ≡ t → Border e ≡ borderOf (pick t (At (next g d c) (border g d c)) End) → (goesOn g d c ≡ true) × (e ≡ border g d c)
+      go true p q = (p, cc)
+      go false p q = absurd (let z : _≡_ {A = ℕ} 0 1 = cc in omega arith)
+
+  pub lands-off : Outside ≡ borderOf (stepOf g d c) → goesOn g d c ≡ false
+  lands-off = go (goesOn g d c) refl
+    where
+      go : (t : Bool) → goesOn g d c ≡ t → Outside ≡ borderOf (pick t (At (next g d c) (border g d c)) End) → goesOn g d c ≡ false
+      go true p q = absurd (let z : _≡_ {A = ℕ} 0 1 = cc in omega arith)
+      go false p q = p
+
+-- whether a border must land well
+module _ (g : Grid) (states ids : List ℕ) (inner : Bool) (unit c : ℕ) (d : Direction) where
+  pub kept-end : goesOn g d c ≡ false → not inner ≡ keptOf g states ids inner unit c d
+  unfolding keptOf
+  kept-end q = go inner
+    where
+      go : (t : Bool) → not t ≡ pick t (both (goesOn g d c) (eqb (getD ids (next g d c) 0) unit)) (either (not (goesOn g d c)) (eqb (stateAt g states d c) 2))
+      go true = rw q
+      go false = rw q
+
+  module _ (n e : ℕ) (b : Beyonds g d c n e) where
+    pub kept-inner : inner ≡ true → eqb (getD ids n 0) unit ≡ keptOf g states ids inner unit c d
+    unfolding keptOf
+    kept-inner q = rw (q, b .goes, b .next-is)
+
+    pub kept-shut : inner ≡ false → eqb (getD states e 0) 2 ≡ keptOf g states ids inner unit c d
+    unfolding keptOf stateAt
+    kept-shut q = rw (q, b .goes, b .border-is)
+
+    pub seen-at : Seen g states ids c → (n < length ids) × (n < 1024) × (e < length states)
+    seen-at s =
+        let k = goes-step g d c (s .cell) (b .goes) in
+        let i : n < cells g = rw (b .next-is) (k .cell') in
+        let j : e < borderCount g = rw (b .border-is) (border-lt g d c (next g d c) (border g d c) k) in
+        omega (arith, s .ids-long, s .states-long, cells-le g (s .limits))
+
+-- ahead of a cell lies one place
+ahead-fits : (d : Direction) → (mag (aheadOf d .y) < 2) × (mag (aheadOf d .x) < 2)
+ahead-fits Up = omega arith
+ahead-fits Down = omega arith
+ahead-fits Left = omega arith
+ahead-fits Right = omega arith
+
+exact : (z : ℤ) → mag z < 2 → toZ w32 (ofZ w32 z) ≡ z
+exact z h = toZ-ofZ w32 z (record { sfits = omega arith })
+
+module _ (p : Place) (d : Direction) (q : p ≡ aheadOf d) where
+  pub ahead-y : toZ w32 (ofZ w32 (p .y)) ≡ aheadOf d .y
+  ahead-y = ap (λ (a : Place). toZ w32 (ofZ w32 (a .y))) q ∙ exact (aheadOf d .y) (ahead-fits d .0)
+
+  pub ahead-x : toZ w32 (ofZ w32 (p .x)) ≡ aheadOf d .x
+  ahead-x = ap (λ (a : Place). toZ w32 (ofZ w32 (a .x))) q ∙ exact (aheadOf d .x) (ahead-fits d .1)
+
+  pub ahead-small : (mag (toZ w32 (ofZ w32 (p .y))) < 2) × (mag (toZ w32 (ofZ w32 (p .x))) < 2)
+  ahead-small = (omega (arith, ap mag ahead-y, ahead-fits d .0), omega (arith, ap mag ahead-x, ahead-fits d .1))
+
+-- a border lands where its cell falls
+pub landing-is : (g : Grid) (s : Shift) (y x c : ℕ) (d : Direction) → Limits g → Fell g s y x c → landingOf g s y x d ≡ borderOf (stepOf g d c)
+landing-is g s y x c d l f =
+    ap₂ (landOf g)
+    (coordinate-moves y (f .row-to) (s .«from_row») (s .«to_row») (aheadOf d .y) (f .row-moves))
+    (coordinate-moves x (f .col-to) (s .«from_col») (s .«to_col») (aheadOf d .x) (f .col-moves))
+    ∙ place-lands g l (f .row-to) (f .col-to) (f .row-in) (f .col-in) d
+    ∙ ap (λ n. borderOf (stepOf g d n)) (sym (f .number))
+
+-- the four ways to answer a border of c
+module _ (g : Grid) (s : Shift) (states ids : List ℕ) (inner : Bool) (unit c : ℕ) (d : Direction) (z : ℕ) (q : moved g s (row g c) (col g c) ≡ some z) where
+  pub not-kept : keptOf g states ids inner unit c d ≡ false → Nowhere ≡ failOf (failAt g s states ids inner unit c d)
+  unfolding failAt through give
+  not-kept k = rw (q, k)
+
+  pub lands-outside : goesOn g d z ≡ false → Nowhere ≡ failOf (failAt g s states ids inner unit c d)
+  unfolding failAt through stands
+  lands-outside k = rw (q, k) (go (keptOf g states ids inner unit c d))
+    where
+      go : (t : Bool) → Nowhere ≡ failOf (give (both t false) (entryOf inner (border g d z)))
+      go true = unfold give in refl
+      go false = unfold give in refl
+
+  module _ (k : keptOf g states ids inner unit c d ≡ true) (e : ℕ) (on : goesOn g d z ≡ true) (r : e ≡ border g d z) where
+    pub lands-badly : badOf inner (getD states e 0) ≡ true → Entry (entryOf inner e) ≡ failOf (failAt g s states ids inner unit c d)
+    unfolding failAt through give stands stateAt
+    lands-badly b = rw (q, k, on, ← r, b)
+
+    pub lands-well : badOf inner (getD states e 0) ≡ false → Nowhere ≡ failOf (failAt g s states ids inner unit c d)
+    unfolding failAt through give stands stateAt
+    lands-well b = rw (q, k, on, ← r, b)
+
+-- what is known of a border that lands
+module _ (g : Grid) (s : Shift) (states ids : List ℕ) (c y x : ℕ) (d : Direction) (t : Turning g s states ids c y x) where
+  fall : Fell g s (row g c) (col g c) (t .falls .0)
+  fall = fell g s (row g c) (col g c) (t .falls .0) (t .falls .1)
+
+  pub turning-landing : landingOf g s y x d ≡ borderOf (stepOf g d (t .falls .0))
+  turning-landing = ap₂ (λ a b. landingOf g s a b d) (t .row-is) (t .col-is) ∙ landing-is g s (row g c) (col g c) (t .falls .0) d (t .seen .limits) fall
+
+  pub landed-border : (e : ℕ) → goesOn g d (t .falls .0) ≡ true → e ≡ border g d (t .falls .0) → (e < length states) × (e < 1984)
+  landed-border e on q =
+      let z = t .falls .0 in
+      let k = goes-step g d z (fell-cell g s (row g c) (col g c) z fall) on in
+      let j : e < borderCount g = rw q (border-lt g d z (next g d z) (border g d z) k) in
+      omega (arith, t .seen .states-long, borderCount-le g (t .seen .limits))

@@ -1,0 +1,50 @@
+-- `offsets::places::coordinate` meets its contract: no step leaves 32 bits. Assumes nothing.
+use Rattle.offsets.proofs.Signed.{place-fits, offset-fits, sum-fits, coordinate-is}
+use borrow.Author.Needs.{needs}
+use Rattle.offsets.proofs.places.coordinate.Statement.{statement}
+use Rattle.offsets.proofs.places.coordinate.Tie as tie
+
+mul-place : tie.Need-mul-place
+mul-place c = search needs
+
+cast-place : tie.Need-cast-place
+cast-place c = search needs
+
+add-place : tie.Need-add-place
+add-place c = place-fits (c .args .at) (c .args .ahead) (c .args .from) (c .args .to) (c .pre .0) (c .pre .1) (c .pre .2) (c .pre .3)
+
+mul-offset : tie.Need-mul-offset
+mul-offset c = search needs
+
+cast-offset : tie.Need-cast-offset
+cast-offset c = search needs
+
+mul-offset-2 : tie.Need-mul-offset-2
+mul-offset-2 c = search needs
+
+cast-offset-2 : tie.Need-cast-offset-2
+cast-offset-2 c = search needs
+
+sub-offset : tie.Need-sub-offset
+sub-offset c = offset-fits (c .args .at) (c .args .ahead) (c .args .from) (c .args .to) (c .pre .0) (c .pre .1) (c .pre .2) (c .pre .3)
+
+add-result : tie.Need-add-result
+add-result c = sum-fits (c .args .at) (c .args .ahead) (c .args .from) (c .args .to) (c .pre .0) (c .pre .1) (c .pre .2) (c .pre .3)
+
+returns : tie.Need-returns
+returns c = coordinate-is (c .args .at) (c .args .ahead) (c .args .from) (c .args .to) (c .pre .0) (c .pre .1) (c .pre .2) (c .pre .3)
+
+pub coordinate-spec : {M : Type 1} → statement M
+coordinate-spec =
+    tie.close
+    (tie.spec
+    mul-place
+    cast-place
+    add-place
+    mul-offset
+    cast-offset
+    mul-offset-2
+    cast-offset-2
+    sub-offset
+    add-result
+    returns)

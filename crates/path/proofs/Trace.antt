@@ -1,0 +1,196 @@
+-- The code's arrays follow the search: what a look does to them.
+-- Assumes nothing.
+use Prim.Native.Nat.{ℕ, suc, _+_, _*_, _≤_, _<_}
+use mathlib.Core.Path.{_≡_, refl, ap, sym, _∙_}
+use mathlib.Core.Logic.{_⊎_, inl, inr, _≢_, ⊎-elim}
+use mathlib.Core.Bool.{Bool, true, false}
+use mathlib.Core.List.{List, [], _∷_, _++_}
+use mathlib.Core.Option.{Option, none, some, Option·some-injective, Option·none-ne-some}
+use native.Mathlib.Omega.{arith}
+use native.Mathlib.Numerals.{add-one}
+use borrow.Author.Tests.{eq-eqb, ne-eqb}
+use lib.Dec.{eqb}
+use lib.ListN.{getD, length, set, take, drop, length-set}
+use lib.Seq.{slice, take-suc-set, drop-append-le, length-take-le, getD-set-same, getD-set-other}
+use Rattle.lists.specs.Choice.{both, pick}
+use Rattle.lists.proofs.Cases.{eq-or-ne}
+use Rattle.grid.specs.declared.Direction.{Direction}
+use Rattle.grid.specs.declared.Direction.the-variants.{Up, Down, Left, Right}
+use Rattle.grid.specs.declared.Beyond.{Beyond}
+use Rattle.grid.specs.declared.Beyond.the-variants.{At}
+use Rattle.grid.specs.Grid.{Grid, cells, Cell, Limits, On, goesOn, next, border, stepOf}
+use Rattle.grid.specs.Steps.{Step}
+use Rattle.grid.proofs.Geometry.{goes-step, border-lt, borderCount-le, cells-le}
+use Rattle.borders.specs.Entry.{connectedEntry}
+use Rattle.borders.specs.Border.{stateOf, stateAt, stands}
+use Rattle.path.specs.Path.{Lists, Search, isNew, mark, finds, look, looks, lookAll}
+use Rattle.path.specs.Trace.{blank, Traced, Kept, Looking, Looks, Follows}
+use Rattle.path.proofs.Found.{blank-set, new-none, marked-cases}
+use Rattle.path.proofs.Told.{at-told}
+
+-- one more at the queue's end
+pub slice-more : (f t : ℕ) (q : List ℕ) (x : ℕ) → f ≤ t → t < length q → slice f t q ++ (x ∷ []) ≡ slice f (t + 1) (set q t x)
+slice-more f t q x h l =
+    rw (add-one t, take-suc-set q t x l) (sym (drop-append-le f (take t q) (x ∷ []) (rw (length-take-le t q (omega arith)) h)))
+
+cons-parts : (e e' : ℕ) (p p' : List ℕ) → _≡_ {A = Option (List ℕ)} (some (e ∷ p)) (some (e' ∷ p')) → (e ≡ e') × (p ≡ p')
+cons-parts e e' p p' q = (cc, cc)
+
+module _ (g : Grid) (limits : Limits g) (c : ℕ) (cell : Cell g c) (p : List ℕ) (head : ℕ) (s : Search) (f e q : List ℕ) (t : ℕ) (k : Looking g c p head s f e q t) where
+  small : cells g ≤ 1024
+  small = cells-le g limits
+
+  module _ (x r : ℕ) (xcell : Cell g x) (z : getD (s .found) x none ≡ none) where
+    x-in : x < length (s .found)
+    x-in = omega (arith, k .kept .traced .size)
+
+    -- a found cell is another
+    not-x : (y : ℕ) (v : List ℕ) → getD (s .found) y none ≡ some v → y ≢ x
+    not-x y v w i = Option·none-ne-some v (sym z ∙ ap (λ n. getD (s .found) n none) (sym i) ∙ w)
+
+    fewer : blank (set (s .found) x (some (r ∷ p))) + 1 ≡ blank (s .found)
+    fewer = blank-set (s .found) x (r ∷ p) x-in z
+
+    -- there is a place for x
+    pub place : t < cells g
+    place = omega (arith, fewer, k .kept .room)
+
+    still : (y : ℕ) (v : List ℕ) → getD (s .found) y none ≡ some v → getD (set (s .found) x (some (r ∷ p))) y none ≡ some v
+    still y v w = getD-set-other (s .found) x y (some (r ∷ p)) none (not-x y v w) ∙ w
+
+    traced-mark : Traced g (set (s .found) x (some (r ∷ p))) (set f x c) (set e x r)
+    unfolding isNew
+    traced-mark =
+        let o = k .kept .traced in
+        record {
+          size = length-set (s .found) x (some (r ∷ p)) ∙ o .size;
+          finders-long = simp length-set (o .finders-long);
+          entries-long = simp length-set (o .entries-long);
+          new = λ y l.
+              ⊎-elim
+              (λ (i : y ≡ x).
+              rw (i, getD-set-same (s .found) x (some (r ∷ p)) none x-in, getD-set-same f x c 0 (omega (arith, small, o .finders-long)))
+              (sym (ne-eqb c 1024 (λ (j : c ≡ 1024). omega (arith, small)))))
+              (λ (i : y ≢ x). rw (getD-set-other (s .found) x y (some (r ∷ p)) none i, getD-set-other f x y c 0 i) (o .new y l))
+              (eq-or-ne y x);
+          back = λ y e' p' w.
+              ⊎-elim
+              (λ (i : (y ≡ x) × (some (r ∷ p) ≡ some (e' ∷ p'))).
+              let u = cons-parts r e' p p' (i .1) in
+              rw (i .0, getD-set-same e x r 0 (omega (arith, small, o .entries-long)), getD-set-same f x c 0 (omega (arith, small, o .finders-long)))
+              (u .0, still c p (k .here) ∙ ap some (u .1)))
+              (λ (i : (y ≢ x) × (getD (s .found) y none ≡ some (e' ∷ p'))).
+              let u = o .back y e' p' (i .1) in
+              rw (getD-set-other e x y r 0 (i .0), getD-set-other f x y c 0 (i .0)) (u .0, still (getD f y 0) p' (u .1)))
+              (marked-cases (s .found) x (r ∷ p) x-in y (e' ∷ p') w);
+        }
+
+    pub looking-mark : Looking g c p head (mark x (r ∷ p) s) (set f x c) (set e x r) (set q t x) (t + 1)
+    unfolding mark
+    looking-mark =
+        record {
+          kept = record {
+            traced = traced-mark;
+            queue-long = simp length-set (k .kept .queue-long);
+            order = omega (arith, k .kept .order);
+            waits = rw (k .kept .waits) (slice-more head t q x (k .kept .order) (omega (arith, small, place, k .kept .queue-long)));
+            room = omega (arith, fewer, k .kept .room);
+          };
+          here = still c p (k .here);
+        }
+
+-- A LOOK IN ONE DIRECTION
+
+module _ {g : Grid} {states : List ℕ} {c : ℕ} {f e q : List ℕ} {t : ℕ} (v : Looks g states c f e q t) (d : Direction) where
+  -- what the look leaves in the arrays
+  abbrev pub Looked : List ℕ → List ℕ → List ℕ → ℕ → Type 0
+  Looked f' e' q' t' = Follows g c (λ p s. look g states c p d s) f e q t f' e' q' t'
+
+  nothing : ((p : List ℕ) (head : ℕ) (s : Search) → Looking g c p head s f e q t → finds g states c d s ≡ false) → Looked f e q t
+  unfolding look
+  nothing z p head s k = rw (z p head s k) k
+
+  pub look-end : goesOn g d c ≡ false → Looked f e q t
+  unfolding finds stands
+  look-end z = nothing (λ p head s k. rw z)
+
+  -- x lies beyond the border b
+  module _ {r : Beyond} {x b : ℕ} (is : r ≡ stepOf g d c) (at : r ≡ At x b) where
+    told : (goesOn g d c ≡ true) × (x ≡ next g d c) × (b ≡ border g d c)
+    told = at-told g d c is at
+
+    there : Step g d c x b
+    there = rw (told .1, told .2) (goes-step g d c (v .cell) (told .0))
+
+    pub border-fits : b < length states
+    border-fits = omega (arith, border-lt g d c x b there, v .states-long)
+
+    pub entry-fits : 2 * b < 65536
+    entry-fits = omega (arith, border-lt g d c x b there, borderCount-le g (v .limits))
+
+    pub cell-small : x < 1024
+    cell-small = omega (arith, there .cell', cells-le g (v .limits))
+
+    pub cell-fits : (x < length f) × (x < length e)
+    cell-fits =
+        (omega (arith, cell-small, v .looking .kept .traced .finders-long), omega (arith, cell-small, v .looking .kept .traced .entries-long))
+
+    pub look-apart : stateOf states b ≢ 1 → Looked f e q t
+    unfolding finds stands stateAt
+    look-apart z = nothing (λ p head s k. rw (told .0, ne-eqb (stateOf states (border g d c)) 1 (rw (told .2) at z)))
+
+    -- what the finder says of x in every search that the arrays keep
+    is-new : (p : List ℕ) (head : ℕ) (s : Search) → Looking g c p head s f e q t → isNew (getD (s .found) (next g d c) none) ≡ eqb (getD f x 0) 1024
+    is-new p head s k = rw (← told .1) (k .kept .traced .new x (there .cell'))
+
+    module _ (connected : stateOf states b ≡ 1) where
+      stands-connected : stands g states 1 d c ≡ true
+      unfolding stands stateAt
+      stands-connected = rw (told .0) (eq-eqb (stateOf states (border g d c)) 1 (rw (told .2) at connected))
+
+      pub look-old : getD f x 0 ≢ 1024 → Looked f e q t
+      unfolding finds
+      look-old z = nothing (λ p head s k. rw (stands-connected, is-new p head s k, ne-eqb (getD f x 0) 1024 z))
+
+      module _ (new : getD f x 0 ≡ 1024) where
+        x-none : (p : List ℕ) (head : ℕ) (s : Search) → Looking g c p head s f e q t → getD (s .found) x none ≡ none
+        x-none p head s k = new-none _ (k .kept .traced .new x (there .cell') ∙ eq-eqb (getD f x 0) 1024 new)
+
+        pub queue-fits : t < length q
+        queue-fits =
+            let k = v .looking in
+            omega (arith, cells-le g (v .limits), k .kept .queue-long, place g (v .limits) c (v .cell) (v .p) (v .head) (v .s) f e q t k x b (there .cell') (x-none (v .p) (v .head) (v .s) k))
+
+        pub look-new : Looked (set f x c) (set e x (2 * b)) (set q t x) (t + 1)
+        unfolding look finds
+        look-new p head s k =
+            rw (stands-connected, is-new p head s k, eq-eqb (getD f x 0) 1024 new, ← told .1, ← told .2)
+            (looking-mark g (v .limits) c (v .cell) p head s f e q t k x (2 * b) (there .cell') (x-none p head s k))
+
+-- A LOOK ROUND
+
+module _ {g : Grid} {states : List ℕ} {c : ℕ} {f e q : List ℕ} {t : ℕ} (v : Looks g states c f e q t) where
+  pub tail-small : t ≤ 1024
+  tail-small = omega (arith, v .looking .kept .room, cells-le g (v .limits))
+
+  -- after a look there can be another
+  pub looks-on : {after : List ℕ → Search → Search} {f' e' q' : List ℕ} {t' : ℕ} → Follows g c after f e q t f' e' q' t' → Looks g states c f' e' q' t'
+  looks-on {after} w =
+      record {
+        limits = v .limits;
+        cell = v .cell;
+        states-long = v .states-long;
+        p = v .p;
+        head = v .head;
+        s = after (v .p) (v .s);
+        looking = w (v .p) (v .head) (v .s) (v .looking);
+      }
+
+  pub look-four : {f1 e1 q1 f2 e2 q2 f3 e3 q3 f4 e4 q4 : List ℕ} {t1 t2 t3 t4 : ℕ} → Looked v Up f1 e1 q1 t1
+      → Follows g c (λ p s. look g states c p Down s) f1 e1 q1 t1 f2 e2 q2 t2
+      → Follows g c (λ p s. look g states c p Left s) f2 e2 q2 t2 f3 e3 q3 t3
+      → Follows g c (λ p s. look g states c p Right s) f3 e3 q3 t3 f4 e4 q4 t4
+      → Follows g c (λ p s. lookAll g states c p s) f e q t f4 e4 q4 t4
+  unfolding lookAll looks
+  look-four up down left right p head s k =
+      right p head _ (left p head _ (down p head _ (up p head s k)))
