@@ -30,7 +30,8 @@ use Rattle.shape.proofs.Agreement.{shape-agrees}
 use Rattle.shape.proofs.Theorems as shape
 use Rattle.puzzle.specs.declared.Check.{Check}
 use Rattle.puzzle.specs.declared.Check.the-variants.{Shape, Room}
-use Rattle.puzzle.specs.Stub.{Graph, roomFault, connectedParts}
+use Rattle.room_parts.specs.Graph.{Graph, connectedParts}
+use Rattle.puzzle.specs.Stub.{roomFault}
 use Rattle.puzzle.specs.Rooms.{roomIds, roomCount, roomCells, clued, clueOf}
 use Rattle.puzzle.specs.RoomGraph.{Spot, inRoom, spots, roomBorders, roomGraph, edgeState, onBoard}
 use Rattle.puzzle.specs.Fault.{Found, found, roomCheck, faultOf}

@@ -3,7 +3,6 @@ pub mod Making
 pub mod Answers
 pub mod Reached
 pub mod Places
-pub mod Stub
 pub mod RoomCheck
 pub mod RoomLaws
 pub mod RoomUnits

@@ -20,8 +20,9 @@ use Rattle.borders.specs.Entry.{connectedEntry, wallEntry, Stands, Standing}
 use Rattle.borders.proofs.EntryLaws.{stands-wall, wall-stands, stands-connected, connected-stands}
 use Rattle.borders.proofs.Congruence.{gather-same}
 use Rattle.boundary.proofs.Lengths.{when-most, gather-most}
-use Rattle.puzzle.specs.Stub.{Graph, isConnected, notWall, partsIf, connectedParts, joinedParts, tippedOf, entriesOf, roomFault}
-use Rattle.puzzle.proofs.Stub.{parts-fewer}
+use Rattle.room_parts.specs.Graph.{Graph, isConnected, notWall, partsIf, connectedParts, joinedParts, tippedOf}
+use Rattle.puzzle.specs.Stub.{entriesOf, roomFault}
+use Rattle.room_parts.proofs.EdgeLaws.{parts-fewer}
 
 -- ENTRIES
 module _ (entry : ℕ → ℕ) (k m : ℕ) (s : ℕ → ℕ) where

@@ -25,11 +25,11 @@ use Rattle.parts.specs.Parts.{Edge, Has, Joined, same, over, back, then, root, 
 use Rattle.parts.proofs.PartLaws.{root-le, to-root, root-least, joined-root, root-root, root-joined}
 use Rattle.groups.specs.Groups.{edgesOver}
 use Rattle.groups.proofs.GroupLaws.{Passing, joined-chain, chain-joined}
-use Rattle.puzzle.specs.Stub.{Graph, isConnected, edgesIf, partsIf, connectedParts}
+use Rattle.room_parts.specs.Graph.{Graph, isConnected, edgesIf, partsIf, connectedParts}
 use Rattle.puzzle.specs.Rooms.{isGiven, roomIds, roomCells}
 use Rattle.puzzle.specs.RoomGraph.{Spot, spots, roomBorders, place, roomGraph, edgeState}
 use Rattle.puzzle.specs.Laws.{InRoom, GivenWalls, HoldsUnits}
-use Rattle.puzzle.proofs.Stub.{Passes, in-edges, edges-in}
+use Rattle.room_parts.proofs.EdgeLaws.{Passes, in-edges, edges-in}
 use Rattle.puzzle.proofs.Basics.{map-at}
 use Rattle.puzzle.proofs.Places.{at-place, place-at, in-map, map-in, Rising, cells-rising, kept-rising, place-of, rising-place, once, no-longer}
 use Rattle.puzzle.proofs.RoomLaws.{same-room, in-room-cells, room-cells-in, Inside, spot-inside, inside-spot}

@@ -12,7 +12,7 @@ use Rattle.grid.specs.declared.Direction.the-variants.{Down, Right}
 use Rattle.grid.specs.Grid.{Grid, goesOn, next, border}
 use Rattle.boundary.specs.Boundary.{ahead}
 use Rattle.groups.specs.Groups.{cellsOf}
-use Rattle.puzzle.specs.Stub.{Graph, graph}
+use Rattle.room_parts.specs.Graph.{Graph, graph}
 use Rattle.puzzle.specs.Rooms.{isGiven}
 
 -- a border, told from its upper or left cell
