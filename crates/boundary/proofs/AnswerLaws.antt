@@ -1,28 +1,33 @@
 -- What the code's tests make of the answer and the buffer.
 -- Assumes nothing.
-use Prim.Native.Nat.{ℕ, _+_, _-_, _*_, _≤_, _<_}
+use Prim.Native.Nat.{ℕ, _+_, _*_, _≤_, _<_}
 use mathlib.Core.Path.{_≡_, refl, ap, sym, _∙_}
-use mathlib.Core.Logic.{_≢_}
+use mathlib.Core.Logic.{_≢_, ⊎-elim}
 use mathlib.Core.Bool.{Bool, true, false}
-use mathlib.Core.List.{List}
+use mathlib.Core.List.{List, _++_}
 use native.Mathlib.Omega.{arith}
 use borrow.Author.Tests.{lt-ltb, le-ltb, le-leb, lt-leb, ne-eqb}
-use lib.ListN.{length, take, drop}
-use Rattle.grid.specs.Grid.{Grid, cells, borderCount}
-use Rattle.grid.proofs.Geometry.{borderCount-le}
+use lib.Dec.{eqb}
+use lib.ListN.{length, take, drop, length-replicate}
+use lib.Seq.{length-sets, sets-eq, take-append-seam}
+use Rattle.lists.specs.Choice.{pick}
+use Rattle.lists.proofs.Cases.{eq-or-ne}
+use Rattle.grid.specs.Grid.{Grid, Limits, cells}
+use Rattle.grid.proofs.Geometry.{cells-le, borderCount-le}
 use Rattle.board.specs.declared.Board.{Board}
 use Rattle.board.specs.Board.{sizeOf, boardCode}
 use Rattle.board.proofs.Laws.{board-ready}
+use Rattle.groups.specs.declared.GroupInfo.{GroupInfo}
+use Rattle.groups.specs.declared.Grouping.{Grouping}
 use Rattle.groups.specs.Groups.{groupIds, groupCount}
-use Rattle.groups.specs.Floods.{Fits}
+use Rattle.groups.specs.Info.{blankPlaces, grouping, zeroInfo, infoOf, groupingCode, groupingOf, bufferOf, handOutOf}
 use Rattle.groups.proofs.EdgeLaws.{ids-length}
+use Rattle.groups.proofs.Theorems.{grouping-hand-out}
 use Rattle.boundary.specs.declared.BoundaryAnswer.the-variants.{Listed}
 use Rattle.boundary.specs.Listing.{boundary, Listable}
 use Rattle.boundary.specs.Appended.{Appended}
-use Rattle.boundary.specs.Handed.{Handed}
-use Rattle.boundary.specs.Answer.{Outcome, refused, listed, answerOf, written, groupOutcome, boundaryOutcome}
+use Rattle.boundary.specs.Answer.{Outcome, refused, listed, answerOf, written, boundaryOutcome}
 use Rattle.boundary.proofs.BoundaryLaws.{unit-most, potential-most, cells-most}
-use Rattle.boundary.proofs.GroupParts.{Part, ids-front}
 
 -- answer and buffer go by the outcome
 pub told : (o o' : Outcome) (buffer : List ℕ) → o' ≡ o → (answerOf o ≡ answerOf o') × (written o buffer ≡ written o' buffer)
@@ -33,52 +38,99 @@ boundary-most : (g : Grid) (states ids : List ℕ) (potential : Bool) (k : ℕ) 
 boundary-most g states ids true k = omega (arith, potential-most g states ids k, cells-most g ids k)
 boundary-most g states ids false k = omega (arith, unit-most g states ids k, cells-most g ids k)
 
--- QUESTIONS 3 AND 6, of a grouped board
-module _ {g : Grid} {st : List ℕ} {p : Bool} {ids starts flat : List ℕ} {count : ℕ} (h : Handed g st p ids starts flat count) (k room : ℕ) where
-  pub no-group : count ≤ k → groupOutcome g st p k room ≡ refused 3
-  no-group l = rw (le-ltb k (groupCount g st p) (omega (arith, h .grouped .count-is)))
+-- a grouping with room for every board is refused exactly as the board is
+code-is : (b : Board) (places : ℕ) → 1024 ≤ places → groupingCode b places ≡ boardCode b
+code-is b places h =
+    ⊎-elim
+    (λ (z : boardCode b ≡ 0). rw (z, le-leb (cells (sizeOf b)) places (omega (arith, cells-le (sizeOf b) (board-ready b (boardCode b) refl z .limits)))))
+    (λ (z : boardCode b ≢ 0). rw (ne-eqb (boardCode b) 0 z))
+    (eq-or-ne (boardCode b) 0)
 
-  module _ (l : k < count) where
-    named : k < groupCount g st p
-    named = omega (arith, h .grouped .count-is)
+code-of : (n : ℕ) (i z : GroupInfo) → pick (eqb n 0) (grouping 0 i) (grouping n z) .code ≡ n
+code-of n i z = ⊎-elim (λ (q : n ≡ 0). rw q) (λ (q : n ≢ 0). rw (ne-eqb n 0 q)) (eq-or-ne n 0)
 
-    pub short-buffer : room < 9 * cells g → groupOutcome g st p k room ≡ refused 6
-    short-buffer m = rw (lt-ltb k (groupCount g st p) named, lt-leb (9 * cells g) room m)
+info-of : (n : ℕ) (i z : GroupInfo) → n ≡ 0 → pick (eqb n 0) (grouping 0 i) (grouping n z) .info ≡ i
+info-of n i z q = rw q
 
-    pub group-listed : 9 * cells g ≤ room → groupOutcome g st p k room ≡ listed (boundary g st (groupIds g st p) p k)
-    group-listed m = rw (lt-ltb k (groupCount g st p) named, le-leb (9 * cells g) room m)
+-- what the grouping answered, whose cells went to a slice that held `flat` before
+pub record Made (b : Board) (p : Bool) (flat : List ℕ) (made : Grouping) : Type 0 where
+  pub long : 1024 ≤ length flat
+  pub is : made ≡ groupingOf b p (length flat)
 
-module _ {g : Grid} {st : List ℕ} {p : Bool} {ids starts flat : List ℕ} {count : ℕ} (h : Handed g st p ids starts flat count) (k : ℕ) where
-  pub listable : {a e : ℕ} → Part g (groupIds g st p) flat k a e → {buffer : List ℕ} → 9 * cells g ≤ length buffer
-      → Listable g st (take (cells g) ids) (take (e - a) (drop a flat)) p k buffer 0
-  listable o m =
-      rw
-      (ids-front h)
-      (record {
-        lent = record { limits = h .fits .limits; states-long = h .fits .borders; ids-long = omega (arith, ids-length g st p) };
-        cells-are = o .has;
-        room = omega (arith, boundary-most g st (groupIds g st p) p k);
-      })
+module _ {b : Board} {p : Bool} {flat : List ℕ} {made : Grouping} (o : Made b p flat made) where
+  code : made .code ≡ boardCode b
+  code = ap (λ (m : Grouping). m .code) (o .is) ∙ code-of (groupingCode b (length flat)) (infoOf (sizeOf b) (b .states) p) zeroInfo ∙ code-is b (length flat) (o .long)
 
-  pub group-written : k < count → {buffer buffer' : List ℕ} {r : ℕ} → 9 * cells g ≤ length buffer
-      → Appended buffer 0 (boundary g st (take (cells g) ids) p k) buffer' r
-      → (Listed r ≡ answerOf (groupOutcome g st p k (length buffer))) × (buffer' ≡ written (groupOutcome g st p k (length buffer)) buffer)
-  group-written l {buffer} {buffer'} {r} m a =
-      let xs = boundary g st (groupIds g st p) p k in
-      let b : Appended buffer 0 xs buffer' r = rw (ids-front h) at a in
-      let n : r ≡ length xs = omega (arith, b .place) in
-      let q = group-listed h k (length buffer) l m in
-      (rw (q, n), rw q (b .stored))
+  pub board-refused : (k room : ℕ) → made .code ≢ 0 → boundaryOutcome b p k room ≡ refused (made .code)
+  board-refused k room z = rw (← code, ne-eqb (made .code) 0 z)
 
--- QUESTIONS 1 AND 2
-module _ (b : Board) {code : ℕ} (q : code ≡ boardCode b) (p : Bool) (k room : ℕ) where
-  pub board-refused : code ≢ 0 → boundaryOutcome b p k room ≡ refused code
-  board-refused z = rw (← q, ne-eqb code 0 z)
+  module _ (z : made .code ≡ 0) where
+    pub board-limits : Limits (sizeOf b)
+    board-limits = board-ready b (made .code) code z .limits
 
-  pub board-passed : code ≡ 0 → boundaryOutcome b p k room ≡ groupOutcome (sizeOf b) (b .states) p k room
-  board-passed z = rw (← q, z)
+    whole : boardCode b ≡ 0
+    whole = sym code ∙ z
 
-pub board-fits : (b : Board) {code : ℕ} → code ≡ boardCode b → code ≡ 0 → length (b .states) ≡ 1984 → Fits (sizeOf b) (b .states)
-board-fits b {code} q z long =
-    let l = board-ready b code q z .limits in
-    record { limits = l; borders = omega (arith, borderCount-le (sizeOf b) l) }
+    accepted : groupingCode b (length flat) ≡ 0
+    accepted = code-is b (length flat) (o .long) ∙ whole
+
+    info-is : made .info ≡ infoOf (sizeOf b) (b .states) p
+    info-is = ap (λ (m : Grouping). m .info) (o .is) ∙ info-of (groupingCode b (length flat)) (infoOf (sizeOf b) (b .states) p) zeroInfo accepted
+
+    count-is : made .info .count ≡ groupCount (sizeOf b) (b .states) p
+    count-is = ap (λ (i : GroupInfo). i .count) info-is
+
+    -- questions 3 and 6
+    module _ (k room : ℕ) where
+      pub no-group : made .info .count ≤ k → boundaryOutcome b p k room ≡ refused 3
+      no-group l = rw (whole, le-ltb k (groupCount (sizeOf b) (b .states) p) (omega (arith, count-is)))
+
+      module _ (l : k < made .info .count) where
+        named : k < groupCount (sizeOf b) (b .states) p
+        named = omega (arith, count-is)
+
+        pub short-buffer : room < 9 * cells (sizeOf b) → boundaryOutcome b p k room ≡ refused 6
+        short-buffer m = rw (whole, lt-ltb k (groupCount (sizeOf b) (b .states) p) named, lt-leb (9 * cells (sizeOf b)) room m)
+
+        group-listed : 9 * cells (sizeOf b) ≤ room → boundaryOutcome b p k room ≡ listed (boundary (sizeOf b) (b .states) (groupIds (sizeOf b) (b .states) p) p k)
+        group-listed m = rw (whole, lt-ltb k (groupCount (sizeOf b) (b .states) p) named, le-leb (9 * cells (sizeOf b)) room m)
+
+    -- the numbers of the cells' groups, at the front of the record's array
+    ids-front : take (cells (sizeOf b)) (made .info .ids) ≡ groupIds (sizeOf b) (b .states) p
+    unfolding blankPlaces
+    ids-front =
+        let I = groupIds (sizeOf b) (b .states) p in
+        let n : length I ≡ cells (sizeOf b) = ids-length (sizeOf b) (b .states) p in
+        let q : made .info .ids ≡ I ++ drop (0 + length I) blankPlaces =
+        ap (λ (i : GroupInfo). i .ids) info-is ∙ sets-eq I blankPlaces 0 (omega (arith, cells-le (sizeOf b) board-limits, length-replicate {A = ℕ} 1024 0)) in
+        rw (← n, q) (take-append-seam I (drop (0 + length I) blankPlaces))
+
+    pub ids-size : cells (sizeOf b) ≡ length (take (cells (sizeOf b)) (made .info .ids))
+    ids-size = sym (ap length ids-front ∙ ids-length (sizeOf b) (b .states) p)
+
+    pub ids-long : cells (sizeOf b) ≤ length (made .info .ids)
+    unfolding blankPlaces
+    ids-long =
+        let q : length (made .info .ids) ≡ 1024 = ap (λ (i : GroupInfo). length (i .ids)) info-is ∙ simp length-sets (length-replicate {A = ℕ} 1024 0) in
+        omega (arith, cells-le (sizeOf b) board-limits)
+
+    module _ (k : ℕ) (l : k < made .info .count) {buffer : List ℕ} (m : 9 * cells (sizeOf b) ≤ length buffer) where
+      pub listable : length (b .states) ≡ 1984 → {flat' cs : List ℕ} → flat' ≡ bufferOf b p flat → cs ≡ handOutOf (made .info) flat' k
+          → Listable (sizeOf b) (b .states) (take (cells (sizeOf b)) (made .info .ids)) cs p k buffer 0
+      listable size f q =
+          rw
+          ids-front
+          (record {
+            lent = record { limits = board-limits; states-long = omega (arith, borderCount-le (sizeOf b) board-limits); ids-long = omega (arith, ids-length (sizeOf b) (b .states) p) };
+            cells-are = q ∙ rw (f, o .is) (grouping-hand-out b p flat k accepted (named k (length buffer) l));
+            room = omega (arith, boundary-most (sizeOf b) (b .states) (groupIds (sizeOf b) (b .states) p) p k);
+          })
+
+      pub group-written : {buffer' : List ℕ} {r : ℕ} → Appended buffer 0 (boundary (sizeOf b) (b .states) (take (cells (sizeOf b)) (made .info .ids)) p k) buffer' r
+          → (Listed r ≡ answerOf (boundaryOutcome b p k (length buffer))) × (buffer' ≡ written (boundaryOutcome b p k (length buffer)) buffer)
+      group-written {buffer'} {r} a =
+          let xs = boundary (sizeOf b) (b .states) (groupIds (sizeOf b) (b .states) p) p k in
+          let w : Appended buffer 0 xs buffer' r = rw ids-front at a in
+          let n : r ≡ length xs = omega (arith, w .place) in
+          let q = group-listed k (length buffer) l m in
+          (rw (q, n), rw q (w .stored))

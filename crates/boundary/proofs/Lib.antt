@@ -3,5 +3,4 @@ pub mod BoundaryLaws
 pub mod Agreement
 pub mod AppendLaws
 pub mod ListingLaws
-pub mod GroupParts
 pub mod AnswerLaws

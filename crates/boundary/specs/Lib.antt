@@ -7,5 +7,3 @@ pub mod Examples
 pub mod Appended
 pub mod Listing
 pub mod Answer
-pub mod Tmp
-pub mod Handed

@@ -8,9 +8,7 @@ ghost use Rattle.lists.specs.Lists.{gather};
 ghost use Rattle.grid.specs.Grid.{grid};
 ghost use Rattle.boundary.specs.Listing.{lists as listsOf, entryOf, listedAt, listedOf, boundary as boundaryOf, Ready, Listable};
 ghost use Rattle.boundary.specs.Appended.{Appended};
-ghost use Rattle.boundary.specs.Handed.{Handed};
-ghost use Rattle.boundary.specs.Answer.{answerOf, written, groupOutcome, boundaryOutcome};
-ghost use Rattle.boundary.specs.Tmp.{endOf};
+ghost use Rattle.boundary.specs.Answer.{answerOf, written, boundaryOutcome};
 use board::Board;
 use grid::Beyond;
 use grid::Direction;
@@ -184,50 +182,38 @@ pub fn append_boundary<'a>(
     n
 }
 
-pub fn end_of(starts: &[u16], count: usize, n: usize, group: usize) -> usize
-    requires { ⌜ (group < count) × (count ≤ length (now starts)) ⌝ }
-    ensures { λ r. ⌜ r ≡ endOf n count (now (starts .entry)) group ⌝ }
-{
-    let next = group + 1;
-    if next < count {
-        return wide(starts[next]);
-    }
-    n
-}
-
-// Questions 3 and 6, then the list of a group of a grouped board.
-fn list_group<'a>(
-    states: &'a [u8],
-    ids: &'a [u16],
-    starts: &'a [u16],
-    flat: &'a [u16],
-    count: usize,
-    height: usize,
-    width: usize,
+// Groups the board, and writes the list of one of its units or potential units. `flat` is lent for the cells of all groups.
+fn reason(
+    b: Board,
     is_potential: bool,
     group: usize,
+    flat: &mut [u16],
     buffer: &mut [u16],
 ) -> BoundaryAnswer
-    requires { ⌜ Handed (grid height width) (now states) «is_potential» (now ids) (now starts) (now flat) count ⌝ }
-    ensures { λ r. ⌜ r ≡ answerOf (groupOutcome (grid height width) (now (states .entry)) «is_potential» group (length (now (buffer .entry)))) ⌝ }
-    ensures { λ _.
-        ⌜ now (buffer .exit) ≡ written (groupOutcome (grid height width) (now (states .entry)) «is_potential» group (length (now (buffer .entry)))) (now (buffer .entry)) ⌝ }
+    requires { ⌜ 1024 ≤ length (now flat) ⌝ }
+    ensures { λ r. ⌜ r ≡ answerOf (boundaryOutcome b «is_potential» group (length (now (buffer .entry)))) ⌝ }
+    ensures { λ _. ⌜ now (buffer .exit) ≡ written (boundaryOutcome b «is_potential» group (length (now (buffer .entry)))) (now (buffer .entry)) ⌝ }
 {
-    if count <= group {
+    let made = groups::compute_connected_components(b, is_potential, flat);
+    if made.code != 0 {
+        return BoundaryAnswer::Refused(made.code);
+    }
+    let info = made.info;
+    if info.count <= group {
         return BoundaryAnswer::Refused(3);
     }
-    let n = height * width;
+    let n = b.height * b.width;
     if buffer.len() < 9 * n {
         return BoundaryAnswer::Refused(6);
     }
-    let from = wide(starts[group]);
-    let to = end_of(starts, count, n, group);
+    let cells = groups::group(info, flat, group);
+    let ids = info.ids;
     BoundaryAnswer::Listed(append_boundary(
-        states,
+        &b.states,
         &ids[..n],
-        &flat[from..to],
-        height,
-        width,
+        cells,
+        b.height,
+        b.width,
         is_potential,
         group,
         buffer,
@@ -235,54 +221,24 @@ fn list_group<'a>(
     ))
 }
 
-// Questions 1 and 2, then the board is grouped.
-fn reason(b: Board, is_potential: bool, group: usize, buffer: &mut [u16]) -> BoundaryAnswer
-    ensures { λ r. ⌜ r ≡ answerOf (boundaryOutcome b «is_potential» group (length (now (buffer .entry)))) ⌝ }
-    ensures { λ _. ⌜ now (buffer .exit) ≡ written (boundaryOutcome b «is_potential» group (length (now (buffer .entry)))) (now (buffer .entry)) ⌝ }
-{
-    let code = board::check(b);
-    if code != 0 {
-        return BoundaryAnswer::Refused(code);
-    }
-    let states = b.states;
-    let mut ids = [0u16; 1024];
-    let mut starts = [0u16; 1024];
-    let mut flat = [0u16; 1024];
-    let count = groups::groups_of(
-        &states,
-        b.height,
-        b.width,
-        is_potential,
-        &mut ids,
-        &mut starts,
-        &mut flat,
-    );
-    list_group(
-        &states,
-        &ids,
-        &starts,
-        &flat,
-        count,
-        b.height,
-        b.width,
-        is_potential,
-        group,
-        buffer,
-    )
-}
-
 // The list of a unit: its Connected borders, and the Walls of its cells.
 pub fn reason_for_unit_and_its_boundary(b: Board, unit: usize, buffer: &mut [u16]) -> BoundaryAnswer
     ensures { λ r. ⌜ r ≡ answerOf (boundaryOutcome b false unit (length (now (buffer .entry)))) ⌝ }
     ensures { λ _. ⌜ now (buffer .exit) ≡ written (boundaryOutcome b false unit (length (now (buffer .entry)))) (now (buffer .entry)) ⌝ }
 {
-    reason(b, false, unit, buffer)
+    let mut flat = [0u16; 1024];
+    reason(b, false, unit, &mut flat, buffer)
 }
 
 // The list of a potential unit: the Walls that part it from others.
-pub fn reason_for_potential_unit_boundary(b: Board, unit: usize, buffer: &mut [u16]) -> BoundaryAnswer
+pub fn reason_for_potential_unit_boundary(
+    b: Board,
+    unit: usize,
+    buffer: &mut [u16],
+) -> BoundaryAnswer
     ensures { λ r. ⌜ r ≡ answerOf (boundaryOutcome b true unit (length (now (buffer .entry)))) ⌝ }
     ensures { λ _. ⌜ now (buffer .exit) ≡ written (boundaryOutcome b true unit (length (now (buffer .entry)))) (now (buffer .entry)) ⌝ }
 {
-    reason(b, true, unit, buffer)
+    let mut flat = [0u16; 1024];
+    reason(b, true, unit, &mut flat, buffer)
 }
