@@ -20,7 +20,7 @@ use Rattle.puzzle.specs.declared.Puzzle.{Puzzle}
 use Rattle.puzzle.specs.declared.Check.{Check}
 use Rattle.puzzle.specs.declared.Answer.{Answer}
 use Rattle.puzzle.specs.declared.Answer.the-variants.{Clear, Fault, Refused}
-use Rattle.puzzle.specs.Rooms.{isGiven}
+use Rattle.rooms.specs.Rooms.{isGiven}
 use Rattle.puzzle.specs.Fault.{Found, faultOf}
 use Rattle.puzzle.specs.Puzzle.{statesOf, freshPuzzle, gridOf, givenOf, cluesOf, onto, puzzleCode, faultIn, askCode, says, writes, Asked, askOf}
 use Rattle.puzzle.specs.Demand3.{Long, lengthOf, listOf, listIn, Gives, IsFault}

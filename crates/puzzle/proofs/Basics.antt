@@ -1,4 +1,4 @@
--- Small laws: membership among the given walls, rising lists, states by a function, and a list put in front of an array.
+-- Small laws: rising lists, states by a function, and a list put in front of an array.
 -- Assumes nothing.
 use Prim.Native.Nat.{ℕ, zero, suc, _+_, _≤_, _<_}
 use mathlib.Core.Path.{_≡_, refl, ap, sym, _∙_}
@@ -14,17 +14,8 @@ use Rattle.lists.specs.Choice.{both}
 use Rattle.lists.specs.Lists.{range, In, any}
 use Rattle.lists.proofs.ChoiceLaws.{both-true}
 use Rattle.lists.proofs.ListLaws.{any-true, true-any, range-length, range-at}
-use Rattle.puzzle.specs.Rooms.{isGiven}
+use Rattle.rooms.proofs.Places.{map-at}
 use Rattle.puzzle.specs.Puzzle.{rises, statesOf}
-
--- GIVEN WALLS
-pub given-in : (given : List ℕ) (e : ℕ) → isGiven given e ≡ true → In e given
-unfolding isGiven
-given-in given e q = let o = any-true (eqb e) given q in rw (eqb-true e (o .0) (o .2)) (o .1)
-
-pub in-given : (given : List ℕ) (e : ℕ) → In e given → isGiven given e ≡ true
-unfolding isGiven
-in-given given e m = true-any (eqb e) given e m (eq-eqb e e refl)
 
 -- RISING LISTS
 rises-tail : (x : ℕ) (l : List ℕ) → rises (x ∷ l) ≡ true → rises l ≡ true
@@ -51,11 +42,6 @@ sets-length l vs h = rw (sets-eq vs l 0 (omega arith)) (take-append-seam vs (dro
 pub states-length : (n : ℕ) (s : ℕ → ℕ) → length (statesOf n s) ≡ n
 unfolding statesOf
 states-length n s = simp length-map (range-length n)
-
-pub map-at : (s : ℕ → ℕ) (l : List ℕ) (e : ℕ) → e < length l → getD (map s l) e 0 ≡ s (getD l e 0)
-map-at s [] e h = omega arith
-map-at s (x ∷ l) zero h = refl
-map-at s (x ∷ l) (suc e) h = map-at s l e (omega arith)
 
 pub states-at : (n : ℕ) (s : ℕ → ℕ) (e : ℕ) → e < n → getD (statesOf n s) e 0 ≡ s e
 unfolding statesOf

@@ -20,9 +20,10 @@ use Rattle.ledger.proofs.Standing.{Sound, standing-named, standing-given}
 use Rattle.puzzle.specs.declared.Puzzle.{Puzzle}
 use Rattle.puzzle.specs.declared.Made.{Made}
 use Rattle.puzzle.specs.declared.Answer.the-variants.{Clear, Fault}
-use Rattle.puzzle.specs.Rooms.{isGiven}
+use Rattle.rooms.specs.Rooms.{isGiven}
 use Rattle.puzzle.specs.Fault.{Found, faultOf}
-use Rattle.puzzle.specs.Laws.{GivenWalls, RightBoard}
+use Rattle.rooms.specs.Units.{GivenWalls}
+use Rattle.puzzle.specs.Laws.{RightBoard}
 use Rattle.puzzle.specs.Puzzle.{statesOf, freshPuzzle, makeOf, says, Asked, askOf}
 use Rattle.puzzle.specs.Run.{Call, run, Reply, coded, replies, ledgerAfter, stateAfter}
 use Rattle.puzzle.specs.Demand3.{Long, listOf, listIn, Alike, Gives, IsFault, OrderOf, decideAs, freshOf, after, Demand3}

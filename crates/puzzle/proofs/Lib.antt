@@ -2,10 +2,6 @@ pub mod Basics
 pub mod Making
 pub mod Answers
 pub mod Reached
-pub mod Places
-pub mod RoomCheck
-pub mod RoomLaws
-pub mod RoomUnits
 pub mod FaultLaws
 pub mod Asks
 pub mod Orders

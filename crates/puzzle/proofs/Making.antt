@@ -23,9 +23,10 @@ use Rattle.board.specs.Board.{zeros}
 use Rattle.board.proofs.Laws.{zeros-length}
 use Rattle.puzzle.specs.declared.Puzzle.{Puzzle}
 use Rattle.puzzle.specs.declared.Made.{Made}
-use Rattle.puzzle.specs.Rooms.{isGiven, roomEdges, roomCount, roomCells, clued, clueOf}
+use Rattle.rooms.specs.Rooms.{isGiven, roomEdges, roomCount, roomCells, clued, clueOf}
 use Rattle.puzzle.specs.Puzzle.{exist, rises, oneEach, fitsRoom, cluesFit, listsCode, noClues, freshPuzzle, zeroPuzzle, answer, makeCode, makeOf, givenOf, cluesOf}
-use Rattle.puzzle.proofs.Basics.{given-in, rises-length, sets-length}
+use Rattle.rooms.proofs.RoomLaws.{given-in}
+use Rattle.puzzle.proofs.Basics.{rises-length, sets-length}
 
 -- lists that questions 3, 7, 8 and 9 accept
 pub record Fit (g : Grid) (given clues : List ℕ) : Type 0 where

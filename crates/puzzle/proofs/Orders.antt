@@ -20,7 +20,7 @@ use Rattle.ledger.proofs.Standing.{standing-named}
 use Rattle.borders.specs.Entry.{Stands, Standing}
 use Rattle.puzzle.specs.declared.Puzzle.{Puzzle}
 use Rattle.puzzle.specs.declared.Made.{Made}
-use Rattle.puzzle.specs.Rooms.{isGiven}
+use Rattle.rooms.specs.Rooms.{isGiven}
 use Rattle.puzzle.specs.Puzzle.{freshPuzzle, onto, decideOf}
 use Rattle.puzzle.specs.Run.{Call, decide, puzzleAfter, Reply, coded, replyTo, replies, onLedger}
 use Rattle.puzzle.specs.Demand3.{decideAs}

@@ -26,7 +26,7 @@ use Rattle.board.specs.Board.{zeros, sizeOf, bordersOf, namesOf, placed, taken}
 use Rattle.board.proofs.Laws.{zeros-length}
 use Rattle.puzzle.specs.declared.Puzzle.{Puzzle}
 use Rattle.puzzle.specs.declared.Made.{Made}
-use Rattle.puzzle.specs.Rooms.{isGiven}
+use Rattle.rooms.specs.Rooms.{isGiven}
 use Rattle.puzzle.specs.Puzzle.{listsCode, freshState, freshPuzzle, answer, gridOf, givenOf, cluesOf, together, puzzleCode, asked, onto, decideOf, undoOf}
 use Rattle.puzzle.specs.Run.{Call, decide, undo, ask, puzzleAfter, run, onLedger, ledgerAfter}
 use Rattle.puzzle.proofs.Basics.{states-length, states-at}

@@ -17,7 +17,7 @@ use Rattle.puzzle.specs.declared.Puzzle.{Puzzle}
 use Rattle.puzzle.specs.declared.Check.{Check}
 use Rattle.puzzle.specs.declared.Answer.{Answer}
 use Rattle.puzzle.specs.declared.Answer.the-variants.{Clear, Fault, Refused}
-use Rattle.puzzle.specs.Rooms.{isGiven}
+use Rattle.rooms.specs.Rooms.{isGiven}
 use Rattle.puzzle.specs.Fault.{Found, faultOf}
 use Rattle.puzzle.specs.Laws.{RightBoard}
 use Rattle.puzzle.specs.Puzzle.{statesOf, makeOf, says, Asked, askOf}

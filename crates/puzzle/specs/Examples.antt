@@ -15,7 +15,7 @@ use Rattle.puzzle.specs.declared.Check.the-variants.{Shape, Room}
 use Rattle.puzzle.specs.declared.Answer.{Answer}
 use Rattle.puzzle.specs.declared.Answer.the-variants.{Clear, Fault, Refused}
 use Rattle.room_parts.specs.Graph.{graph, statesIn}
-use Rattle.puzzle.specs.Stub.{roomFault}
+use Rattle.rooms.specs.Stub.{roomFault}
 use Rattle.puzzle.specs.Fault.{faultOf}
 use Rattle.puzzle.specs.Puzzle.{listsCode, together, noClues, statesOf, Asked, askOf}
 use Rattle.puzzle.specs.Run.{Call, decide, undo, ask, coded, asked, run, replies}

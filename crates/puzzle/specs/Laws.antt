@@ -4,30 +4,11 @@ use Prim.Native.Nat.{ℕ, _<_}
 use mathlib.Core.Path.{_≡_}
 use mathlib.Core.Bool.{true}
 use mathlib.Core.List.{List}
-use lib.ListN.{length, getD}
-use Rattle.lists.specs.Lists.{In}
-use Rattle.frame.specs.Frame.{States, SameUnit}
-use Rattle.grid.specs.Grid.{Grid, Cell}
-use Rattle.grid.specs.Steps.{Neighbours}
+use Rattle.frame.specs.Frame.{States}
+use Rattle.grid.specs.Grid.{Grid}
 use Rattle.shape.specs.Laws.{RightShape}
-use Rattle.puzzle.specs.Rooms.{isGiven, roomIds, roomCount, clued, clueOf}
-
--- cell c is in room r
-pub record InRoom (g : Grid) (given : List ℕ) (r c : ℕ) : Type 0 where
-  pub cell : Cell g c
-  pub room : getD (roomIds g given) c 0 ≡ r
-
--- "Every given wall is Wall"
-abbrev pub GivenWalls : List ℕ → States → Type 0
-GivenWalls given s = (e : ℕ) → isGiven given e ≡ true → s e ≡ 2
-
--- the room holds k units: k of its cells, no two in one unit, are such that each of its cells is in the unit of one of them
-pub record HoldsUnits (g : Grid) (s : States) (Room : ℕ → Type 0) (k : ℕ) : Type 0 where
-  pub heads : List ℕ
-  pub number : length heads ≡ k
-  pub inside : (c : ℕ) → In c heads → Room c
-  pub apart : (i j : ℕ) → i < j → j < k → SameUnit (Neighbours g) s (getD heads i 0) (getD heads j 0) → ⊥
-  pub whole : (c : ℕ) → Room c → (f : ℕ) × In f heads × SameUnit (Neighbours g) s f c
+use Rattle.rooms.specs.Rooms.{roomCount, clued, clueOf}
+use Rattle.rooms.specs.Units.{GivenWalls, InRoom, HoldsUnits}
 
 pub record RightBoard (g : Grid) (given clues : List ℕ) (s : States) : Type 0 where
   -- "every given wall is Wall"

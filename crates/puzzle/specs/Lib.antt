@@ -1,6 +1,3 @@
-pub mod Stub
-pub mod Rooms
-pub mod RoomGraph
 pub mod Fault
 pub mod Laws
 pub mod Puzzle

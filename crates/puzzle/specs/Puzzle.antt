@@ -17,7 +17,7 @@ use Rattle.puzzle.specs.declared.Puzzle.{Puzzle}
 use Rattle.puzzle.specs.declared.Made.{Made}
 use Rattle.puzzle.specs.declared.Answer.{Answer}
 use Rattle.puzzle.specs.declared.Answer.the-variants.{Clear, Fault, Refused}
-use Rattle.puzzle.specs.Rooms.{isGiven, roomCount, roomCells, clueOf}
+use Rattle.rooms.specs.Rooms.{isGiven, roomCount, roomCells, clueOf}
 use Rattle.puzzle.specs.Fault.{Found, faultOf}
 
 -- THE QUESTIONS that a making puts to its lists

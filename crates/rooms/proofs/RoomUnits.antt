@@ -26,13 +26,12 @@ use Rattle.parts.proofs.PartLaws.{root-le, to-root, root-least, joined-root, ro
 use Rattle.groups.specs.Groups.{edgesOver}
 use Rattle.groups.proofs.GroupLaws.{Passing, joined-chain, chain-joined}
 use Rattle.room_parts.specs.Graph.{Graph, isConnected, edgesIf, partsIf, connectedParts}
-use Rattle.puzzle.specs.Rooms.{isGiven, roomIds, roomCells}
-use Rattle.puzzle.specs.RoomGraph.{Spot, spots, roomBorders, place, roomGraph, edgeState}
-use Rattle.puzzle.specs.Laws.{InRoom, GivenWalls, HoldsUnits}
+use Rattle.rooms.specs.Rooms.{isGiven, roomIds, roomCells}
+use Rattle.rooms.specs.RoomGraph.{Spot, spots, roomBorders, place, roomGraph, edgeState}
+use Rattle.rooms.specs.Units.{InRoom, GivenWalls, HoldsUnits}
 use Rattle.room_parts.proofs.EdgeLaws.{Passes, in-edges, edges-in}
-use Rattle.puzzle.proofs.Basics.{map-at}
-use Rattle.puzzle.proofs.Places.{at-place, place-at, in-map, map-in, Rising, cells-rising, kept-rising, place-of, rising-place, once, no-longer}
-use Rattle.puzzle.proofs.RoomLaws.{same-room, in-room-cells, room-cells-in, Inside, spot-inside, inside-spot}
+use Rattle.rooms.proofs.Places.{map-at, at-place, place-at, in-map, map-in, Rising, cells-rising, kept-rising, place-of, rising-place, once, no-longer}
+use Rattle.rooms.proofs.RoomLaws.{same-room, in-room-cells, room-cells-in, Inside, spot-inside, inside-spot}
 
 -- COUNTING PARTS BY THEIR FIRST VERTICES
 abbrev isRoot : List Edge → ℕ → Bool

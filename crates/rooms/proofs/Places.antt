@@ -16,9 +16,14 @@ use Rattle.lists.proofs.ListLaws.{getD-in, in-getD}
 use Rattle.lists.proofs.CountLaws.{count-none, count-here, count-other, count-in, distinct-le}
 use Rattle.grid.specs.Grid.{Grid, cells}
 use Rattle.groups.specs.Groups.{cellsOf}
-use Rattle.puzzle.specs.RoomGraph.{place}
+use Rattle.rooms.specs.RoomGraph.{place}
 
 -- THROUGH FUNCTIONS
+pub map-at : (s : ℕ → ℕ) (l : List ℕ) (e : ℕ) → e < length l → getD (map s l) e 0 ≡ s (getD l e 0)
+map-at s [] e h = omega arith
+map-at s (x ∷ l) zero h = refl
+map-at s (x ∷ l) (suc e) h = map-at s l e (omega arith)
+
 module _ {A : Type 0} where
   -- the member at a place, as every function sees it
   pub at-place : (xs : List A) (i : ℕ) → i < length xs → (x : A) × In x xs × ((f : A → ℕ) → getD (map f xs) i 0 ≡ f x)

@@ -3,9 +3,10 @@
 use Prim.Native.Nat.{ℕ, suc, _+_, _*_, _/_, _%_}
 use mathlib.Core.Bool.{Bool, not}
 use mathlib.Core.List.{List, [], _∷_, map}
+use mathlib.Core.Option.{Option, none, some}
 use lib.Dec.{eqb}
 use lib.ListN.{getD, length}
-use Rattle.lists.specs.Choice.{both, when, pick}
+use Rattle.lists.specs.Choice.{both, when, pick, through}
 use Rattle.lists.specs.Lists.{gather}
 use Rattle.grid.specs.declared.Direction.{Direction}
 use Rattle.grid.specs.declared.Direction.the-variants.{Down, Right}
@@ -13,7 +14,8 @@ use Rattle.grid.specs.Grid.{Grid, goesOn, next, border}
 use Rattle.boundary.specs.Boundary.{ahead}
 use Rattle.groups.specs.Groups.{cellsOf}
 use Rattle.room_parts.specs.Graph.{Graph, graph}
-use Rattle.puzzle.specs.Rooms.{isGiven}
+use Rattle.rooms.specs.Stub.{roomFault}
+use Rattle.rooms.specs.Rooms.{isGiven}
 
 -- a border, told from its upper or left cell
 pub record Spot : Type 0 where
@@ -56,3 +58,10 @@ edgeState borders s i = s (getD borders i 0)
 -- an entry of the graph "in board border numbers"
 abbrev pub onBoard : List ℕ → ℕ → ℕ
 onBoard borders l = 2 * getD borders (l / 2) 0 + l % 2
+
+-- what the count of room r finds, in board border numbers
+unfoldable pub roomList : Grid → List ℕ → List ℕ → ℕ → ℕ → (ℕ → ℕ) → Option (List ℕ)
+unfolding through roomFault roomGraph roomBorders
+roomList g given ids r count s =
+    let borders = roomBorders g given ids r in
+    through (roomFault (roomGraph g given ids r) count (edgeState borders s)) (λ l. some (map (onBoard borders) l))

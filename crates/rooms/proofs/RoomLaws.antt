@@ -10,10 +10,10 @@ use borrow.Author.Tests.{eqb-true, eq-eqb, not-true}
 use lib.Dec.{eqb}
 use lib.ListN.{length, getD, length-map}
 use Rattle.lists.specs.Choice.{both, when}
-use Rattle.lists.specs.Lists.{In, gather}
+use Rattle.lists.specs.Lists.{In, any, gather}
 use Rattle.lists.proofs.Cases.{true-or-false}
 use Rattle.lists.proofs.ChoiceLaws.{both-true, true-both}
-use Rattle.lists.proofs.ListLaws.{in-when, when-in, in-gather, gather-in}
+use Rattle.lists.proofs.ListLaws.{any-true, true-any, in-when, when-in, in-gather, gather-in}
 use Rattle.frame.specs.Frame.{Chain, here, on, States}
 use Rattle.grid.specs.declared.Direction.{Direction}
 use Rattle.grid.specs.declared.Direction.the-variants.{Down, Right}
@@ -24,11 +24,21 @@ use Rattle.boundary.specs.Boundary.{ahead}
 use Rattle.parts.proofs.PartLists.{begun-at}
 use Rattle.groups.specs.Groups.{edgesOver, cellsOf}
 use Rattle.groups.proofs.GroupLaws.{Labels, Passing, in-cells, cells-in, edges-within, part-labels}
-use Rattle.puzzle.specs.Rooms.{isGiven, roomEdges, roomIds, roomCount, roomCells}
-use Rattle.puzzle.specs.RoomGraph.{Spot, inRoom, spots, roomBorders, place, roomGraph}
-use Rattle.puzzle.specs.Laws.{GivenWalls}
-use Rattle.puzzle.proofs.Places.{at-place, place-at}
+use Rattle.rooms.specs.Rooms.{isGiven, roomEdges, roomIds, roomCount, roomCells}
+use Rattle.rooms.specs.RoomGraph.{Spot, inRoom, spots, roomBorders, place, roomGraph}
+use Rattle.rooms.specs.Units.{GivenWalls}
+use Rattle.rooms.proofs.Places.{at-place, place-at}
 
+-- GIVEN WALLS
+pub given-in : (given : List ℕ) (e : ℕ) → isGiven given e ≡ true → In e given
+unfolding isGiven
+given-in given e q = let o = any-true (eqb e) given q in rw (eqb-true e (o .0) (o .2)) (o .1)
+
+pub in-given : (given : List ℕ) (e : ℕ) → In e given → isGiven given e ≡ true
+unfolding isGiven
+in-given given e m = true-any (eqb e) given e m (eq-eqb e e refl)
+
+-- ROOMS
 -- two cells have one room number exactly if borders that are not given join them
 pub room-labels : (g : Grid) (given : List ℕ) → Labels g (roomIds g given) (roomCount g given) (Chain (Passing g (λ e. not (isGiven given e))))
 unfolding roomIds roomCount

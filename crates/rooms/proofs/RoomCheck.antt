@@ -21,7 +21,7 @@ use Rattle.borders.proofs.EntryLaws.{stands-wall, wall-stands, stands-connected
 use Rattle.borders.proofs.Congruence.{gather-same}
 use Rattle.boundary.proofs.Lengths.{when-most, gather-most}
 use Rattle.room_parts.specs.Graph.{Graph, isConnected, notWall, partsIf, connectedParts, joinedParts, tippedOf}
-use Rattle.puzzle.specs.Stub.{entriesOf, roomFault}
+use Rattle.rooms.specs.Stub.{entriesOf, roomFault}
 use Rattle.room_parts.proofs.EdgeLaws.{parts-fewer}
 
 -- ENTRIES

@@ -1,0 +1,4 @@
+pub mod Stub
+pub mod Rooms
+pub mod RoomGraph
+pub mod Units
