@@ -16,9 +16,10 @@ use Rattle.lists.proofs.Cases.{le-or-lt}
 use Rattle.case_file.specs.declared.Call.{Call}
 use Rattle.case_file.specs.declared.Span.{Span}
 use Rattle.case_file.specs.declared.Counted.the-variants.{Fits, Cut}
+use Rattle.case_file.specs.declared.File.{File}
 use Rattle.case_file.specs.declared.File.the-variants as file
-use Rattle.case_file.specs.Sound.{numbersOf, callsOf, callListOf, isEnd, listsOf, restOf, decodeOf}
-use Rattle.case_file.specs.Layout.{wordAt, spanOf, sizeOf, countedAt, fileOf}
+use Rattle.case_file.specs.Sound.{Case, numbersOf, callsOf, callListOf, isEnd, listsOf, restOf, decodeOf}
+use Rattle.case_file.specs.Layout.{wordAt, spanOf, sizeOf, countedAt, fileOf, numberOf, refusalOf}
 use Rattle.case_file.proofs.ReadLaws.{byte-at, byte-out, word-at, word-out, numbers-length}
 use Rattle.case_file.proofs.ListLaws.{numbers-none, numbers-cut, numbers-some, Whole, call-cases, headed}
 
@@ -176,15 +177,29 @@ module _ (bs : List ℕ) (h : 5 ≤ length bs) where
             let b : m + 2 ≡ 11 + 2 * length (f .items) + 2 * length (g .items) = omega (arith, numbers-end bs 5 f, numbers-end bs n g) in
             simp (whole, end-is bs end l, f .span, g .span, k .span, a, b)
 
+number-file : (o : Option Case) → numberOf (fileOf o) ≡ refusalOf o
+number-file none = refl
+number-file (some f) = refl
+
+-- the answer and its number
+abbrev Answer : List ℕ → File → Type 0
+Answer bs r = (r ≡ fileOf (decodeOf bs)) × (numberOf r ≡ refusalOf (decodeOf bs))
+
+answer : (bs : List ℕ) {r : File} (o : Option Case) → decodeOf bs ≡ o → r ≡ fileOf o → Answer bs r
+answer bs o e q = rw e (q, ap numberOf q ∙ number-file o)
+
 -- The ways out of `decode`.
 module _ (bs : List ℕ) where
-  pub front-short : length bs < 3 → file.Unsound ≡ fileOf (decodeOf bs)
+  short : length bs < 3 → decodeOf bs ≡ none
   unfolding decodeOf through
-  front-short h =
+  short h =
       ⊎-elim
       (λ (k : length bs ≤ 0). simp (byte-out bs 0 k))
       (λ (k : 0 < length bs). simp (byte-at bs 0 k, word-out bs 1 (omega arith)))
       (le-or-lt (length bs) 0)
+
+  pub front-short : length bs < 3 → Answer bs file.Unsound
+  front-short h = answer bs none (short h) refl
 
   front : 3 ≤ length bs
       → decodeOf bs ≡ pick (both (eqb (getD bs 0 0) 1) (both (eqb (wordAt bs 1) (length bs - 3)) (leb (wordAt bs 1) 60000))) (restOf (drop 3 bs)) none
@@ -192,16 +207,16 @@ module _ (bs : List ℕ) where
   front h = simp (byte-at bs 0 (omega arith), word-at bs 1 (omega arith), length-drop)
 
   module _ (h : 3 ≤ length bs) where
-    pub front-version : getD bs 0 0 ≢ 1 → file.Unsound ≡ fileOf (decodeOf bs)
-    front-version v = simp (front h, ne-eqb _ _ v)
+    pub front-version : getD bs 0 0 ≢ 1 → Answer bs file.Unsound
+    front-version v = answer bs none (simp (front h, ne-eqb _ _ v)) refl
 
     module _ (v : getD bs 0 0 ≡ 1) where
-      pub front-length : wordAt bs 1 ≢ length bs - 3 → file.Unsound ≡ fileOf (decodeOf bs)
-      front-length l = simp (front h, eq-eqb _ _ v, ne-eqb _ _ l)
+      pub front-length : wordAt bs 1 ≢ length bs - 3 → Answer bs file.Unsound
+      front-length l = answer bs none (simp (front h, eq-eqb _ _ v, ne-eqb _ _ l)) refl
 
       module _ (l : wordAt bs 1 ≡ length bs - 3) where
-        pub front-long : 60000 < wordAt bs 1 → file.Unsound ≡ fileOf (decodeOf bs)
-        front-long k = simp (front h, eq-eqb _ _ v, eq-eqb _ _ l, lt-leb _ _ k)
+        pub front-long : 60000 < wordAt bs 1 → Answer bs file.Unsound
+        front-long k = answer bs none (simp (front h, eq-eqb _ _ v, eq-eqb _ _ l, lt-leb _ _ k)) refl
 
-        pub front-good : wordAt bs 1 ≤ 60000 → decodeOf bs ≡ restOf (drop 3 bs)
-        front-good k = simp (front h, eq-eqb _ _ v, eq-eqb _ _ l, le-leb _ _ k)
+        pub front-good : {r : File} → wordAt bs 1 ≤ 60000 → r ≡ fileOf (restOf (drop 3 bs)) → Answer bs r
+        front-good k e = answer bs (restOf (drop 3 bs)) (simp (front h, eq-eqb _ _ v, eq-eqb _ _ l, le-leb _ _ k)) e

@@ -57,3 +57,13 @@ layoutOf f =
 abbrev pub fileOf : Option Case → File
 fileOf none = file.Unsound
 fileOf (some f) = file.Sound (layoutOf f)
+
+-- 01's number for each case of the answer: 0 for a sound file, with its layout, and 11 for any other
+abbrev pub numberOf : File → ℕ
+numberOf (file.Sound l) = 0
+numberOf file.Unsound = 11
+
+-- 01, question 11: "is the file sound?"
+abbrev pub refusalOf : Option Case → ℕ
+refusalOf none = 11
+refusalOf (some f) = 0

@@ -5,7 +5,7 @@ ghost use Prim.Native.Nat.{_+_, _≤_, _<_, min};
 ghost use lib.ListN.{length, drop, getD};
 ghost use lib.Seq.{sets};
 ghost use Rattle.case_file.specs.Sound.{decodeOf, restOf, numbersOf, callListOf, callOf};
-ghost use Rattle.case_file.specs.Layout.{wordAt, numbersAt, countedAt, stepAt, fileOf};
+ghost use Rattle.case_file.specs.Layout.{wordAt, numbersAt, countedAt, stepAt, fileOf, numberOf, refusalOf};
 
 // A call of the file: its border and whether it is a Wall, for a decide.
 pub enum Call {
@@ -153,9 +153,10 @@ fn rest(file: &[u8]) -> File
     })
 }
 
-// Where the parts of a sound file stand. Nothing is copied.
+// Where the parts of a sound file stand. Nothing is copied. Any other file is unsound (11).
 pub fn decode(file: &[u8]) -> File
     ensures { λ r. ⌜ r ≡ fileOf (decodeOf (now (file .entry))) ⌝ }
+    ensures { λ r. ⌜ numberOf r ≡ refusalOf (decodeOf (now (file .entry))) ⌝ }
 {
     if file.len() < 3 {
         return File::Unsound;

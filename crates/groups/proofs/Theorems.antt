@@ -24,7 +24,8 @@ use Rattle.parts.specs.Parts.{Joined, root}
 use Rattle.parts.proofs.PartLaws.{part-iff, part-order, part-used, part-lt, root-least, part-joined}
 use Rattle.groups.specs.Groups.{edges, groupIds, groupCount, cellsOf}
 use Rattle.groups.specs.Turn.{cellsIn, inTurn, startOf, startsOf}
-use Rattle.groups.specs.Info.{blankPlaces, infoOf, groupingCode, groupingOf, bufferOf, endOf, startsRise, groupsExist, handOutOf}
+use Rattle.groups.specs.Lent.{Lent, Grouped}
+use Rattle.groups.specs.Info.{blankPlaces, part, infoOf, groupingCode, groupingOf, bufferOf, endOf, startsRise, groupsExist, handOutOf}
 use Rattle.groups.proofs.EdgeLaws.{ids-at, ids-length, count-is}
 use Rattle.groups.proofs.SetsLaws.{sets-in}
 use Rattle.groups.proofs.TurnLaws.{kept, rank, sorted, start, place, kept-at, kept-of, sorted-at, start-all, start-more, start-zero, place-at, place-of, rank-more}
@@ -103,18 +104,15 @@ cells-rise g ids k i j h l =
     (λ (e : a .0 < b .0). omega arith)
     (le-or-lt (b .0) (a .0))
 
--- THE HAND-OUT OF A GROUPING'S OWN RECORD AND BUFFER
-
-blank-long : length blankPlaces ≡ 1024
-unfolding blankPlaces
-blank-long = refl
+-- A GROUP'S PART OF THE CELLS IN TURN
 
 front-at : (xs vs : List ℕ) (i : ℕ) → length vs ≤ length xs → i < length vs → getD (sets xs 0 vs) i 0 ≡ getD vs i 0
 front-at xs vs i h l = let q : 0 + i ≡ i = omega arith in rw q at (sets-in vs xs 0 i (omega arith) l)
 
-module _ (g : Grid) (st : List ℕ) (p : Bool) (limits : Limits g) where
+-- starts that stand at the front of any long enough list
+module _ (g : Grid) (st : List ℕ) (p : Bool) (starts₀ : List ℕ) (fits : cells g ≤ length starts₀) where
   abbrev starts : List ℕ
-  starts = sets blankPlaces 0 (startsOf (cells g) (groupIds g st p) (groupCount g st p))
+  starts = sets starts₀ 0 (startsOf (cells g) (groupIds g st p) (groupCount g st p))
 
   begin : ℕ → ℕ
   begin k = start (at (groupIds g st p)) (cells g) k
@@ -123,7 +121,7 @@ module _ (g : Grid) (st : List ℕ) (p : Bool) (limits : Limits g) where
   unfolding begin startsOf startOf inTurn cellsIn
   start-at k h =
       let long : length (startsOf (cells g) (groupIds g st p) (groupCount g st p)) ≡ groupCount g st p = simp (length-map, range-length) in
-      front-at blankPlaces (startsOf (cells g) (groupIds g st p) (groupCount g st p)) k (omega (arith, long, blank-long, count-small st p limits, cells-le g limits)) (omega (arith, long))
+      front-at starts₀ (startsOf (cells g) (groupIds g st p) (groupCount g st p)) k (omega (arith, long, count-small g st p)) (omega (arith, long))
       ∙ map-at (startOf (cells g) (groupIds g st p)) (groupCount g st p) k (start-zero (at (groupIds g st p)) (cells g)) h
 
   end-at : (k : ℕ) → k < groupCount g st p → endOf (cells g) (groupCount g st p) starts k ≡ begin (suc k)
@@ -136,58 +134,101 @@ module _ (g : Grid) (st : List ℕ) (p : Bool) (limits : Limits g) where
       (λ (l : k + 1 < groupCount g st p). sym (end-next (cells g) (groupCount g st p) starts k l) ∙ start-at (k + 1) l ∙ ap begin (add-one k))
       (le-or-lt (groupCount g st p) (k + 1))
 
+  -- they rise from 0
+  starts-rise : 0 < groupCount g st p → startsRise (cells g) (groupCount g st p) starts ≡ true
+  unfolding startsRise begin
+  starts-rise some =
+      true-both (eqb (getD starts 0 0) 0) (all (rises (cells g) (groupCount g st p) starts) (range (groupCount g st p)))
+      (eq-eqb (getD starts 0 0) 0 (start-at 0 some ∙ start-zero (at (groupIds g st p)) (cells g)))
+      (true-all (rises (cells g) (groupCount g st p) starts) (range (groupCount g st p))
+      (λ k m.
+      let h : k < groupCount g st p = in-range (groupCount g st p) k m in
+      lt-ltb (getD starts k 0) (endOf (cells g) (groupCount g st p) starts k)
+      (omega (arith, start-at k h, end-at k h, start-more (at (groupIds g st p)) (cells g) k, size k h))))
+    where
+      size : (k : ℕ) → k < groupCount g st p → 0 < rank (at (groupIds g st p)) (cells g) k
+      size k h = unfold cellsOf in no-empty-group g st p k h
+
+  -- what stands between two starts is exactly the group's cells
+  pub part-cells : (flat₀ : List ℕ) (k : ℕ) → cells g ≤ length flat₀ → k < groupCount g st p
+      → part (sets flat₀ 0 (inTurn (cells g) (groupIds g st p) (groupCount g st p))) (getD starts k 0) (endOf (cells g) (groupCount g st p) starts k)
+      ≡ cellsOf g (groupIds g st p) k
+  unfolding begin inTurn cellsIn cellsOf
+  part-cells flat₀ k long h =
+      let key = at (groupIds g st p) in
+      let n = cells g in
+      let turn = sorted key n (groupCount g st p) in
+      let flat = sets flat₀ 0 turn in
+      let all-here : length turn ≡ n = start-all key n (groupCount g st p) (group-exists g st p) in
+      let same : length flat ≡ length flat₀ = length-sets flat₀ 0 turn in
+      let more : begin (suc k) ≡ begin k + rank key n k = start-more key n k in
+      let within : begin (suc k) ≤ n = omega (arith, end-at k h, end-within n (groupCount g st p) starts (starts-rise (omega arith)) k h) in
+      let part-long : length (take (begin (suc k) - begin k) (drop (begin k) flat)) ≡ rank key n k =
+      length-take-le (begin (suc k) - begin k) (drop (begin k) flat) (simp length-drop (omega arith)) ∙ omega arith in
+      rw
+      (start-at k h, end-at k h)
+      (ext-getD 0 (take (begin (suc k) - begin k) (drop (begin k) flat)) (kept key n k) part-long
+      (λ i l.
+      let r : i < rank key n k = omega arith in
+      let s = sorted-at key n (groupCount g st p) k i h r in
+      getD-take (begin (suc k) - begin k) (drop (begin k) flat) i 0 (omega arith) ∙ getD-drop (begin k) flat i 0
+      ∙ front-at flat₀ turn (begin k + i) (omega arith) (s .0) ∙ s .1))
+
+-- group k's cells are the part of `flat` between its start and its end
+pub record Between (g : Grid) (ids starts flat : List ℕ) (count k : ℕ) : Type 0 where
+  pub some : getD starts k 0 < endOf (cells g) count starts k
+  pub within : endOf (cells g) count starts k ≤ cells g
+  pub are : part flat (getD starts k 0) (endOf (cells g) count starts k) ≡ cellsOf g ids k
+
+-- so it is of slices that the groups were written to
+pub between : {g : Grid} {st : List ℕ} {p : Bool} {ids₀ starts₀ flat₀ ids starts flat : List ℕ} {count : ℕ}
+    → Lent (cells g) ids₀ starts₀ flat₀ → Grouped g st p ids₀ starts₀ flat₀ ids starts flat count → (k : ℕ) → k < count
+    → Between g (groupIds g st p) starts flat count k
+between {g} {st} {p} {starts₀ = starts₀} {flat₀ = flat₀} l w k h =
+    let h' : k < groupCount g st p = rw (w .count-is) at h in
+    let r = starts-rise g st p starts₀ (l .starts-long) (omega arith) in
+    rw
+    (w .count-is, w .starts-are, w .flat-is)
+    (record {
+      some = start-before-end (cells g) (groupCount g st p) (starts g st p starts₀ (l .starts-long)) r k h';
+      within = end-within (cells g) (groupCount g st p) (starts g st p starts₀ (l .starts-long)) r k h';
+      are = part-cells g st p starts₀ (l .starts-long) flat₀ k (l .flat-long) h';
+    })
+
+-- THE HAND-OUT OF A GROUPING'S OWN RECORD AND BUFFER
+
+blank-long : length blankPlaces ≡ 1024
+unfolding blankPlaces
+blank-long = refl
+
+module _ (g : Grid) (st : List ℕ) (p : Bool) (limits : Limits g) where
+  blank-fits : cells g ≤ length blankPlaces
+  blank-fits = omega (arith, blank-long, cells-le g limits)
+
   -- such a record holds together
   pub own-record : Holds (infoOf g st p)
-  unfolding startsRise groupsExist begin
+  unfolding groupsExist
   own-record =
       record {
         limits = limits;
-        few = count-small st p limits;
-        rise =
-            true-both (eqb (getD starts 0 0) 0) (all (rises (cells g) (groupCount g st p) starts) (range (groupCount g st p)))
-            (eq-eqb (getD starts 0 0) 0 (start-at 0 some ∙ start-zero (at (groupIds g st p)) (cells g)))
-            (true-all (rises (cells g) (groupCount g st p) starts) (range (groupCount g st p))
-            (λ k m.
-            let h : k < groupCount g st p = in-range (groupCount g st p) k m in
-            lt-ltb (getD starts k 0) (endOf (cells g) (groupCount g st p) starts k)
-            (omega (arith, start-at k h, end-at k h, start-more (at (groupIds g st p)) (cells g) k, size k h))));
+        few = count-small g st p;
+        rise = starts-rise g st p blankPlaces blank-fits (omega (arith, group-exists g st p 0 (cells-some g limits)));
         exist =
             true-all (exists (groupCount g st p) (sets blankPlaces 0 (groupIds g st p))) (range (cells g))
             (λ c m.
             let h : c < cells g = in-range (cells g) c m in
             lt-ltb (getD (sets blankPlaces 0 (groupIds g st p)) c 0) (groupCount g st p)
-            (omega
-            (arith, front-at blankPlaces (groupIds g st p) c (omega (arith, ids-length g st p, blank-long, cells-le g limits)) (omega (arith, ids-length g st p)), group-exists g st p c h)));
+            (omega (arith, front-at blankPlaces (groupIds g st p) c (omega (arith, ids-length g st p, blank-fits)) (omega (arith, ids-length g st p)), group-exists g st p c h)));
       }
-    where
-      some : 0 < groupCount g st p
-      some = omega (arith, group-exists g st p 0 (cells-some g limits))
-
-      size : (k : ℕ) → k < groupCount g st p → 0 < rank (at (groupIds g st p)) (cells g) k
-      size k h = unfold cellsOf in no-empty-group g st p k h
 
   -- HANDED OUT ARE EXACTLY THE GROUP'S CELLS
   pub own-hand-out : (buffer : List ℕ) (k : ℕ) → cells g ≤ length buffer → k < groupCount g st p
       → handOutOf (infoOf g st p) (sets buffer 0 (inTurn (cells g) (groupIds g st p) (groupCount g st p))) k ≡ cellsOf g (groupIds g st p) k
-  unfolding begin inTurn cellsIn cellsOf
   own-hand-out buffer k fits h =
-      let key = at (groupIds g st p) in
-      let n = cells g in
-      let turn = sorted key n (groupCount g st p) in
-      let b = sets buffer 0 turn in
-      let all-here : length turn ≡ n = start-all key n (groupCount g st p) (group-exists g st p) in
-      let long : length b ≡ length buffer = length-sets buffer 0 turn in
-      let more : begin (suc k) ≡ begin k + rank key n k = start-more key n k in
-      let within : begin (suc k) ≤ n = omega (arith, end-at k h, end-within n (groupCount g st p) starts (own-record .rise) k h) in
-      let part-long : length (take (begin (suc k) - begin k) (drop (begin k) b)) ≡ rank key n k =
-      length-take-le (begin (suc k) - begin k) (drop (begin k) b) (simp length-drop (omega arith)) ∙ omega arith in
-      sym (handed-out (infoOf g st p) b k (sym (holds-code (infoOf g st p) own-record)) refl h (omega arith) (sym (start-at k h)) (sym (end-at k h)))
-      ∙ ext-getD 0 (take (begin (suc k) - begin k) (drop (begin k) b)) (kept key n k) part-long
-      (λ i l.
-      let r : i < rank key n k = omega arith in
-      let s = sorted-at key n (groupCount g st p) k i h r in
-      getD-take (begin (suc k) - begin k) (drop (begin k) b) i 0 (omega arith) ∙ getD-drop (begin k) b i 0
-      ∙ front-at buffer turn (begin k + i) (omega arith) (s .0) ∙ s .1)
+      let b = sets buffer 0 (inTurn (cells g) (groupIds g st p) (groupCount g st p)) in
+      let long : length b ≡ length buffer = length-sets buffer 0 (inTurn (cells g) (groupIds g st p) (groupCount g st p)) in
+      sym (handed-out (infoOf g st p) b k (sym (holds-code (infoOf g st p) own-record)) refl h (omega arith) refl refl)
+      ∙ part-cells g st p blankPlaces blank-fits buffer k fits h
 
 -- an accepted grouping had a board that holds together and a buffer with a place for each cell
 accepted : (b : Board) (places : ℕ) → groupingCode b places ≡ 0 → (boardCode b ≡ 0) × (cells (sizeOf b) ≤ places)

@@ -16,7 +16,7 @@ use Rattle.board.specs.declared.Board.{Board}
 use Rattle.board.specs.Board.{sizeOf, boardCode}
 use Rattle.path.specs.declared.PathAnswer.{PathAnswer}
 use Rattle.path.specs.declared.PathAnswer.the-variants.{Listed, Refused}
-use Rattle.path.specs.Path.{Lists, listOf, search, pathOf, pathList}
+use Rattle.path.specs.Path.{Lists, listOf, search, pathOf}
 use Rattle.path.specs.Trace.{Traced, Asks, Fresh, Back, Walks}
 use Rattle.path.specs.Answer.{Outcome, refused, listed, answerOf, written, joined, pathOutcome}
 use Rattle.path.proofs.Found.{new-none, old-some}

@@ -7,3 +7,4 @@ pub mod Trace
 pub mod Loop
 pub mod Walk
 pub mod Answers
+pub mod Outcomes

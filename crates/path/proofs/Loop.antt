@@ -2,24 +2,20 @@
 -- Assumes nothing.
 use Prim.Native.Nat.{ℕ, zero, suc, _+_, _-_, _≤_, _<_}
 use mathlib.Core.Path.{_≡_, refl, ap, sym, _∙_}
-use mathlib.Core.Logic.{_⊎_, inl, _≢_, ⊎-elim}
-use mathlib.Core.Bool.{true, false}
+use mathlib.Core.Logic.{inl, _≢_, ⊎-elim}
 use mathlib.Core.List.{List, [], _∷_}
 use mathlib.Core.Option.{Option, none, some, Option·none-ne-some}
 use native.Mathlib.Omega.{arith}
 use native.Mathlib.Nat.{sub-zero}
 use native.Mathlib.Numerals.{add-one}
 use borrow.Author.Tests.{eq-eqb, ne-eqb}
-use lib.Dec.{eqb}
 use lib.ListN.{getD, length, set, replicate, length-set, length-replicate}
 use lib.Seq.{slice, slice-cons, slice-empty, getD-set-same, getD-set-other}
-use Rattle.lists.specs.Choice.{pick}
-use Rattle.lists.specs.Lists.{In}
 use Rattle.lists.proofs.Cases.{eq-or-ne}
 use Rattle.grid.specs.Grid.{Grid, cells, Cell}
 use Rattle.grid.proofs.Geometry.{cells-le}
 use Rattle.path.specs.Path.{Lists, Search, isNew, listOf, lookAll, lookRound, searchFrom, search}
-use Rattle.path.specs.Trace.{blank, Traced, Kept, Looking, Looks, Follows, Asks, Fresh}
+use Rattle.path.specs.Trace.{Traced, Kept, Looking, Looks, Follows, Asks, Fresh}
 use Rattle.path.proofs.Found.{Found, blank-set, blank-all, none-at, marked-cases}
 use Rattle.path.proofs.Search.{Searching, taken, starts}
 use Rattle.path.proofs.Trace.{slice-more}

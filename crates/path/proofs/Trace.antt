@@ -1,30 +1,28 @@
 -- The code's arrays follow the search: what a look does to them.
 -- Assumes nothing.
-use Prim.Native.Nat.{ℕ, suc, _+_, _*_, _≤_, _<_}
+use Prim.Native.Nat.{ℕ, _+_, _*_, _≤_, _<_}
 use mathlib.Core.Path.{_≡_, refl, ap, sym, _∙_}
-use mathlib.Core.Logic.{_⊎_, inl, inr, _≢_, ⊎-elim}
-use mathlib.Core.Bool.{Bool, true, false}
+use mathlib.Core.Logic.{_≢_, ⊎-elim}
+use mathlib.Core.Bool.{true, false}
 use mathlib.Core.List.{List, [], _∷_, _++_}
-use mathlib.Core.Option.{Option, none, some, Option·some-injective, Option·none-ne-some}
+use mathlib.Core.Option.{Option, none, some, Option·none-ne-some}
 use native.Mathlib.Omega.{arith}
 use native.Mathlib.Numerals.{add-one}
 use borrow.Author.Tests.{eq-eqb, ne-eqb}
 use lib.Dec.{eqb}
-use lib.ListN.{getD, length, set, take, drop, length-set}
-use lib.Seq.{slice, take-suc-set, drop-append-le, length-take-le, getD-set-same, getD-set-other}
-use Rattle.lists.specs.Choice.{both, pick}
+use lib.ListN.{getD, length, set, take, length-set}
+use lib.Seq.{slice, take-all, take-suc, take-suc-set, drop-append-le, length-take-le, getD-set-same, getD-set-other}
 use Rattle.lists.proofs.Cases.{eq-or-ne}
 use Rattle.grid.specs.declared.Direction.{Direction}
-use Rattle.grid.specs.declared.Direction.the-variants.{Up, Down, Left, Right}
+use Rattle.grid.specs.declared.Direction.the-variants.{Up}
 use Rattle.grid.specs.declared.Beyond.{Beyond}
 use Rattle.grid.specs.declared.Beyond.the-variants.{At}
-use Rattle.grid.specs.Grid.{Grid, cells, Cell, Limits, On, goesOn, next, border, stepOf}
+use Rattle.grid.specs.Grid.{Grid, cells, Cell, Limits, goesOn, next, border, stepOf}
 use Rattle.grid.specs.Steps.{Step}
 use Rattle.grid.proofs.Geometry.{goes-step, border-lt, borderCount-le, cells-le}
-use Rattle.borders.specs.Entry.{connectedEntry}
 use Rattle.borders.specs.Border.{stateOf, stateAt, stands}
-use Rattle.path.specs.Path.{Lists, Search, isNew, mark, finds, look, looks, lookAll}
-use Rattle.path.specs.Trace.{blank, Traced, Kept, Looking, Looks, Follows}
+use Rattle.path.specs.Path.{Search, isNew, mark, finds, look, looks, lookAll}
+use Rattle.path.specs.Trace.{blank, Traced, Looking, Looks, Follows}
 use Rattle.path.proofs.Found.{blank-set, new-none, marked-cases}
 use Rattle.path.proofs.Told.{at-told}
 
@@ -186,11 +184,28 @@ module _ {g : Grid} {states : List ℕ} {c : ℕ} {f e q : List ℕ} {t : ℕ} (
         looking = w (v .p) (v .head) (v .s) (v .looking);
       }
 
-  pub look-four : {f1 e1 q1 f2 e2 q2 f3 e3 q3 f4 e4 q4 : List ℕ} {t1 t2 t3 t4 : ℕ} → Looked v Up f1 e1 q1 t1
-      → Follows g c (λ p s. look g states c p Down s) f1 e1 q1 t1 f2 e2 q2 t2
-      → Follows g c (λ p s. look g states c p Left s) f2 e2 q2 t2 f3 e3 q3 t3
-      → Follows g c (λ p s. look g states c p Right s) f3 e3 q3 t3 f4 e4 q4 t4
-      → Follows g c (λ p s. lookAll g states c p s) f e q t f4 e4 q4 t4
-  unfolding lookAll looks
-  look-four up down left right p head s k =
-      right p head _ (left p head _ (down p head _ (up p head s k)))
+module _ (g : Grid) (states : List ℕ) (c : ℕ) where
+  looks-more : (p : List ℕ) (ds : List Direction) (d : Direction) (s : Search) → looks g states c p (ds ++ (d ∷ [])) s ≡ look g states c p d (looks g states c p ds s)
+  unfolding looks
+  looks-more p [] d s = refl
+  looks-more p (a ∷ ds) d s = looks-more p ds d (look g states c p a s)
+
+-- from f e q t the arrays have come to f' e' q' t' by looks in the first i directions
+pub record Round (g : Grid) (states : List ℕ) (c : ℕ) (ds : List Direction) (f e q : List ℕ) (t i : ℕ) (f' e' q' : List ℕ) (t' : ℕ) : Type 0 where
+  pub follows : Follows g c (λ p s. looks g states c p (take i ds) s) f e q t f' e' q' t'
+
+module _ {g : Grid} {states : List ℕ} {c : ℕ} {ds : List Direction} {f e q : List ℕ} {t : ℕ} where
+  pub round-start : Round g states c ds f e q t 0 f e q t
+  unfolding looks
+  round-start = record { follows = λ p head s k. k }
+
+  module _ {i : ℕ} {f' e' q' : List ℕ} {t' : ℕ} (k : Round g states c ds f e q t i f' e' q' t') where
+    pub round-on : i < length ds → {f1 e1 q1 : List ℕ} {t1 : ℕ} → Follows g c (λ p s. look g states c p (getD ds i Up) s) f' e' q' t' f1 e1 q1 t1
+        → Round g states c ds f e q t (i + 1) f1 e1 q1 t1
+    round-on h w =
+        record {
+          follows = λ p head s l. rw (add-one i, take-suc ds i Up h, looks-more g states c p (take i ds) (getD ds i Up) s) (w p head _ (k .follows p head s l));
+        }
+
+    pub round-end : length ds ≤ i → Follows g c (λ p s. looks g states c p ds s) f e q t f' e' q' t'
+    round-end h p head s l = rw (take-all i ds h) at (k .follows p head s l)

@@ -2,9 +2,9 @@
 ghost use mathlib.Core.Path.{_≡_};
 ghost use mathlib.Core.List.{List};
 ghost use Prim.Native.Nat.{ℕ, _*_, _≤_};
-ghost use lib.ListN.{length, getD};
+ghost use lib.ListN.{length};
 ghost use lib.Seq.{sets};
-ghost use Rattle.grid.specs.Grid.{grid, Cell};
+ghost use Rattle.grid.specs.Grid.{grid};
 ghost use Rattle.path.specs.Path.{look as lookOf, lookAll, search as searchOf, pathOf, pathList};
 ghost use Rattle.path.specs.Answer.{answerOf, written, joined, pathOutcome};
 ghost use Rattle.path.specs.Trace.{Traced, Looks, Follows, Asks, Fresh, Back, Walks};
@@ -67,50 +67,29 @@ fn look_round(
     ensures { λ r.
         ⌜ Follows (grid height width) cell (λ p s. lookAll (grid height width) (now (states .entry)) cell p s) (now (finders .entry)) (now (entries .entry)) (now (queue .entry)) tail (now (finders .exit)) (now (entries .exit)) (now (queue .exit)) r ⌝ }
 {
-    let up = look(
-        states,
-        height,
-        width,
-        cell,
+    let order = [
         Direction::Up,
-        finders,
-        entries,
-        queue,
-        tail,
-    );
-    let down = look(
-        states,
-        height,
-        width,
-        cell,
         Direction::Down,
-        finders,
-        entries,
-        queue,
-        up,
-    );
-    let left = look(
-        states,
-        height,
-        width,
-        cell,
         Direction::Left,
-        finders,
-        entries,
-        queue,
-        down,
-    );
-    look(
-        states,
-        height,
-        width,
-        cell,
         Direction::Right,
-        finders,
-        entries,
-        queue,
-        left,
-    )
+    ];
+    let mut end = tail;
+    let mut i = 0;
+    while i < 4 {
+        end = look(
+            states,
+            height,
+            width,
+            cell,
+            order[i],
+            finders,
+            entries,
+            queue,
+            end,
+        );
+        i += 1;
+    }
+    end
 }
 
 // Searches from `start` until the target is taken out or nothing waits.

@@ -1,8 +1,6 @@
 -- `case_file::decode` meets its contract: one law for each way out, and what `rest` ensures for the last.
 -- Assumes nothing.
-use mathlib.Core.Path.{sym, ap, _∙_}
 use borrow.Author.Needs.{needs}
-use Rattle.case_file.specs.Layout.{fileOf}
 use Rattle.case_file.proofs.FileLaws.{front-short, front-version, front-length, front-long, front-good}
 use Rattle.case_file.proofs.decode.Statement.{statement}
 use Rattle.case_file.proofs.decode.Tie as tie
@@ -43,11 +41,8 @@ returns-5 c =
     let e = c .before in
     let w = e .before .before in
     let k = w .before .before .before in
-    c .rest .ensures
-    ∙ ap fileOf
-    (sym
-    (front-good (k .before .before .args .file .now) (k .if1 .left) (w .before .if2 .left) (rw (w .word .ensures .0) at (e .before .if3 .left))
-    (rw (w .word .ensures .0) at (e .if4 .left))))
+    front-good (k .before .before .args .file .now) (k .if1 .left) (w .before .if2 .left) (rw (w .word .ensures .0) at (e .before .if3 .left))
+    (rw (w .word .ensures .0) at (e .if4 .left)) (c .rest .ensures)
 
 pub decode-spec : {M : Type 1} → statement M
 decode-spec =

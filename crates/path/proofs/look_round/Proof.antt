@@ -1,66 +1,78 @@
--- `path::look_round` meets its contract: the four looks, one after the other. Assumes nothing.
-use mathlib.Core.Path.{_∙_}
-use borrow.Author.Needs.{needs}
-use Rattle.path.proofs.Trace.{looks-on, look-four}
+-- `path::look_round` meets its contract: at each turn the arrays have followed the looks in the directions before. Assumes nothing.
+use Prim.Native.Nat.{_-_}
+use mathlib.Core.Path.{sym, _∙_}
+use native.Mathlib.Omega.{arith}
+use Rattle.grid.specs.Grid.{grid}
+use Rattle.path.specs.Path.{lookAll}
+use Rattle.path.proofs.Trace.{looks-on, Round, round-start, round-on, round-end}
 use Rattle.path.proofs.look_round.Statement.{statement}
 use Rattle.path.proofs.look_round.Tie as tie
 
-look-requires : tie.Need-look-requires
-look-requires c κs = search needs
+abbrev Inv-loop : tie.InvT-loop
+Inv-loop states height width cell finders₀ entries₀ queue₀ tail order end₀ i₀ finders entries queue end i =
+    Round (grid height width) states cell order finders₀ entries₀ queue₀ tail i finders entries queue end
 
-look-requires-2 : tie.Need-look-requires-2
-look-requires-2 c κs =
-    let up = c .before .before .before .before .before .before .before .before .before in
-    looks-on (up .before .before .before .before .before .before .before .before .pre) (up .look .ensures)
+abbrev μ-loop : tie.MeasureT-loop
+μ-loop states height width cell finders₀ entries₀ queue₀ tail order end₀ i₀ finders entries queue end i = 4 - i
 
-look-requires-3 : tie.Need-look-requires-3
-look-requires-3 c κs =
-    let down = c .before .before .before .before .before .before .before .before .before in
-    let up = down .before .before .before .before .before .before .before .before .before .before in
-    looks-on (looks-on (up .before .before .before .before .before .before .before .before .pre) (up .look .ensures)) (down .look2 .ensures)
+loop-holds : tie.Need-loop-holds Inv-loop μ-loop
+loop-holds c = round-start
 
-look-requires-4 : tie.Need-look-requires-4
-look-requires-4 c κs =
-    let left = c .before .before .before .before .before .before .before .before .before in
-    let down = left .before .before .before .before .before .before .before .before .before .before in
-    let up = down .before .before .before .before .before .before .before .before .before .before in
-    looks-on (looks-on (looks-on (up .before .before .before .before .before .before .before .before .pre) (up .look .ensures)) (down .look2 .ensures)) (left .look3 .ensures)
+array-copy-out-look : tie.Need-array-copy-out-look Inv-loop μ-loop
+array-copy-out-look c = omega arith
 
-same-length : tie.Need-same-length
+look-requires : tie.Need-look-requires Inv-loop μ-loop
+look-requires c κs =
+    let k = c .before .before .before .before .before in
+    let a = k .before .before .before .before .before .pre in
+    looks-on a (k .loop .inv .follows)
+
+add-i : tie.Need-add-i Inv-loop μ-loop
+add-i c = omega arith
+
+loop-less : tie.Need-loop-less Inv-loop μ-loop
+loop-less c = omega arith
+
+loop-again : tie.Need-loop-again Inv-loop μ-loop
+loop-again c =
+    let k = c .before .before .before .before .before .before .before .before .before .before .before .before in
+    let a = k .before .before .before .before .before .pre in
+    round-on (k .loop .inv) (omega arith) (c .before .before .before .before .before .before .look .ensures)
+
+same-length : tie.Need-same-length Inv-loop μ-loop
 same-length c =
-    let right = c .before .before .before .before .before .before in
-    let left = right .before .before .before .before .before .before .before .before .before .before in
-    let down = left .before .before .before .before .before .before .before .before .before .before in
-    let up = down .before .before .before .before .before .before .before .before .before .before in
-    right .look4 .kept .1 .1 .1 .1 .1 .0 ∙ left .look3 .kept .1 .1 .1 .1 .1 .0 ∙ down .look2 .kept .1 .1 .1 .1 .1 .0 ∙ up .look .kept .1 .1 .1 .1 .1 .0
+    let k = c .before in
+    let a = k .before .before .before .before .before .pre in
+    looks-on a (k .loop .inv .follows) .looking .kept .traced .finders-long ∙ sym (a .looking .kept .traced .finders-long)
 
-same-length-2 : tie.Need-same-length-2
+same-length-2 : tie.Need-same-length-2 Inv-loop μ-loop
 same-length-2 c =
-    let right = c .before .before .before .before .before .before in
-    let left = right .before .before .before .before .before .before .before .before .before .before in
-    let down = left .before .before .before .before .before .before .before .before .before .before in
-    let up = down .before .before .before .before .before .before .before .before .before .before in
-    right .look4 .kept .1 .1 .1 .1 .1 .1 .0 ∙ left .look3 .kept .1 .1 .1 .1 .1 .1 .0 ∙ down .look2 .kept .1 .1 .1 .1 .1 .1 .0 ∙ up .look .kept .1 .1 .1 .1 .1 .1 .0
+    let k = c .before in
+    let a = k .before .before .before .before .before .pre in
+    looks-on a (k .loop .inv .follows) .looking .kept .traced .entries-long ∙ sym (a .looking .kept .traced .entries-long)
 
-same-length-3 : tie.Need-same-length-3
-same-length-3 c = search needs
+same-length-3 : tie.Need-same-length-3 Inv-loop μ-loop
+same-length-3 c =
+    let k = c .before in
+    let a = k .before .before .before .before .before .pre in
+    looks-on a (k .loop .inv .follows) .looking .kept .queue-long ∙ sym (a .looking .kept .queue-long)
 
-returns : tie.Need-returns
-returns c =
-    let right = c .before .before .before .before .before .before in
-    let left = right .before .before .before .before .before .before .before .before .before .before in
-    let down = left .before .before .before .before .before .before .before .before .before .before in
-    let up = down .before .before .before .before .before .before .before .before .before .before in
-    look-four (up .before .before .before .before .before .before .before .before .pre) (up .look .ensures) (down .look2 .ensures) (left .look3 .ensures) (right .look4 .ensures)
+returns : tie.Need-returns Inv-loop μ-loop
+unfolding lookAll
+returns c = round-end (c .before .loop .inv) (omega arith)
 
 pub look-round-spec : {M : Type 1} → statement M
 look-round-spec =
     tie.close
     (tie.spec
+    Inv-loop
+    μ-loop
+    loop-holds
+    array-copy-out-look
     look-requires
-    look-requires-2
-    look-requires-3
-    look-requires-4
+    add-i
+    loop-less
+    loop-again
     same-length
     same-length-2
     same-length-3

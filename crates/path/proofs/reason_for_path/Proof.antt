@@ -1,5 +1,4 @@
 -- `path::reason_for_path` meets its contract: a law for each question, and what `list` ensures. Assumes nothing.
-use Prim.Native.Nat.{_≤_}
 use mathlib.Core.Path.{_≡_}
 use denote.Ref.{now}
 use native.Mathlib.Omega.{arith}
