@@ -2,3 +2,4 @@ pub mod Stub
 pub mod Rooms
 pub mod RoomGraph
 pub mod Units
+pub mod Lent
