@@ -22,7 +22,7 @@ use Rattle.shape.specs.Shape.{shapeFault}
 use Rattle.shape.specs.Laws.{FullBoard}
 use Rattle.shape.proofs.Agreement.{shape-agrees}
 use Rattle.shape.proofs.Theorems as shape
-use Rattle.rooms.specs.Rooms.{roomIds, roomCount, roomCells, clued, clueOf}
+use Rattle.rooms.specs.Rooms.{isGiven, roomIds, roomCount, roomCells, clued, clueOf}
 use Rattle.rooms.specs.RoomGraph.{roomList}
 use Rattle.rooms.specs.Units.{GivenWalls}
 use Rattle.rooms.proofs.Theorems.{list-agrees, list-stands, list-again, list-decides, list-short}
@@ -50,14 +50,14 @@ picked false o f z = absurd (Option·none-ne-some f z)
 module _ (g : Grid) (given clues : List ℕ) where
   -- what a clued room's count lists, where border e has the state s e
   abbrev list : ℕ → States → Option (List ℕ)
-  list r s = roomList g given (roomIds g given) r (clueOf clues r) s
+  list r s = roomList g (isGiven given) (roomIds g given) r (clueOf clues r) s
 
   -- a fault is the shape check's, or a clued room's
   pub record RoomFault (s : States) (L : List ℕ) : Type 0 where
     pub room : ℕ
     pub exists : room < roomCount g given
     pub has-clue : clued clues room ≡ true
-    pub listed : roomList g given (roomIds g given) room (clueOf clues room) s ≡ some L
+    pub listed : roomList g (isGiven given) (roomIds g given) room (clueOf clues room) s ≡ some L
 
   fault-kinds : (states : List ℕ) (f : Found) → faultOf g given clues states ≡ some f → (shapeFault g states ≡ some (f .list)) ⊎ RoomFault (stateOf states) (f .list)
   unfolding faultOf roomCheck

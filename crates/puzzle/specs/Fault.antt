@@ -8,7 +8,7 @@ use Rattle.lists.specs.Lists.{range, first}
 use Rattle.grid.specs.Grid.{Grid}
 use Rattle.borders.specs.Border.{stateOf}
 use Rattle.shape.specs.Shape.{shapeFault}
-use Rattle.rooms.specs.Rooms.{roomIds, roomCount, clued, clueOf}
+use Rattle.rooms.specs.Rooms.{isGiven, roomIds, roomCount, clued, clueOf}
 use Rattle.rooms.specs.RoomGraph.{roomList}
 use Rattle.puzzle.specs.declared.Check.{Check}
 use Rattle.puzzle.specs.declared.Check.the-variants.{Shape, Room}
@@ -27,7 +27,7 @@ foundBy k (some l) = some (record { check = k; list = l })
 unfoldable pub roomCheck : Grid → List ℕ → List ℕ → List ℕ → List ℕ → ℕ → Option Found
 unfolding foundBy roomList
 roomCheck g given clues states ids r =
-    let counted = foundBy (Room r) (roomList g given ids r (clueOf clues r) (stateOf states)) in
+    let counted = foundBy (Room r) (roomList g (isGiven given) ids r (clueOf clues r) (stateOf states)) in
     pick (clued clues r) counted none
 
 -- "An ask runs the shape check, then clued rooms in order, in board border numbers, up to the first fault."

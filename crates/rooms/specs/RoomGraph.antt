@@ -1,4 +1,4 @@
--- A room's graph (01, "Room graph"), over each cell's room: `ids` has it at the cell's number.
+-- A room's graph (01, "Room graph"). `ids` has each cell's room at the cell's number; `given e` says whether border e is a given wall.
 -- Assumes nothing.
 use Prim.Native.Nat.{ℕ, suc, _+_, _*_, _/_, _%_}
 use mathlib.Core.Bool.{Bool, not}
@@ -15,7 +15,6 @@ use Rattle.boundary.specs.Boundary.{ahead}
 use Rattle.groups.specs.Groups.{cellsOf}
 use Rattle.room_parts.specs.Graph.{Graph, graph}
 use Rattle.rooms.specs.Stub.{roomFault}
-use Rattle.rooms.specs.Rooms.{isGiven}
 
 -- a border, told from its upper or left cell
 pub record Spot : Type 0 where
@@ -23,18 +22,18 @@ pub record Spot : Type 0 where
   pub direction : Direction
 
 -- "where the other cell is in the room and the border isn't a given wall"
-unfoldable pub inRoom : Grid → List ℕ → List ℕ → ℕ → ℕ → Direction → Bool
-unfolding goesOn next border isGiven
-inRoom g given ids r c d = both (goesOn g d c) (both (ahead g ids r c d) (not (isGiven given (border g d c))))
+unfoldable pub inRoom : Grid → (ℕ → Bool) → List ℕ → ℕ → ℕ → Direction → Bool
+unfolding goesOn next border
+inRoom g given ids r c d = both (goesOn g d c) (both (ahead g ids r c d) (not (given (border g d c))))
 
 -- "takes its cells in row order [..]; for each, the edge down and then the edge right"
-unfoldable pub spots : Grid → List ℕ → List ℕ → ℕ → List Spot
+unfoldable pub spots : Grid → (ℕ → Bool) → List ℕ → ℕ → List Spot
 unfolding gather when inRoom cellsOf
 spots g given ids r =
     gather (λ c. gather (λ d. when (inRoom g given ids r c d) (record { cell = c; direction = d })) (Down ∷ Right ∷ [])) (cellsOf g ids r)
 
 -- the board's border of each edge
-unfoldable pub roomBorders : Grid → List ℕ → List ℕ → ℕ → List ℕ
+unfoldable pub roomBorders : Grid → (ℕ → Bool) → List ℕ → ℕ → List ℕ
 unfolding spots border
 roomBorders g given ids r = map (λ (s : Spot). border g (s .direction) (s .cell)) (spots g given ids r)
 
@@ -44,7 +43,7 @@ place [] c = 0
 place (x ∷ xs) c = pick (eqb x c) 0 (suc (place xs c))
 
 -- the graph of room r
-unfoldable pub roomGraph : Grid → List ℕ → List ℕ → ℕ → Graph
+unfoldable pub roomGraph : Grid → (ℕ → Bool) → List ℕ → ℕ → Graph
 unfolding spots cellsOf place next
 roomGraph g given ids r =
     let cs = cellsOf g ids r in
@@ -60,7 +59,7 @@ abbrev pub onBoard : List ℕ → ℕ → ℕ
 onBoard borders l = 2 * getD borders (l / 2) 0 + l % 2
 
 -- what the count of room r finds, in board border numbers
-unfoldable pub roomList : Grid → List ℕ → List ℕ → ℕ → ℕ → (ℕ → ℕ) → Option (List ℕ)
+unfoldable pub roomList : Grid → (ℕ → Bool) → List ℕ → ℕ → ℕ → (ℕ → ℕ) → Option (List ℕ)
 unfolding through roomFault roomGraph roomBorders
 roomList g given ids r count s =
     let borders = roomBorders g given ids r in
