@@ -25,7 +25,7 @@ use Rattle.parts.proofs.PartLists.{begun-at}
 use Rattle.groups.specs.Groups.{edgesOver, cellsOf}
 use Rattle.groups.proofs.GroupLaws.{Labels, Passing, in-cells, cells-in, edges-within, part-labels}
 use Rattle.rooms.specs.Rooms.{isGiven, roomEdges, roomIds, roomCount, roomCells}
-use Rattle.rooms.specs.RoomGraph.{Spot, inRoom, spots, roomBorders, place, roomGraph}
+use Rattle.rooms.specs.RoomGraph.{Spot, inRoom, spotsAt, spots, roomBorders, place, roomGraph}
 use Rattle.rooms.specs.Units.{GivenWalls}
 use Rattle.rooms.proofs.Places.{at-place, place-at}
 
@@ -56,9 +56,6 @@ module _ (g : Grid) (given : List ℕ) (r : ℕ) where
   abbrev ids : List ℕ
   ids = roomIds g given
 
-  abbrev found : ℕ → Direction → List Spot
-  found c d = when (inRoom g (isGiven given) (roomIds g given) r c d) (record { cell = c; direction = d })
-
   pub in-room-cells : (c : ℕ) → In c (roomCells g given r) → Cell g c × (getD (roomIds g given) c 0 ≡ r)
   in-room-cells c m = in-cells g (roomIds g given) r c m
 
@@ -73,10 +70,10 @@ module _ (g : Grid) (given : List ℕ) (r : ℕ) where
     pub free : isGiven given (border g (s .direction) (s .cell)) ≡ false
 
   pub spot-inside : (s : Spot) → In s (spots g (isGiven given) (roomIds g given) r) → Inside s
-  unfolding spots inRoom
+  unfolding spots spotsAt inRoom
   spot-inside s m =
-      let c = in-gather (λ c. gather (found c) (Down ∷ Right ∷ [])) (roomCells g given r) s m in
-      let d = in-gather (found (c .0)) (Down ∷ Right ∷ []) s (c .2) in
+      let c = in-gather (λ c. gather (spotsAt g (isGiven given) (roomIds g given) r c) (Down ∷ Right ∷ [])) (roomCells g given r) s m in
+      let d = in-gather (spotsAt g (isGiven given) (roomIds g given) r (c .0)) (Down ∷ Right ∷ []) s (c .2) in
       let o = in-when (inRoom g (isGiven given) (roomIds g given) r (c .0) (d .0)) (record { cell = c .0; direction = d .0 }) s (d .2) in
       let cell = in-room-cells (c .0) (c .1) .0 in
       let t = both-true (goesOn g (d .0) (c .0)) (both (ahead g (roomIds g given) r (c .0) (d .0)) (not (isGiven given (border g (d .0) (c .0))))) (o .0) in
@@ -87,10 +84,10 @@ module _ (g : Grid) (given : List ℕ) (r : ℕ) where
 
   pub inside-spot : (d : Direction) (c c' e : ℕ) → In d (Down ∷ Right ∷ []) → In c (roomCells g given r) → In c' (roomCells g given r) → Step g d c c' e → isGiven given e ≡ false
       → In (record { cell = c; direction = d }) (spots g (isGiven given) (roomIds g given) r)
-  unfolding spots inRoom
+  unfolding spots spotsAt inRoom
   inside-spot d c c' e m i j s q =
-      gather-in (λ c. gather (found c) (Down ∷ Right ∷ [])) (roomCells g given r) c _ i
-      (gather-in (found c) (Down ∷ Right ∷ []) d _ m
+      gather-in (λ c. gather (spotsAt g (isGiven given) (roomIds g given) r c) (Down ∷ Right ∷ [])) (roomCells g given r) c _ i
+      (gather-in (spotsAt g (isGiven given) (roomIds g given) r c) (Down ∷ Right ∷ []) d _ m
       (when-in (inRoom g (isGiven given) (roomIds g given) r c d) _
       (true-both (goesOn g d c) _ (step-goes g d c c' e s)
       (true-both _ _ (eq-eqb _ r (ap (λ x. getD (roomIds g given) x 0) (sym (step-next g d c c' e s)) ∙ in-room-cells c' j .1))

@@ -27,7 +27,7 @@ use Rattle.groups.specs.Groups.{edgesOver}
 use Rattle.groups.proofs.GroupLaws.{Passing, joined-chain, chain-joined}
 use Rattle.room_parts.specs.Graph.{Graph, isConnected, edgesIf, partsIf, connectedParts}
 use Rattle.rooms.specs.Rooms.{isGiven, roomIds, roomCells}
-use Rattle.rooms.specs.RoomGraph.{Spot, spots, roomBorders, place, roomGraph, edgeState}
+use Rattle.rooms.specs.RoomGraph.{Spot, spots, place, fromOf, intoOf, borderOf, roomGraph, roomBorders, edgeState}
 use Rattle.rooms.specs.Units.{InRoom, GivenWalls, HoldsUnits}
 use Rattle.room_parts.proofs.EdgeLaws.{Passes, in-edges, edges-in}
 use Rattle.rooms.proofs.Places.{map-at, at-place, place-at, in-map, map-in, Rising, cells-rising, kept-rising, place-of, rising-place, once, no-longer}
@@ -117,9 +117,9 @@ module _ (g : Grid) (given : List ℕ) (r : ℕ) where
       record {
         spot = o .0;
         inside = spot-inside g given r (o .0) (o .1);
-        from-is = o .2 (λ s. place (roomCells g given r) (s .cell));
-        into-is = o .2 (λ s. place (roomCells g given r) (next g (s .direction) (s .cell)));
-        border-is = o .2 (λ s. border g (s .direction) (s .cell));
+        from-is = o .2 (fromOf g (roomIds g given) r);
+        into-is = o .2 (intoOf g (roomIds g given) r);
+        border-is = o .2 (borderOf g);
       }
 
   -- its ends are vertices
@@ -179,9 +179,9 @@ module _ (g : Grid) (given : List ℕ) (r : ℕ) where
     spot-joined c c' e a i j free q =
         let d = a .0 in
         let o = place-at (spots g (isGiven given) (roomIds g given) r) (record { cell = c; direction = d }) (inside-spot g given r d c c' e (a .1) i j (a .2) free) in
-        let from = o .2 (λ t. place cs (t .cell)) in
-        let to = o .2 (λ t. place cs (next g (t .direction) (t .cell))) in
-        let at = o .2 (λ t. border g (t .direction) (t .cell)) in
+        let from = o .2 (fromOf g (roomIds g given) r) in
+        let to = o .2 (intoOf g (roomIds g given) r) in
+        let at = o .2 (borderOf g) in
         let link : isConnected (edgeState borders s (o .0)) ≡ true = eq-eqb _ 1 (ap s (at ∙ sym (a .2 .over)) ∙ q) in
         then (same (sym from)) (then (over (edges-in isConnected graph (edgeState borders s) (graph .edges) (o .0) (o .1) link)) (same (to ∙ ap (place cs) (sym (step-next g d c c' e (a .2))))))
 

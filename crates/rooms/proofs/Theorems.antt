@@ -22,7 +22,7 @@ use Rattle.boundary.proofs.BoundaryLaws.{cells-most}
 use Rattle.room_parts.specs.Graph.{Graph, connectedParts}
 use Rattle.rooms.specs.Stub.{roomFault}
 use Rattle.rooms.specs.Rooms.{isGiven, roomIds, roomCells}
-use Rattle.rooms.specs.RoomGraph.{Spot, inRoom, spots, roomBorders, roomGraph, edgeState, onBoard, roomList}
+use Rattle.rooms.specs.RoomGraph.{Spot, inRoom, spotsAt, spots, roomBorders, roomGraph, edgeState, onBoard, roomList}
 use Rattle.rooms.specs.Units.{GivenWalls, InRoom, HoldsUnits}
 use Rattle.rooms.proofs.RoomCheck.{room-listed, room-short, room-again, room-decides, room-agrees}
 use Rattle.rooms.proofs.Places.{in-map, map-in}
@@ -113,12 +113,12 @@ module _ (g : Grid) (given : List ℕ) (r count : ℕ) where
 
   -- (5) a room has at most two edges a cell, and so many entries at most
   pub edges-most : roomGraph g (isGiven given) (roomIds g given) r .edges ≤ 2 * cells g
-  unfolding roomGraph spots
+  unfolding roomGraph spots spotsAt
   edges-most =
-      let at : ℕ → Direction → List Spot = λ c d. when (inRoom g (isGiven given) (roomIds g given) r c d) (record { cell = c; direction = d }) in
-      let two : (c : ℕ) → length (gather (at c) (Down ∷ Right ∷ [])) ≤ 2 =
-      λ c. gather-most (at c) 1 (λ d. when-most (inRoom g (isGiven given) (roomIds g given) r c d) (record { cell = c; direction = d })) (Down ∷ Right ∷ []) in
-      omega (arith, gather-most (λ c. gather (at c) (Down ∷ Right ∷ [])) 2 two (roomCells g given r), cells-most g (roomIds g given) r)
+      let two : (c : ℕ) → length (gather (spotsAt g (isGiven given) (roomIds g given) r c) (Down ∷ Right ∷ [])) ≤ 2 =
+      λ c.
+      gather-most (spotsAt g (isGiven given) (roomIds g given) r c) 1 (λ d. when-most (inRoom g (isGiven given) (roomIds g given) r c d) (record { cell = c; direction = d })) (Down ∷ Right ∷ []) in
+      omega (arith, gather-most (λ c. gather (spotsAt g (isGiven given) (roomIds g given) r c) (Down ∷ Right ∷ [])) 2 two (roomCells g given r), cells-most g (roomIds g given) r)
 
   pub list-short : (s : States) (L : List ℕ) → roomList g (isGiven given) (roomIds g given) r count s ≡ some L → length L ≤ 2 * cells g
   list-short s L q =

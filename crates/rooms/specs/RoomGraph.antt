@@ -26,29 +26,41 @@ unfoldable pub inRoom : Grid → (ℕ → Bool) → List ℕ → ℕ → ℕ →
 unfolding goesOn next border
 inRoom g given ids r c d = both (goesOn g d c) (both (ahead g ids r c d) (not (given (border g d c))))
 
+-- the edge from c in that direction, if there is one
+unfoldable pub spotsAt : Grid → (ℕ → Bool) → List ℕ → ℕ → ℕ → Direction → List Spot
+unfolding when inRoom
+spotsAt g given ids r c d = when (inRoom g given ids r c d) (record { cell = c; direction = d })
+
 -- "takes its cells in row order [..]; for each, the edge down and then the edge right"
 unfoldable pub spots : Grid → (ℕ → Bool) → List ℕ → ℕ → List Spot
-unfolding gather when inRoom cellsOf
-spots g given ids r =
-    gather (λ c. gather (λ d. when (inRoom g given ids r c d) (record { cell = c; direction = d })) (Down ∷ Right ∷ [])) (cellsOf g ids r)
-
--- the board's border of each edge
-unfoldable pub roomBorders : Grid → (ℕ → Bool) → List ℕ → ℕ → List ℕ
-unfolding spots border
-roomBorders g given ids r = map (λ (s : Spot). border g (s .direction) (s .cell)) (spots g given ids r)
+unfolding gather spotsAt cellsOf
+spots g given ids r = gather (λ c. gather (spotsAt g given ids r c) (Down ∷ Right ∷ [])) (cellsOf g ids r)
 
 -- the place of a cell among those of its room: its vertex
 unfoldable pub place : List ℕ → ℕ → ℕ
 place [] c = 0
 place (x ∷ xs) c = pick (eqb x c) 0 (suc (place xs c))
 
+-- an edge's two vertices, and its border
+abbrev pub fromOf : Grid → List ℕ → ℕ → Spot → ℕ
+fromOf g ids r s = place (cellsOf g ids r) (s .cell)
+
+abbrev pub intoOf : Grid → List ℕ → ℕ → Spot → ℕ
+intoOf g ids r s = place (cellsOf g ids r) (next g (s .direction) (s .cell))
+
+abbrev pub borderOf : Grid → Spot → ℕ
+borderOf g s = border g (s .direction) (s .cell)
+
 -- the graph of room r
 unfoldable pub roomGraph : Grid → (ℕ → Bool) → List ℕ → ℕ → Graph
 unfolding spots cellsOf place next
 roomGraph g given ids r =
-    let cs = cellsOf g ids r in
-    let ss = spots g given ids r in
-    graph (length cs) (length ss) (map (λ (s : Spot). place cs (s .cell)) ss) (map (λ (s : Spot). place cs (next g (s .direction) (s .cell))) ss)
+    let ss = spots g given ids r in graph (length (cellsOf g ids r)) (length ss) (map (fromOf g ids r) ss) (map (intoOf g ids r) ss)
+
+-- the board's border of each edge
+unfoldable pub roomBorders : Grid → (ℕ → Bool) → List ℕ → ℕ → List ℕ
+unfolding spots border
+roomBorders g given ids r = map (borderOf g) (spots g given ids r)
 
 -- the state of each edge, where border e has the state s e
 abbrev pub edgeState : List ℕ → (ℕ → ℕ) → ℕ → ℕ
