@@ -1,14 +1,17 @@
 -- What the functions over lent slices ask and promise.
 -- Assumes nothing.
-use Prim.Native.Nat.{ℕ, _≤_, _<_}
+use Prim.Native.Nat.{ℕ, _+_, _≤_, _<_}
 use mathlib.Core.Path.{_≡_}
-use mathlib.Core.List.{List, [], _∷_}
-use lib.ListN.{length, take, set, replicate}
+use mathlib.Core.Bool.{Bool, not}
+use mathlib.Core.List.{List, [], _∷_, map}
+use lib.Dec.{eqb}
+use lib.ListN.{length, getD, take, set, replicate}
 use lib.Seq.{sets}
 use Rattle.lists.specs.Lists.{In}
 use Rattle.grid.specs.Grid.{Grid, Limits, cells, borderCount}
-use Rattle.groups.specs.Turn.{inTurn, startsOf}
+use Rattle.groups.specs.Turn.{cellsIn, inTurn, startsOf}
 use Rattle.rooms.specs.Rooms.{roomIds, roomCount}
+use Rattle.rooms.specs.RoomGraph.{Spot, place, fromOf, intoOf, borderOf}
 
 -- no border is marked
 unfoldable pub unmarked : List ℕ
@@ -35,3 +38,32 @@ pub record Roomed (g : Grid) (given ids starts flat ids' starts' flat' : List �
   pub ids-are : ids' ≡ sets ids 0 (roomIds g given)
   pub starts-are : starts' ≡ sets starts 0 (startsOf (cells g) (roomIds g given) (roomCount g given))
   pub flat-is : flat' ≡ sets flat 0 (inTurn (cells g) (roomIds g given) (roomCount g given))
+
+-- each cell's vertex, its place among the cells of its room
+pub record Vertices (n : ℕ) (ids vertex : List ℕ) : Type 0 where
+  pub long : n ≤ length vertex
+  pub are : (c : ℕ) → c < n → getD vertex c 0 ≡ place (cellsIn n ids (getD ids c 0)) c
+
+-- marks are not 0 at the given walls
+abbrev pub markedIn : List ℕ → ℕ → Bool
+markedIn marks e = not (eqb (getD marks e 0) 0)
+
+-- a board's marks of given walls, each cell's room and its vertex
+pub record Housed (g : Grid) (marks ids vertex : List ℕ) : Type 0 where
+  pub limits : Limits g
+  pub marks-long : borderCount g ≤ length marks
+  pub ids-long : cells g ≤ length ids
+  pub vertices : Vertices (cells g) ids vertex
+
+-- three slices that have places for m edges more
+pub record Space (us vs borders : List ℕ) (m : ℕ) : Type 0 where
+  pub us-long : m ≤ length us
+  pub vs-long : m ≤ length vs
+  pub borders-long : m ≤ length borders
+
+-- the ends and borders of some edges, written from place m on, of which there are `count` then
+pub record Written (g : Grid) (ids : List ℕ) (r : ℕ) (ss : List Spot) (us vs borders : List ℕ) (m : ℕ) (us' vs' borders' : List ℕ) (count : ℕ) : Type 0 where
+  pub count-is : count ≡ m + length ss
+  pub us-are : us' ≡ sets us m (map (fromOf g ids r) ss)
+  pub vs-are : vs' ≡ sets vs m (map (intoOf g ids r) ss)
+  pub borders-are : borders' ≡ sets borders m (map (borderOf g) ss)
