@@ -1,7 +1,7 @@
 -- The edges of a graph whose states pass: which they are, one edge more, and fewer parts with more of them.
 -- Assumes nothing.
 use Prim.Native.Nat.{ℕ, zero, suc, _+_, _≤_, _<_}
-use mathlib.Core.Path.{_≡_, refl, sym}
+use mathlib.Core.Path.{_≡_, refl, sym, ap}
 use mathlib.Core.Logic.{inl, inr, ⊎-elim}
 use mathlib.Core.Bool.{Bool, true, false}
 use mathlib.Core.List.{_∷_}
@@ -81,3 +81,13 @@ parts-all p g s i l =
     begun-more (edgesIf p g s i) (edgesIf p g s (g .edges))
     (λ c d k. let o = in-edges p g s i c d k in over (rw (o .from, o .into) at (edges-in p g s (g .edges) (o .number) (omega (arith, o .below)) (o .passes))))
     (g .vertices)
+
+-- the parts depend on the states of the graph's edges alone
+edges-agree : (p : ℕ → Bool) (g : Graph) (s t : ℕ → ℕ) (m : ℕ) → ((i : ℕ) → i < m → s i ≡ t i) → edgesIf p g s m ≡ edgesIf p g t m
+unfolding edgesIf
+edges-agree p g s t zero h = refl
+edges-agree p g s t (suc m) h = rw (h m (omega arith), edges-agree p g s t m (λ i l. h i (omega arith)))
+
+pub parts-agree : (p : ℕ → Bool) (g : Graph) (s t : ℕ → ℕ) → ((i : ℕ) → i < g .edges → s i ≡ t i) → partsIf p g s ≡ partsIf p g t
+unfolding partsIf
+parts-agree p g s t h = ap (λ E. begun E (g .vertices)) (edges-agree p g s t (g .edges) h)

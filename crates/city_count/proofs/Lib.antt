@@ -1,0 +1,5 @@
+pub mod EntryLaws
+pub mod FaultLaws
+pub mod FindLaws
+pub mod LoopLaws
+pub mod RoomLaws

@@ -1,0 +1,90 @@
+-- `city_count::list` meets its contract: `Listing` of the edges so far.
+-- Assumes nothing.
+use Prim.Native.Nat.{_-_}
+use mathlib.Core.Logic.{⊎-elim}
+use native.Mathlib.Omega.{arith}
+use borrow.Author.Needs.{needs}
+use denote.Ref.{now}
+use Rattle.ledger.specs.Ledger.{stateOf}
+use Rattle.room_parts.specs.Graph.{statesIn}
+use Rattle.city_count.specs.Fault.{entryOf}
+use Rattle.city_count.proofs.EntryLaws.{Listing, listing-none, listing-more, listing-same, listing-all}
+use Rattle.city_count.proofs.list.Statement.{statement}
+use Rattle.city_count.proofs.list.Tie as tie
+
+abbrev Inv-loop : tie.InvT-loop
+Inv-loop m states wall buf₀ n₀ i₀ buf n i = Listing (entryOf wall) (stateOf wall) m (statesIn states) buf₀ buf n i
+
+abbrev μ-loop : tie.MeasureT-loop
+μ-loop m states wall buf₀ n₀ i₀ buf n i = m - i
+
+loop-holds : tie.Need-loop-holds Inv-loop μ-loop
+loop-holds c =
+    let s = c .before .before in
+    listing-none (entryOf (s .args .wall)) (stateOf (s .args .wall)) (s .args .m) (statesIn (now (s .args .states))) (now (s .args .buf))
+
+shared-slice-read-stands : tie.Need-shared-slice-read-stands Inv-loop μ-loop
+shared-slice-read-stands c = omega arith
+
+stands-requires : tie.Need-stands-requires Inv-loop μ-loop
+stands-requires c κs = search needs
+
+entry-requires : tie.Need-entry-requires Inv-loop μ-loop
+entry-requires c κs = omega arith
+
+mul-buf : tie.Need-mul-buf Inv-loop μ-loop
+mul-buf c = omega arith
+
+slice-write-buf : tie.Need-slice-write-buf Inv-loop μ-loop
+slice-write-buf c = let a = c .before .before .before .before .before in omega (arith, a .loop .inv .size, a .loop .inv .few)
+
+add-n : tie.Need-add-n Inv-loop μ-loop
+add-n c = omega arith
+
+add-i : tie.Need-add-i Inv-loop μ-loop
+add-i c = omega arith
+
+loop-less : tie.Need-loop-less Inv-loop μ-loop
+loop-less c = omega arith
+
+loop-again : tie.Need-loop-again Inv-loop μ-loop
+loop-again c =
+    let k = c .before .before .before in
+    let a = k .before in
+    let s = a .before .before .before in
+    let t = c .before .stands in
+    ⊎-elim
+    (λ w. rw (w .2, w .3) (listing-more (entryOf (s .args .wall)) (stateOf (s .args .wall)) (s .args .m) (statesIn (now (s .args .states))) (now (s .args .buf)) (a .loop .buf) (a .loop .n) (a .loop .i) (a .loop .inv) (k .loop-test .taken) (t .result) (t .ensures) (w .1 .result) (w .0 .taken) (w .1 .ensures)))
+    (λ w. rw (w .1, w .2) (listing-same (entryOf (s .args .wall)) (stateOf (s .args .wall)) (s .args .m) (statesIn (now (s .args .states))) (now (s .args .buf)) (a .loop .buf) (a .loop .n) (a .loop .i) (a .loop .inv) (k .loop-test .taken) (t .result) (t .ensures) (w .0 .left)))
+    (c .if1 .came)
+
+same-length : tie.Need-same-length Inv-loop μ-loop
+same-length c = c .before .loop .inv .size
+
+returns : tie.Need-returns Inv-loop μ-loop
+returns c =
+    let a = c .before in
+    let s = a .before .before .before in
+    listing-all (entryOf (s .args .wall)) (stateOf (s .args .wall)) (s .args .m) (statesIn (now (s .args .states))) (now (s .args .buf)) (a .loop .buf) (a .loop .n)
+    (a .loop .i)
+    (a .loop .inv)
+    (c .loop-test .left)
+
+pub list-spec : {M : Type 1} → statement M
+list-spec =
+    tie.close
+    (tie.spec
+    Inv-loop
+    μ-loop
+    loop-holds
+    shared-slice-read-stands
+    stands-requires
+    entry-requires
+    mul-buf
+    slice-write-buf
+    add-n
+    add-i
+    loop-less
+    loop-again
+    same-length
+    returns)

@@ -1,0 +1,32 @@
+-- What the room check lists (01, "Union and room count").
+-- Assumes nothing.
+use Prim.Native.Nat.{ℕ}
+use mathlib.Core.Bool.{Bool, true, false}
+use mathlib.Core.List.{List, []}
+use mathlib.Core.Option.{Option, none, some}
+use lib.Dec.{eqb, ltb}
+use Rattle.lists.specs.Choice.{when, give, orElse}
+use Rattle.lists.specs.Lists.{range, gather}
+use Rattle.borders.specs.Entry.{connectedEntry, wallEntry}
+use Rattle.room_parts.specs.Graph.{Graph, tippedOf, joinedParts, partsIf}
+
+abbrev pub entryOf : Bool → ℕ → ℕ
+entryOf true = wallEntry
+entryOf false = connectedEntry
+
+-- the entries of those of the first m edges that have the state k, in the order of the edges
+unfoldable pub entriesOf : (ℕ → ℕ) → ℕ → ℕ → (ℕ → ℕ) → List ℕ
+unfolding gather when range
+entriesOf entry k m s = gather (λ i. when (eqb (s i) k) (entry i)) (range m)
+
+-- "once below the count, the list is every Connected edge of the graph. Otherwise, if the parts joined without Walls outnumber the count,
+-- the list is every Wall edge."
+unfoldable pub roomFault : Graph → ℕ → (ℕ → ℕ) → Option (List ℕ)
+unfolding orElse give tippedOf entriesOf partsIf
+roomFault g count s =
+    orElse (give (tippedOf g count s) (entriesOf connectedEntry 1 (g .edges) s)) (give (ltb count (joinedParts g s)) (entriesOf wallEntry 2 (g .edges) s))
+
+-- what is listed: nothing where the graph is clear
+abbrev pub listOf : Option (List ℕ) → List ℕ
+listOf none = []
+listOf (some l) = l
