@@ -1,21 +1,19 @@
 -- A law for each answer of decide, undo and ask: which tests lead to it.
 -- Assumes nothing.
-use Prim.Native.Nat.{ℕ, zero, suc, _*_, _≤_, _<_}
-use mathlib.Core.Path.{_≡_, refl}
+use Prim.Native.Nat.{ℕ, _*_, _≤_, _<_}
+use mathlib.Core.Path.{_≡_}
 use mathlib.Core.Logic.{_≢_}
-use mathlib.Core.Bool.{Bool, true, false}
+use mathlib.Core.Bool.{Bool}
 use mathlib.Core.List.{List}
-use mathlib.Core.Option.{Option, none, some}
+use mathlib.Core.Option.{Option}
 use borrow.Author.Tests.{ne-eqb, lt-ltb, le-ltb, le-leb, lt-leb}
-use lib.Dec.{eqb, leb}
 use lib.ListN.{length, getD}
-use Rattle.lists.specs.Choice.{pick}
 use Rattle.grid.specs.Grid.{cells}
 use Rattle.board.specs.Board.{bordersOf, placed, taken}
 use Rattle.puzzle.specs.declared.Puzzle.{Puzzle}
 use Rattle.puzzle.specs.declared.Made.{Made}
 use Rattle.puzzle.specs.Fault.{Found}
-use Rattle.puzzle.specs.Puzzle.{answer, gridOf, puzzleCode, asked, onto, decideOf, undoOf, longEnough, askCode, Asked, says, writes, faultIn, askOf}
+use Rattle.puzzle.specs.Puzzle.{answer, gridOf, puzzleCode, asked, onto, decideOf, undoOf, askCode, Asked, says, writes, faultIn, askOf}
 
 module _ (p : Puzzle) (code : ℕ) (q : code ≡ puzzleCode p) where
   pub refused : (d : Made) → code ≢ 0 → answer code p ≡ asked p d

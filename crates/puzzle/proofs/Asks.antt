@@ -2,28 +2,26 @@
 -- Assumes nothing.
 use Prim.Native.Nat.{ℕ, _*_, _≤_, _<_}
 use mathlib.Core.Path.{_≡_, refl, ap, sym, _∙_, fun-ext}
-use mathlib.Core.Logic.{_⊎_, inl, inr, ⊎-elim}
+use mathlib.Core.Logic.{⊎-elim}
 use mathlib.Core.Bool.{Bool, true, false, true≢false}
-use mathlib.Core.List.{List, [], _∷_}
+use mathlib.Core.List.{List}
 use mathlib.Core.Option.{Option, none, some}
 use native.Mathlib.Omega.{arith}
-use lib.ListN.{length, getD, take, List·getD-eq-default}
-use lib.Seq.{sets}
+use lib.ListN.{length, take, List·getD-eq-default}
 use Rattle.lists.proofs.Cases.{le-or-lt, true-or-false}
-use Rattle.grid.specs.Grid.{Grid, grid, cells, borderCount}
-use Rattle.ledger.specs.Ledger.{Decision, stateIn, standing, borders}
+use Rattle.grid.specs.Grid.{grid, cells, borderCount}
+use Rattle.ledger.specs.Ledger.{Decision, standing}
 use Rattle.ledger.proofs.Standing.{Sound, named-or-not, standing-named, standing-given}
 use Rattle.borders.specs.Border.{stateOf, StatesOk}
 use Rattle.board.specs.declared.Board.{Board}
 use Rattle.board.specs.Board.{sizeOf}
 use Rattle.puzzle.specs.declared.Puzzle.{Puzzle}
-use Rattle.puzzle.specs.declared.Check.{Check}
 use Rattle.puzzle.specs.declared.Answer.{Answer}
 use Rattle.puzzle.specs.declared.Answer.the-variants.{Clear, Fault, Refused}
 use Rattle.rooms.specs.Rooms.{isGiven}
 use Rattle.puzzle.specs.Fault.{Found, faultOf}
-use Rattle.puzzle.specs.Puzzle.{statesOf, freshPuzzle, gridOf, givenOf, cluesOf, onto, puzzleCode, faultIn, askCode, says, writes, Asked, askOf}
-use Rattle.puzzle.specs.Demand3.{Long, lengthOf, listOf, listIn, Gives, IsFault}
+use Rattle.puzzle.specs.Puzzle.{statesOf, freshPuzzle, onto, puzzleCode, faultIn, askCode, says, writes, Asked, askOf}
+use Rattle.puzzle.specs.Demand3.{Long, lengthOf, listIn, Gives, IsFault}
 use Rattle.puzzle.proofs.Basics.{sets-length, states-length, states-at}
 use Rattle.puzzle.proofs.Making.{Accepted, given-kept, clues-kept, given-inside}
 use Rattle.puzzle.proofs.Answers.{long-buffer, accepted-ask}

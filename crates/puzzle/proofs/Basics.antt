@@ -1,19 +1,18 @@
 -- Small laws: rising lists, states by a function, and a list put in front of an array.
 -- Assumes nothing.
-use Prim.Native.Nat.{ℕ, zero, suc, _+_, _≤_, _<_}
+use Prim.Native.Nat.{ℕ, _+_, _≤_, _<_}
 use mathlib.Core.Path.{_≡_, refl, ap, sym, _∙_}
-use mathlib.Core.Logic.{_⊎_, inl, inr, ⊎-elim}
-use mathlib.Core.Bool.{Bool, true, false, true≢false}
-use mathlib.Core.List.{List, [], _∷_, _++_, map}
+use mathlib.Core.Logic.{inl, inr}
+use mathlib.Core.Bool.{true}
+use mathlib.Core.List.{List, [], _∷_}
 use native.Mathlib.Omega.{arith}
-use borrow.Author.Tests.{eqb-true, eq-eqb, ltb-true}
-use lib.Dec.{eqb, ltb}
-use lib.ListN.{length, getD, take, drop, length-map, List·getD-map}
+use borrow.Author.Tests.{ltb-true}
+use lib.Dec.{ltb}
+use lib.ListN.{length, getD, take, drop, length-map}
 use lib.Seq.{sets, sets-eq, take-append-seam, ext-getD}
-use Rattle.lists.specs.Choice.{both}
-use Rattle.lists.specs.Lists.{range, In, any}
+use Rattle.lists.specs.Lists.{range, In}
 use Rattle.lists.proofs.ChoiceLaws.{both-true}
-use Rattle.lists.proofs.ListLaws.{any-true, true-any, range-length, range-at}
+use Rattle.lists.proofs.ListLaws.{range-length, range-at}
 use Rattle.rooms.proofs.Places.{map-at}
 use Rattle.puzzle.specs.Puzzle.{rises, statesOf}
 

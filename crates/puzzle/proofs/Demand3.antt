@@ -2,37 +2,35 @@
 -- Assumes nothing.
 use Prim.Native.Nat.{ℕ, _+_, _/_, _%_, _≤_, _<_}
 use mathlib.Core.Path.{_≡_, refl, ap, sym, _∙_, subst}
-use mathlib.Core.Logic.{_⊎_, inl, inr, ⊎-elim, _↔_}
-use mathlib.Core.Bool.{Bool, true, false}
-use mathlib.Core.List.{List, [], _∷_, _++_, map}
+use mathlib.Core.Logic.{⊎-elim, _↔_}
+use mathlib.Core.Bool.{true, false}
+use mathlib.Core.List.{List, [], map}
 use mathlib.Core.Option.{Option, none, some}
 use native.Mathlib.Omega.{arith}
-use lib.ListN.{length}
 use Rattle.lists.specs.Lists.{In}
 use Rattle.lists.proofs.Cases.{le-or-lt, true-or-false}
 use Rattle.frame.specs.Frame.{States}
-use Rattle.grid.specs.Grid.{Grid, grid, borderCount}
-use Rattle.borders.specs.Entry.{Stands, Standing}
+use Rattle.grid.specs.Grid.{grid, borderCount}
+use Rattle.borders.specs.Entry.{Standing}
 use Rattle.borders.specs.Border.{stateOf, StatesOk}
 use Rattle.shape.specs.Laws.{FullBoard}
-use Rattle.ledger.specs.Ledger.{Decision, stateIn, standing, ledgerOf}
-use Rattle.ledger.proofs.Standing.{Sound, standing-named, standing-given}
-use Rattle.puzzle.specs.declared.Puzzle.{Puzzle}
+use Rattle.ledger.specs.Ledger.{stateIn}
+use Rattle.ledger.proofs.Standing.{standing-named, standing-given}
 use Rattle.puzzle.specs.declared.Made.{Made}
-use Rattle.puzzle.specs.declared.Answer.the-variants.{Clear, Fault}
+use Rattle.puzzle.specs.declared.Answer.the-variants.{Clear}
 use Rattle.rooms.specs.Rooms.{isGiven}
 use Rattle.puzzle.specs.Fault.{Found, faultOf}
 use Rattle.rooms.specs.Units.{GivenWalls}
 use Rattle.puzzle.specs.Laws.{RightBoard}
-use Rattle.puzzle.specs.Puzzle.{statesOf, freshPuzzle, makeOf, says, Asked, askOf}
-use Rattle.puzzle.specs.Run.{Call, run, Reply, coded, replies, ledgerAfter, stateAfter}
+use Rattle.puzzle.specs.Puzzle.{statesOf, freshPuzzle, makeOf, says, askOf}
+use Rattle.puzzle.specs.Run.{Call, Reply, coded, replies, ledgerAfter, stateAfter}
 use Rattle.puzzle.specs.Demand3.{Long, listOf, listIn, Alike, Gives, IsFault, OrderOf, decideAs, freshOf, after, Demand3}
 use Rattle.puzzle.proofs.Basics.{states-same}
-use Rattle.puzzle.proofs.Making.{Accepted, made-accepted, made-fresh, given-inside}
+use Rattle.puzzle.proofs.Making.{Accepted, made-accepted, made-fresh}
 use Rattle.puzzle.proofs.FaultLaws.{fault-listed, fault-again, fault-excludes, fault-full}
 use Rattle.puzzle.proofs.Reached.{Reached, fresh-reached, reached}
 use Rattle.puzzle.proofs.Asks.{fault-some, some-fault, clear-none, none-clear, states-stand, states-ok, state-outside, asked-gives}
-use Rattle.puzzle.proofs.Orders.{Free, Apart, decisionOf, decided-ledger, decided-state, standing-apart, all-accepted}
+use Rattle.puzzle.proofs.Orders.{Free, Apart, decided-ledger, decided-state, standing-apart, all-accepted}
 
 module _ (h w : ℕ) (given clues : List ℕ) (made : makeOf h w given clues .code ≡ 0) where
   accepted : Accepted h w given clues

@@ -1,6 +1,6 @@
 -- THE THEOREMS of the whole check, the shape check's and the room counts' together, on a puzzle whose borders have given states.
 -- Assumes nothing.
-use Prim.Native.Nat.{ℕ, _+_, _*_, _≤_, _<_}
+use Prim.Native.Nat.{ℕ, _*_, _≤_, _<_}
 use mathlib.Core.Path.{_≡_, refl, ap, ap₂, sym, _∙_}
 use mathlib.Core.Logic.{_⊎_, inl, inr, ⊎-elim, _↔_}
 use mathlib.Core.Bool.{Bool, true, false}
@@ -9,7 +9,7 @@ use mathlib.Core.Option.{Option, none, some, Option·some-injective, Option·non
 use native.Mathlib.Omega.{arith}
 use lib.ListN.{length}
 use Rattle.lists.specs.Choice.{pick, orElse}
-use Rattle.lists.specs.Lists.{In, range, first}
+use Rattle.lists.specs.Lists.{range, first}
 use Rattle.lists.proofs.ChoiceLaws.{orElse-some, orElse-none, none-or-some}
 use Rattle.lists.proofs.ListLaws.{first-some, first-none, in-range, range-in}
 use Rattle.frame.specs.Frame.{States}

@@ -1,15 +1,15 @@
 -- What questions 1, 3, 7, 8 and 9 say of the lists that a making accepts, and what the fresh puzzle holds.
 -- Assumes nothing.
 use Prim.Native.Nat.{ℕ, _≤_, _<_}
-use mathlib.Core.Path.{_≡_, refl, sym, _∙_}
-use mathlib.Core.Bool.{Bool, true, false, not, true≢false}
+use mathlib.Core.Path.{_≡_, refl}
+use mathlib.Core.Bool.{Bool, true, false, not}
 use mathlib.Core.List.{List}
 use native.Mathlib.Omega.{arith}
-use borrow.Author.Tests.{eqb-true, eq-eqb, leb-true, ltb-true, not-true}
+use borrow.Author.Tests.{eqb-true, leb-true, ltb-true, not-true}
 use lib.Dec.{eqb, ltb, leb}
-use lib.ListN.{length, getD, length-replicate}
-use Rattle.lists.specs.Choice.{either, pick}
-use Rattle.lists.specs.Lists.{range, In, all}
+use lib.ListN.{length, length-replicate}
+use Rattle.lists.specs.Choice.{pick}
+use Rattle.lists.specs.Lists.{range, In}
 use Rattle.lists.proofs.Cases.{not-both}
 use Rattle.lists.proofs.ChoiceLaws.{either-true}
 use Rattle.lists.proofs.ListLaws.{all-true, range-in}
@@ -22,7 +22,6 @@ use Rattle.groups.proofs.GroupLaws.{edges-within}
 use Rattle.board.specs.Board.{zeros}
 use Rattle.board.proofs.Laws.{zeros-length}
 use Rattle.puzzle.specs.declared.Puzzle.{Puzzle}
-use Rattle.puzzle.specs.declared.Made.{Made}
 use Rattle.rooms.specs.Rooms.{isGiven, roomEdges, roomCount, roomCells, clued, clueOf}
 use Rattle.puzzle.specs.Puzzle.{exist, rises, oneEach, fitsRoom, cluesFit, listsCode, noClues, freshPuzzle, zeroPuzzle, answer, makeCode, makeOf, givenOf, cluesOf}
 use Rattle.rooms.proofs.RoomLaws.{given-in}

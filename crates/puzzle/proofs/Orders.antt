@@ -1,14 +1,14 @@
 -- Entries that can stand together are decided on a fresh puzzle in any order: each decide is accepted, and then they stand.
 -- Assumes nothing.
-use Prim.Native.Nat.{ℕ, zero, suc, _+_, _/_, _%_, _≤_, _<_}
+use Prim.Native.Nat.{ℕ, _+_, _/_, _%_, _≤_, _<_}
 use mathlib.Core.Path.{_≡_, refl, ap, sym, _∙_}
-use mathlib.Core.Logic.{_⊎_, inl, inr, _≢_, ⊎-elim}
+use mathlib.Core.Logic.{inl, inr, _≢_, ⊎-elim}
 use mathlib.Core.Bool.{Bool, true, false}
 use mathlib.Core.List.{List, [], _∷_, _++_, map, append-assoc, append-nil}
 use native.Mathlib.Omega.{arith}
 use borrow.Author.Tests.{eq-eqb, ne-eqb, lt-ltb}
 use lib.Dec.{eqb, ltb}
-use Rattle.lists.specs.Choice.{both, pick}
+use Rattle.lists.specs.Choice.{pick}
 use Rattle.lists.specs.Lists.{In, count}
 use Rattle.lists.proofs.Cases.{eq-or-ne}
 use Rattle.lists.proofs.ChoiceLaws.{true-both}
@@ -17,12 +17,11 @@ use Rattle.grid.specs.Grid.{grid, borderCount}
 use Rattle.ledger.specs.Ledger as ledger
 use Rattle.ledger.specs.Ledger.{Decision, stateOf, stateIn, standing, accepted, ledgerOf}
 use Rattle.ledger.proofs.Standing.{standing-named}
-use Rattle.borders.specs.Entry.{Stands, Standing}
+use Rattle.borders.specs.Entry.{Standing}
 use Rattle.puzzle.specs.declared.Puzzle.{Puzzle}
 use Rattle.puzzle.specs.declared.Made.{Made}
 use Rattle.rooms.specs.Rooms.{isGiven}
-use Rattle.puzzle.specs.Puzzle.{freshPuzzle, onto, decideOf}
-use Rattle.puzzle.specs.Run.{Call, decide, puzzleAfter, Reply, coded, replyTo, replies, onLedger}
+use Rattle.puzzle.specs.Run.{puzzleAfter, Reply, coded, replyTo, replies, onLedger}
 use Rattle.puzzle.specs.Demand3.{decideAs}
 use Rattle.puzzle.proofs.Making.{Accepted}
 use Rattle.puzzle.proofs.Reached.{Reached, reached-after, decide-accepted}

@@ -1,33 +1,33 @@
 -- After every list of calls from a fresh puzzle, accepted and refused ones, exactly the standing borders stand, the record holds together,
 -- and size, given walls and clues are the making's.
 -- Assumes nothing.
-use Prim.Native.Nat.{ℕ, zero, suc, _+_, _-_, _≤_, _<_}
-use mathlib.Core.Path.{_≡_, refl, ap, sym, _∙_}
-use mathlib.Core.Logic.{_⊎_, inl, inr, _≢_, ⊎-elim}
+use Prim.Native.Nat.{ℕ, _-_, _≤_, _<_}
+use mathlib.Core.Path.{_≡_, refl, sym, _∙_}
+use mathlib.Core.Logic.{_≢_, ⊎-elim}
 use mathlib.Core.Bool.{Bool, true, false}
 use mathlib.Core.List.{List, [], _∷_, _++_, map}
 use native.Mathlib.Omega.{arith}
 use native.Mathlib.Numerals.{add-one}
-use borrow.Author.Tests.{eqb-true, eqb-false, eq-eqb, ne-eqb, lt-ltb, le-ltb, le-leb, ltb-true}
-use lib.Dec.{eqb, ltb, leb}
-use lib.ListN.{length, getD, take, set, length-set, length-append}
+use borrow.Author.Tests.{eqb-true, eqb-false, eq-eqb, lt-ltb, le-ltb, le-leb, ltb-true}
+use lib.Dec.{eqb, ltb}
+use lib.ListN.{length, getD, take, length-set, length-append}
 use lib.Seq.{getD-take, take-suc-set, take-set-le, take-take, length-take-le, take-length}
-use Rattle.lists.specs.Choice.{both, pick}
+use Rattle.lists.specs.Choice.{pick}
 use Rattle.lists.proofs.ChoiceLaws.{both-true, true-both}
 use Rattle.lists.proofs.Cases.{le-or-lt, true-or-false}
-use Rattle.grid.specs.Grid.{Grid, grid, sizesOk, Limits, borderCount}
+use Rattle.grid.specs.Grid.{grid, sizesOk, Limits, borderCount}
 use Rattle.grid.proofs.Geometry.{limits-ok, borderCount-le}
 use Rattle.ledger.specs.Ledger as ledger
-use Rattle.ledger.specs.Ledger.{Decision, stateOf, stateIn, standing, accepted, ledgerOf, borders, holdsOf}
+use Rattle.ledger.specs.Ledger.{Decision, stateIn, standing, accepted, ledgerOf, holdsOf}
 use Rattle.ledger.proofs.Standing.{Sound, sound-empty, sound-length, sound-decide, sound-take, Follows, follows-decide, follows-undo, holds-together, accepted-facts}
-use Rattle.ledger.proofs.Question.{Question, holds-question, room-left}
+use Rattle.ledger.proofs.Question.{holds-question, room-left}
 use Rattle.board.specs.declared.Board.{Board}
-use Rattle.board.specs.Board.{zeros, sizeOf, bordersOf, namesOf, placed, taken}
+use Rattle.board.specs.Board.{sizeOf, bordersOf, namesOf, placed, taken}
 use Rattle.board.proofs.Laws.{zeros-length}
 use Rattle.puzzle.specs.declared.Puzzle.{Puzzle}
 use Rattle.puzzle.specs.declared.Made.{Made}
 use Rattle.rooms.specs.Rooms.{isGiven}
-use Rattle.puzzle.specs.Puzzle.{listsCode, freshState, freshPuzzle, answer, gridOf, givenOf, cluesOf, together, puzzleCode, asked, onto, decideOf, undoOf}
+use Rattle.puzzle.specs.Puzzle.{listsCode, freshState, freshPuzzle, answer, gridOf, givenOf, cluesOf, together, puzzleCode, onto, decideOf, undoOf}
 use Rattle.puzzle.specs.Run.{Call, decide, undo, ask, puzzleAfter, run, onLedger, ledgerAfter}
 use Rattle.puzzle.proofs.Basics.{states-length, states-at}
 use Rattle.puzzle.proofs.Answers.{no-border, not-free, decided, nothing-left, undone}

@@ -3,14 +3,14 @@
 use Prim.Native.Nat.{ℕ, _*_, _/_, _%_, _≤_, _<_}
 use mathlib.Core.Path.{_≡_}
 use mathlib.Core.Logic.{_↔_}
-use mathlib.Core.Bool.{Bool, false}
+use mathlib.Core.Bool.{false}
 use mathlib.Core.List.{List, [], map}
 use mathlib.Core.Option.{Option, none, some}
 use lib.Dec.{eqb}
 use lib.ListN.{length, take}
 use Rattle.lists.specs.Lists.{In, count}
 use Rattle.frame.specs.Frame.{States}
-use Rattle.grid.specs.Grid.{Grid, grid, cells, borderCount}
+use Rattle.grid.specs.Grid.{grid, cells, borderCount}
 use Rattle.borders.specs.Entry.{Standing}
 use Rattle.shape.specs.Laws.{FullBoard}
 use Rattle.puzzle.specs.declared.Puzzle.{Puzzle}

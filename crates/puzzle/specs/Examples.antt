@@ -3,7 +3,7 @@
 -- Assumes nothing.
 use Prim.Native.Nat.{ℕ, _*_}
 use mathlib.Core.Path.{_≡_, refl}
-use mathlib.Core.Bool.{Bool, true, false}
+use mathlib.Core.Bool.{true, false}
 use mathlib.Core.List.{List, [], _∷_, map}
 use mathlib.Core.Option.{Option, none, some}
 use lib.ListN.{length, replicate}
@@ -11,13 +11,13 @@ use Rattle.lists.specs.Lists.{count}
 use Rattle.grid.specs.Grid.{grid}
 use Rattle.shape.specs.Shape.{shapeFault}
 use Rattle.board.specs.Board.{zeros}
-use Rattle.puzzle.specs.declared.Check.the-variants.{Shape, Room}
+use Rattle.puzzle.specs.declared.Check.the-variants.{Shape}
 use Rattle.puzzle.specs.declared.Answer.{Answer}
 use Rattle.puzzle.specs.declared.Answer.the-variants.{Clear, Fault, Refused}
 use Rattle.room_parts.specs.Graph.{graph, statesIn}
-use Rattle.rooms.specs.Stub.{roomFault}
+use Rattle.city_count.specs.Fault.{roomFault}
 use Rattle.puzzle.specs.Fault.{faultOf}
-use Rattle.puzzle.specs.Puzzle.{listsCode, together, noClues, statesOf, Asked, askOf}
+use Rattle.puzzle.specs.Puzzle.{listsCode, together, noClues, statesOf, askOf}
 use Rattle.puzzle.specs.Run.{Call, decide, undo, ask, coded, asked, run, replies}
 use Rattle.puzzle.specs.Demand3.{listOf, freshOf, after}
 

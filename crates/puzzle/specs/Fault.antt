@@ -3,7 +3,7 @@
 use Prim.Native.Nat.{ℕ}
 use mathlib.Core.List.{List}
 use mathlib.Core.Option.{Option, none, some}
-use Rattle.lists.specs.Choice.{pick, orElse, through}
+use Rattle.lists.specs.Choice.{pick, orElse}
 use Rattle.lists.specs.Lists.{range, first}
 use Rattle.grid.specs.Grid.{Grid}
 use Rattle.borders.specs.Border.{stateOf}

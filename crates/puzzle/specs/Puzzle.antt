@@ -1,7 +1,7 @@
 -- What a puzzle's making, decide, undo and ask answer (01, "Puzzle" and questions 1 to 9).
 -- Assumes nothing.
 use Prim.Native.Nat.{ℕ, zero, suc, _*_}
-use mathlib.Core.Bool.{Bool, true, false}
+use mathlib.Core.Bool.{Bool, true}
 use mathlib.Core.List.{List, [], _∷_, map}
 use mathlib.Core.Option.{Option, none, some}
 use lib.Dec.{eqb, ltb, leb}

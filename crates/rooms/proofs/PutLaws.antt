@@ -1,8 +1,8 @@
 -- A value at each given wall: the loop that writes it, and what stands at each place then.
 -- Assumes nothing.
 use Prim.Native.Nat.{ℕ, _+_, _≤_, _<_}
-use mathlib.Core.Path.{_≡_, refl, ap, sym, _∙_, fun-ext}
-use mathlib.Core.Logic.{_⊎_, inl, inr, _≢_, ⊎-elim}
+use mathlib.Core.Path.{_≡_, refl, ap, _∙_, fun-ext}
+use mathlib.Core.Logic.{inl, inr, _≢_, ⊎-elim}
 use mathlib.Core.Bool.{Bool, true, false, not}
 use mathlib.Core.List.{List, [], _∷_}
 use native.Mathlib.Omega.{arith}
@@ -15,14 +15,13 @@ use Rattle.lists.specs.Choice.{either, pick}
 use Rattle.lists.specs.Lists.{In, any}
 use Rattle.lists.proofs.Cases.{le-or-lt, eq-or-ne}
 use Rattle.lists.proofs.ListLaws.{getD-in}
-use Rattle.grid.specs.Grid.{Grid, cells, borderCount}
+use Rattle.grid.specs.Grid.{Grid, cells}
 use Rattle.grid.proofs.Geometry.{borderCount-le}
-use Rattle.parts.specs.Parts.{Edge, parts, roots, begunIn}
-use Rattle.groups.specs.Groups.{passes, edgesOver, edges, groupIds, groupCount}
+use Rattle.parts.specs.Parts.{parts, roots, begunIn}
+use Rattle.groups.specs.Groups.{passes, edgesOver, groupIds, groupCount}
 use Rattle.groups.specs.Floods.{Fits}
 use Rattle.groups.specs.Lent.{Grouped}
-use Rattle.groups.specs.Turn.{inTurn, startsOf}
-use Rattle.rooms.specs.Rooms.{isGiven, roomEdges, roomIds, roomCount}
+use Rattle.rooms.specs.Rooms.{isGiven, roomIds, roomCount}
 use Rattle.rooms.specs.Lent.{unmarked, puts, Below, Given, Roomed}
 
 -- a turn of the loop, and its end

@@ -1,33 +1,31 @@
 -- Rooms are told apart by their numbers, and a room's edges are exactly the borders inside it that are not given.
 -- Assumes nothing.
-use Prim.Native.Nat.{ℕ, _≤_, _<_}
+use Prim.Native.Nat.{ℕ}
 use mathlib.Core.Path.{_≡_, refl, ap, sym, _∙_}
-use mathlib.Core.Logic.{_⊎_, inl, inr, ⊎-elim}
-use mathlib.Core.Bool.{Bool, true, false, not}
-use mathlib.Core.List.{List, [], _∷_, map}
+use mathlib.Core.Logic.{⊎-elim}
+use mathlib.Core.Bool.{true, false, not}
+use mathlib.Core.List.{List, [], _∷_}
 use native.Mathlib.Omega.{arith}
 use borrow.Author.Tests.{eqb-true, eq-eqb, not-true}
 use lib.Dec.{eqb}
-use lib.ListN.{length, getD, length-map}
-use Rattle.lists.specs.Choice.{both, when}
-use Rattle.lists.specs.Lists.{In, any, gather}
+use lib.ListN.{getD}
+use Rattle.lists.specs.Choice.{both}
+use Rattle.lists.specs.Lists.{In, gather}
 use Rattle.lists.proofs.Cases.{true-or-false}
 use Rattle.lists.proofs.ChoiceLaws.{both-true, true-both}
 use Rattle.lists.proofs.ListLaws.{any-true, true-any, in-when, when-in, in-gather, gather-in}
 use Rattle.frame.specs.Frame.{Chain, here, on, States}
 use Rattle.grid.specs.declared.Direction.{Direction}
 use Rattle.grid.specs.declared.Direction.the-variants.{Down, Right}
-use Rattle.grid.specs.Grid.{Grid, cells, Cell, goesOn, next, border, borderCount}
+use Rattle.grid.specs.Grid.{Grid, cells, Cell, goesOn, next, border}
 use Rattle.grid.specs.Steps.{Step, Neighbours}
-use Rattle.grid.proofs.Geometry.{goes-step, step-goes, step-next, border-lt}
+use Rattle.grid.proofs.Geometry.{goes-step, step-goes, step-next}
 use Rattle.boundary.specs.Boundary.{ahead}
 use Rattle.parts.proofs.PartLists.{begun-at}
-use Rattle.groups.specs.Groups.{edgesOver, cellsOf}
 use Rattle.groups.proofs.GroupLaws.{Labels, Passing, in-cells, cells-in, edges-within, part-labels}
 use Rattle.rooms.specs.Rooms.{isGiven, roomEdges, roomIds, roomCount, roomCells}
-use Rattle.rooms.specs.RoomGraph.{Spot, inRoom, spotsAt, spots, roomBorders, place, roomGraph}
+use Rattle.rooms.specs.RoomGraph.{Spot, inRoom, spotsAt, spots}
 use Rattle.rooms.specs.Units.{GivenWalls}
-use Rattle.rooms.proofs.Places.{at-place, place-at}
 
 -- GIVEN WALLS
 pub given-in : (given : List ℕ) (e : ℕ) → isGiven given e ≡ true → In e given

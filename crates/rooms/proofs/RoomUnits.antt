@@ -2,24 +2,23 @@
 -- Assumes nothing.
 use Prim.Native.Nat.{ℕ, zero, suc, _+_, _≤_, _<_}
 use mathlib.Core.Path.{_≡_, refl, ap, sym, _∙_}
-use mathlib.Core.Logic.{_⊎_, inl, inr, _≢_, ⊎-elim, _↔_}
+use mathlib.Core.Logic.{⊎-elim, _↔_}
 use mathlib.Core.Bool.{Bool, true, false}
 use mathlib.Core.List.{List, [], _∷_, _++_, map}
 use native.Mathlib.Omega.{arith}
 use borrow.Author.Tests.{eqb-true, eq-eqb}
 use lib.Dec.{eqb}
-use lib.ListN.{length, getD, length-map, length-append}
+use lib.ListN.{length, getD, length-map}
 use Rattle.lists.specs.Choice.{pick, when}
-use Rattle.lists.specs.Lists.{In, count, keep}
-use Rattle.lists.proofs.Cases.{le-or-lt, true-or-false}
+use Rattle.lists.specs.Lists.{In, keep}
+use Rattle.lists.proofs.Cases.{le-or-lt}
 use Rattle.lists.proofs.ChoiceLaws.{same-truth}
 use Rattle.lists.proofs.ListLaws.{getD-in, in-keep, keep-in}
 use Rattle.frame.specs.Frame.{Chain, here, on, Link, States, SameUnit}
-use Rattle.frame.proofs.Chains.{chain-map, unit-back}
-use Rattle.grid.specs.declared.Direction.{Direction}
-use Rattle.grid.specs.Grid.{Grid, cells, Cell, next, border}
-use Rattle.grid.specs.Steps.{Step, Neighbours}
-use Rattle.grid.proofs.Geometry.{step-next, neighbours-back}
+use Rattle.frame.proofs.Chains.{chain-map}
+use Rattle.grid.specs.Grid.{Grid, next, border}
+use Rattle.grid.specs.Steps.{Neighbours}
+use Rattle.grid.proofs.Geometry.{step-next}
 use Rattle.borders.proofs.Directions.{Ahead, down-or-right}
 use Rattle.parts.specs.Parts.{Edge, Has, Joined, same, over, back, then, root, begun}
 use Rattle.parts.proofs.PartLaws.{root-le, to-root, root-least, joined-root, root-root, root-joined}
@@ -29,7 +28,7 @@ use Rattle.room_parts.specs.Graph.{Graph, isConnected, edgesIf, partsIf, connec
 use Rattle.rooms.specs.Rooms.{isGiven, roomIds, roomCells}
 use Rattle.rooms.specs.RoomGraph.{Spot, spots, place, fromOf, intoOf, borderOf, roomGraph, roomBorders, edgeState}
 use Rattle.rooms.specs.Units.{InRoom, GivenWalls, HoldsUnits}
-use Rattle.room_parts.proofs.EdgeLaws.{Passes, in-edges, edges-in}
+use Rattle.room_parts.proofs.EdgeLaws.{in-edges, edges-in}
 use Rattle.rooms.proofs.Places.{map-at, at-place, place-at, in-map, map-in, Rising, cells-rising, kept-rising, place-of, rising-place, once, no-longer}
 use Rattle.rooms.proofs.RoomLaws.{same-room, in-room-cells, room-cells-in, Inside, spot-inside, inside-spot}
 

@@ -2,29 +2,28 @@
 -- it stands there is a fault; on a full board with the given walls it is clear exactly if the room holds as many units as counted.
 -- Assumes nothing.
 use Prim.Native.Nat.{ℕ, _+_, _*_, _/_, _%_, _≤_, _<_}
-use mathlib.Core.Path.{_≡_, refl, ap, sym, _∙_}
+use mathlib.Core.Path.{_≡_, ap, sym, _∙_}
 use mathlib.Core.Logic.{_⊎_, ⊎-elim, _↔_}
 use mathlib.Core.List.{List, [], _∷_, map}
 use mathlib.Core.Option.{Option, none, some, Option·some-injective, Option·some-ne-none}
 use native.Mathlib.Omega.{arith}
 use lib.ListN.{length, getD, length-map}
-use Rattle.lists.specs.Choice.{when, through}
-use Rattle.lists.specs.Lists.{In, gather}
+use Rattle.lists.specs.Choice.{through}
+use Rattle.lists.specs.Lists.{gather}
 use Rattle.lists.proofs.ChoiceLaws.{through-some, none-or-some}
 use Rattle.frame.specs.Frame.{States}
-use Rattle.grid.specs.declared.Direction.{Direction}
 use Rattle.grid.specs.declared.Direction.the-variants.{Down, Right}
 use Rattle.grid.specs.Grid.{Grid, cells, borderCount}
 use Rattle.grid.proofs.Geometry.{border-lt}
 use Rattle.borders.specs.Entry.{Stands, Standing}
 use Rattle.boundary.proofs.Lengths.{when-most, gather-most}
 use Rattle.boundary.proofs.BoundaryLaws.{cells-most}
-use Rattle.room_parts.specs.Graph.{Graph, connectedParts}
-use Rattle.rooms.specs.Stub.{roomFault}
+use Rattle.room_parts.specs.Graph.{Graph}
+use Rattle.city_count.specs.Fault.{roomFault}
 use Rattle.rooms.specs.Rooms.{isGiven, roomIds, roomCells}
-use Rattle.rooms.specs.RoomGraph.{Spot, inRoom, spotsAt, spots, roomBorders, roomGraph, edgeState, onBoard, roomList}
+use Rattle.rooms.specs.RoomGraph.{inRoom, spotsAt, spots, roomBorders, roomGraph, edgeState, onBoard, roomList}
 use Rattle.rooms.specs.Units.{GivenWalls, InRoom, HoldsUnits}
-use Rattle.rooms.proofs.RoomCheck.{room-listed, room-short, room-again, room-decides, room-agrees}
+use Rattle.city_count.proofs.FaultLaws.{room-listed, room-short, room-again, room-decides, room-agrees}
 use Rattle.rooms.proofs.Places.{in-map, map-in}
 use Rattle.rooms.proofs.RoomUnits.{edge-at, room-units}
 

@@ -3,7 +3,7 @@
 use Prim.Native.Nat.{ℕ, suc, _+_, _*_, _/_, _%_}
 use mathlib.Core.Bool.{Bool, not}
 use mathlib.Core.List.{List, [], _∷_, map}
-use mathlib.Core.Option.{Option, none, some}
+use mathlib.Core.Option.{Option, some}
 use lib.Dec.{eqb}
 use lib.ListN.{getD, length}
 use Rattle.lists.specs.Choice.{both, when, pick, through}
@@ -14,7 +14,7 @@ use Rattle.grid.specs.Grid.{Grid, goesOn, next, border}
 use Rattle.boundary.specs.Boundary.{ahead}
 use Rattle.groups.specs.Groups.{cellsOf}
 use Rattle.room_parts.specs.Graph.{Graph, graph}
-use Rattle.rooms.specs.Stub.{roomFault}
+use Rattle.city_count.specs.Fault.{roomFault}
 
 -- a border, told from its upper or left cell
 pub record Spot : Type 0 where

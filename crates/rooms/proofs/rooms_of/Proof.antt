@@ -6,10 +6,6 @@ use Rattle.rooms.specs.Lent.{unmarked}
 use Rattle.rooms.proofs.PutLaws.{walls-fit, marks-fit, roomed}
 use Rattle.rooms.proofs.rooms_of.Statement.{statement}
 use Rattle.rooms.proofs.rooms_of.Tie as tie
-use Rattle.rooms.proofs.rooms_of.Reads as reads
-use Rattle.rooms.proofs.rooms_of.Lts as lts
-use Rattle.groups.proofs.groups_of.Reads as groups-of-reads
-use Rattle.rooms.proofs.put.Reads as put-reads
 
 slice-aggregate-put : tie.Need-slice-aggregate-put
 slice-aggregate-put c = search needs
