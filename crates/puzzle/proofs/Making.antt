@@ -1,0 +1,119 @@
+-- What questions 1, 3, 7, 8 and 9 say of the lists that a making accepts, and what the fresh puzzle holds.
+-- Assumes nothing.
+use Prim.Native.Nat.{ℕ, _≤_, _<_}
+use mathlib.Core.Path.{_≡_, refl}
+use mathlib.Core.Bool.{Bool, true, false, not}
+use mathlib.Core.List.{List}
+use native.Mathlib.Omega.{arith}
+use borrow.Author.Tests.{eqb-true, leb-true, ltb-true, not-true}
+use lib.Dec.{eqb, ltb, leb}
+use lib.ListN.{length, length-replicate}
+use Rattle.lists.specs.Choice.{pick}
+use Rattle.lists.specs.Lists.{range, In}
+use Rattle.lists.proofs.Cases.{not-both}
+use Rattle.lists.proofs.ChoiceLaws.{either-true}
+use Rattle.lists.proofs.ListLaws.{all-true, range-in}
+use mathlib.Core.Logic.{⊎-elim}
+use Rattle.grid.specs.Grid.{Grid, grid, sizesOk, Limits, cells, borderCount}
+use Rattle.grid.proofs.Geometry.{limits, cells-le, borderCount-le}
+use Rattle.parts.proofs.PartLaws.{begun-small}
+use Rattle.parts.proofs.PartLists.{begun-at}
+use Rattle.groups.proofs.GroupLaws.{edges-within}
+use Rattle.board.specs.Board.{zeros}
+use Rattle.board.proofs.Laws.{zeros-length}
+use Rattle.puzzle.specs.declared.Puzzle.{Puzzle}
+use Rattle.rooms.specs.Rooms.{isGiven, roomEdges, roomCount, roomCells, clued, clueOf}
+use Rattle.puzzle.specs.Puzzle.{exist, rises, oneEach, fitsRoom, cluesFit, listsCode, noClues, freshPuzzle, zeroPuzzle, answer, makeCode, makeOf, givenOf, cluesOf}
+use Rattle.rooms.proofs.RoomLaws.{given-in}
+use Rattle.puzzle.proofs.Basics.{rises-length, sets-length}
+
+-- lists that questions 3, 7, 8 and 9 accept
+pub record Fit (g : Grid) (given clues : List ℕ) : Type 0 where
+  pub inside : (e : ℕ) → In e given → e < borderCount g
+  pub rising : rises given ≡ true
+  pub one-each : length clues ≡ roomCount g given
+  pub small : (r : ℕ) → r < roomCount g given → clued clues r ≡ true → clueOf clues r ≤ length (roomCells g given r)
+
+module _ (g : Grid) (given clues : List ℕ) where
+  clue-small : cluesFit g given clues ≡ true → (r : ℕ) → r < roomCount g given → clued clues r ≡ true → clueOf clues r ≤ length (roomCells g given r)
+  unfolding cluesFit
+  clue-small q r l c =
+      ⊎-elim
+      (λ k. absurd (not-both (eqb (clueOf clues r) 65535) k (not-true _ c)))
+      (λ k. leb-true _ _ k)
+      (either-true (eqb (clueOf clues r) 65535) (leb (clueOf clues r) (length (roomCells g given r))) (all-true (fitsRoom g given clues) (range (roomCount g given)) q r (range-in _ r l)))
+
+  pub lists-fit : listsCode g given clues ≡ 0 → Fit g given clues
+  unfolding listsCode
+  lists-fit = go (exist g given) refl (rises given) refl (oneEach g given clues) refl (cluesFit g given clues) refl
+    where
+      go : (a : Bool) → exist g given ≡ a → (b : Bool) → rises given ≡ b → (c : Bool) → oneEach g given clues ≡ c → (d : Bool) → cluesFit g given clues ≡ d
+          → _≡_ {A = ℕ} (pick a (pick b (pick c (pick d 0 9) 8) 7) 3) 0 → Fit g given clues
+      go true p true q true r true s z =
+          record {
+            inside = λ e m. ltb-true e (borderCount g) (all-true (λ x. ltb x (borderCount g)) given p e m);
+            rising = q;
+            one-each = eqb-true _ _ r;
+            small = clue-small s;
+          }
+      go true p true q true r false s z = absurd (omega arith)
+      go true p true q false r d s z = absurd (omega arith)
+      go true p false q c r d s z = absurd (omega arith)
+      go false p b q c r d s z = absurd (omega arith)
+
+  -- no board has more rooms than cells
+  pub rooms-few : roomCount g given ≤ cells g
+  unfolding roomCount
+  rooms-few =
+      let E = roomEdges g given in
+      omega (arith, begun-at (cells g) E (cells g) (edges-within g (λ e. not (isGiven given e))) (omega arith), begun-small E (cells g))
+
+-- what an accepted making is given
+pub record Accepted (h w : ℕ) (given clues : List ℕ) : Type 0 where
+  pub limits : Limits (grid h w)
+  pub lists : listsCode (grid h w) given clues ≡ 0
+  pub fit : Fit (grid h w) given clues
+
+module _ (h w : ℕ) (given clues : List ℕ) where
+  code-zero : (n : ℕ) (p z : Puzzle) (t : Bool) → eqb n 0 ≡ t → pick t (answer 0 p) (answer n z) .code ≡ 0 → n ≡ 0
+  code-zero n p z true q k = eqb-true n 0 q
+  code-zero n p z false q k = k
+
+  code-accepted : makeCode h w given clues ≡ 0 → Accepted h w given clues
+  code-accepted = go (sizesOk (grid h w)) refl
+    where
+      go : (t : Bool) → sizesOk (grid h w) ≡ t → pick t (listsCode (grid h w) given clues) 1 ≡ 0 → Accepted h w given clues
+      go true p z = record { limits = limits (grid h w) p; lists = z; fit = lists-fit (grid h w) given clues z }
+      go false p z = absurd (omega arith)
+
+  pub made-accepted : makeOf h w given clues .code ≡ 0 → Accepted h w given clues
+  made-accepted z =
+      code-accepted (code-zero (makeCode h w given clues) (freshPuzzle h w given clues) zeroPuzzle (eqb (makeCode h w given clues) 0) refl z)
+
+  pub made-fresh : makeOf h w given clues .code ≡ 0 → makeOf h w given clues ≡ answer 0 (freshPuzzle h w given clues)
+  made-fresh z = go (makeCode h w given clues) (code-zero (makeCode h w given clues) (freshPuzzle h w given clues) zeroPuzzle (eqb (makeCode h w given clues) 0) refl z)
+    where
+      go : (n : ℕ) → n ≡ 0 → pick (eqb n 0) (answer 0 (freshPuzzle h w given clues)) (answer n zeroPuzzle) ≡ answer 0 (freshPuzzle h w given clues)
+      go n q = rw q
+
+  -- the lists of a fresh puzzle are the making's
+  module _ (a : Accepted h w given clues) where
+    pub given-short : length given ≤ 1984
+    given-short = omega (arith, rises-length (borderCount (grid h w)) given (a .fit .rising) (a .fit .inside), borderCount-le (grid h w) (a .limits))
+
+    pub clues-short : length clues ≤ 1024
+    clues-short = omega (arith, a .fit .one-each, rooms-few (grid h w) given clues, cells-le (grid h w) (a .limits))
+
+    pub given-kept : givenOf (freshPuzzle h w given clues) ≡ given
+    given-kept = sets-length zeros given (omega (arith, given-short, zeros-length))
+
+    no-clues-length : length noClues ≡ 1024
+    unfolding noClues
+    no-clues-length = length-replicate {A = ℕ} 1024 0
+
+    pub clues-kept : cluesOf (freshPuzzle h w given clues) ≡ clues
+    clues-kept = sets-length noClues clues (omega (arith, clues-short, no-clues-length))
+
+    -- no number behind the board's borders is a given wall
+    pub given-inside : (e : ℕ) → isGiven given e ≡ true → e < borderCount (grid h w)
+    given-inside e q = a .fit .inside e (given-in given e q)

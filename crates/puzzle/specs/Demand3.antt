@@ -1,0 +1,95 @@
+-- Demand 3, sentence by sentence: one claim about lists of decide, undo and ask calls, refused ones included, from a fresh puzzle.
+-- Assumes nothing.
+use Prim.Native.Nat.{ℕ, _*_, _/_, _%_, _≤_, _<_}
+use mathlib.Core.Path.{_≡_}
+use mathlib.Core.Logic.{_↔_}
+use mathlib.Core.Bool.{false}
+use mathlib.Core.List.{List, [], map}
+use mathlib.Core.Option.{Option, none, some}
+use lib.Dec.{eqb}
+use lib.ListN.{length, take}
+use Rattle.lists.specs.Lists.{In, count}
+use Rattle.frame.specs.Frame.{States}
+use Rattle.grid.specs.Grid.{grid, cells, borderCount}
+use Rattle.borders.specs.Entry.{Standing}
+use Rattle.shape.specs.Laws.{FullBoard}
+use Rattle.puzzle.specs.declared.Puzzle.{Puzzle}
+use Rattle.puzzle.specs.declared.Check.{Check}
+use Rattle.puzzle.specs.declared.Answer.{Answer}
+use Rattle.puzzle.specs.declared.Answer.the-variants.{Clear, Fault, Refused}
+use Rattle.rooms.specs.Rooms.{isGiven}
+use Rattle.puzzle.specs.Fault.{Found, faultOf}
+use Rattle.puzzle.specs.Laws.{RightBoard}
+use Rattle.puzzle.specs.Puzzle.{statesOf, makeOf, says, Asked, askOf}
+use Rattle.puzzle.specs.Run.{Call, decide, run, Reply, coded, replies, stateAfter}
+
+-- "a long enough buffer"
+abbrev pub Long : ℕ → ℕ → List ℕ → Type 0
+Long h w buf = 9 * cells (grid h w) ≤ length buf
+
+-- what an ask lists: as many of the buffer's first entries as its answer says
+abbrev pub lengthOf : Answer → ℕ
+lengthOf Clear = 0
+lengthOf (Fault k n) = n
+lengthOf (Refused n) = 0
+
+abbrev pub listOf : Asked → List ℕ
+listOf a = take (lengthOf (a .answer)) (a .buffer)
+
+-- "Two asks answer alike when all of this is equal, and the listed entries too, in order."
+pub record Alike (x y : Asked) : Type 0 where
+  pub answers : x .answer ≡ y .answer
+  pub lists : listOf x ≡ listOf y
+
+-- an accepted ask says what was found, and lists it
+abbrev pub listIn : Option Found → List ℕ
+listIn none = []
+listIn (some f) = f .list
+
+pub record Gives (x : Asked) (f : Option Found) : Type 0 where
+  pub answer : x .answer ≡ says 0 f
+  pub list : listOf x ≡ listIn f
+
+abbrev pub IsFault : Answer → Type 0
+IsFault a = (k : Check) × (n : ℕ) × (a ≡ Fault k n)
+
+-- "the listed borders other than given walls [..], each once and with its listed value", in some order: its entries
+pub record OrderOf (given L order : List ℕ) : Type 0 where
+  pub once : (l : ℕ) → count l order ≤ 1
+  pub listed : (l : ℕ) → In l order → In l L × (isGiven given (l / 2) ≡ false)
+  pub whole : (l : ℕ) → In l L → isGiven given (l / 2) ≡ false → In l order
+
+-- the decide call of an entry
+abbrev pub decideAs : ℕ → Call
+decideAs l = decide (l / 2) (eqb (l % 2) 1)
+
+-- "each run from a fresh puzzle": the puzzle after a list of calls
+abbrev pub freshOf : ℕ → ℕ → List ℕ → List ℕ → Puzzle
+freshOf h w given clues = makeOf h w given clues .puzzle
+
+abbrev pub after : ℕ → ℕ → List ℕ → List ℕ → List Call → Puzzle
+after h w given clues calls = run (freshOf h w given clues) calls
+
+-- THE DEMAND, for a puzzle of that size with these given walls and clues
+pub record Demand3 (h w : ℕ) (given clues : List ℕ) : Type 0 where
+  -- "Take every two lists [..]. If by 01's ledger the same borders stand after both lists, the next ask with a long enough buffer answers both alike."
+  pub same : (a b : List Call) → ((e : ℕ) → e < borderCount (grid h w) → stateAfter h w given a e ≡ stateAfter h w given b e)
+      → (bufA bufB : List ℕ) → Long h w bufA → Long h w bufB → Alike (askOf (after h w given clues a) bufA) (askOf (after h w given clues b) bufB)
+  -- "That answer, list included, is exactly what 01's shape check and room counts give on the standing borders."
+  pub exact : (calls : List Call) (buf : List ℕ) → Long h w buf
+      → Gives (askOf (after h w given clues calls) buf) (faultOf (grid h w) given clues (statesOf (borderCount (grid h w)) (stateAfter h w given calls)))
+  -- "Suppose it is a fault. Then each listed border stands as listed."
+  pub listed : (calls : List Call) (buf : List ℕ) → Long h w buf → IsFault (askOf (after h w given clues calls) buf .answer)
+      → Standing (stateAfter h w given calls) (listOf (askOf (after h w given clues calls) buf))
+  -- "Every full board with the given walls and the listed borders as listed breaks the puzzle's laws." (That given walls are Wall is one of them.)
+  pub excludes : (calls : List Call) (buf : List ℕ) → Long h w buf → IsFault (askOf (after h w given clues calls) buf .answer)
+      → (s : States) → FullBoard (grid h w) s → Standing s (listOf (askOf (after h w given clues calls) buf)) → RightBoard (grid h w) given clues s → ⊥
+  -- "And in whatever order the listed borders other than given walls are decided, each once and with its listed value, on a fresh such puzzle,
+  -- the next ask there with a long enough buffer answers a fault again." Each of these decides is accepted.
+  pub again : (calls : List Call) (buf : List ℕ) → Long h w buf → IsFault (askOf (after h w given clues calls) buf .answer)
+      → (order : List ℕ) → OrderOf given (listOf (askOf (after h w given clues calls) buf)) order
+      → ((r : Reply) → In r (replies (freshOf h w given clues) (map decideAs order)) → r ≡ coded 0)
+      × ((buf' : List ℕ) → Long h w buf' → IsFault (askOf (after h w given clues (map decideAs order)) buf' .answer))
+  -- "Where the standing borders make a full board, the answer is clear exactly when that board obeys the laws."
+  pub full : (calls : List Call) → FullBoard (grid h w) (stateAfter h w given calls) → (buf : List ℕ) → Long h w buf
+      → (askOf (after h w given clues calls) buf .answer ≡ Clear) ↔ RightBoard (grid h w) given clues (stateAfter h w given calls)

@@ -1,0 +1,58 @@
+-- Lists of calls: what each answers, what it leaves, and the standing borders (01, "Standing ledger" and "Puzzle").
+-- Assumes nothing.
+use Prim.Native.Nat.{ℕ}
+use mathlib.Core.Bool.{Bool}
+use mathlib.Core.List.{List, [], _∷_, map}
+use Rattle.grid.specs.Grid.{grid, borderCount}
+use Rattle.ledger.specs.Ledger as ledger
+use Rattle.ledger.specs.Ledger.{Decision, ledgerOf, standing}
+use Rattle.puzzle.specs.declared.Puzzle.{Puzzle}
+use Rattle.rooms.specs.Rooms.{isGiven}
+use Rattle.puzzle.specs.Puzzle.{Asked, decideOf, undoOf, askOf}
+
+-- a call with its arguments, an ask with the buffer that it is lent: any border, any buffer
+pub data Call : Type 0 where
+  decide : ℕ → Bool → Call
+  undo : Call
+  ask : List ℕ → Call
+
+-- THE RUN
+-- the puzzle that a call returns or leaves
+unfoldable pub puzzleAfter : Puzzle → Call → Puzzle
+puzzleAfter p (decide e wall) = decideOf p e wall .puzzle
+puzzleAfter p undo = undoOf p .puzzle
+puzzleAfter p (ask buf) = p
+
+-- "the first gets the fresh puzzle, each later one the puzzle that the one before returned or left"
+unfoldable pub run : Puzzle → List Call → Puzzle
+unfolding puzzleAfter
+run p [] = p
+run p (c ∷ cs) = run (puzzleAfter p c) cs
+
+-- what a call answers: 01's number for a decide or an undo, 0 where it is accepted
+pub data Reply : Type 0 where
+  coded : ℕ → Reply
+  asked : Asked → Reply
+
+unfoldable pub replyTo : Puzzle → Call → Reply
+replyTo p (decide e wall) = coded (decideOf p e wall .code)
+replyTo p undo = coded (undoOf p .code)
+replyTo p (ask buf) = asked (askOf p buf)
+
+unfoldable pub replies : Puzzle → List Call → List Reply
+unfolding puzzleAfter replyTo
+replies p [] = []
+replies p (c ∷ cs) = replyTo p c ∷ replies (puzzleAfter p c) cs
+
+-- THE LEDGER, "worked out from the arguments of the making and the calls, never read from a record"
+abbrev pub onLedger : Call → ledger.Call
+onLedger (decide e wall) = ledger.decide e wall
+onLedger undo = ledger.undo
+onLedger (ask buf) = ledger.ask
+
+abbrev pub ledgerAfter : ℕ → ℕ → List ℕ → List Call → List Decision
+ledgerAfter h w given calls = ledgerOf (borderCount (grid h w)) (isGiven given) [] (map onLedger calls)
+
+-- the state of each border that stands after the calls
+abbrev pub stateAfter : ℕ → ℕ → List ℕ → List Call → ℕ → ℕ
+stateAfter h w given calls = standing (isGiven given) (ledgerAfter h w given calls)

@@ -1,0 +1,5 @@
+pub mod Places
+pub mod RoomLaws
+pub mod RoomUnits
+pub mod Theorems
+pub mod PutLaws

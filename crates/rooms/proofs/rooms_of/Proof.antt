@@ -1,0 +1,56 @@
+-- `rooms::rooms_of` meets its contract: the rooms are the potential units of a board with the given walls alone. Assumes nothing.
+use borrow.Author.Needs.{needs}
+use denote.Ref.{now}
+use Rattle.grid.specs.Grid.{grid}
+use Rattle.rooms.specs.Lent.{unmarked}
+use Rattle.rooms.proofs.PutLaws.{walls-fit, marks-fit, roomed}
+use Rattle.rooms.proofs.rooms_of.Statement.{statement}
+use Rattle.rooms.proofs.rooms_of.Tie as tie
+
+slice-aggregate-put : tie.Need-slice-aggregate-put
+slice-aggregate-put c = search needs
+
+put-requires : tie.Need-put-requires
+unfolding unmarked
+put-requires c κs =
+    let s = c .before .before .before .before .before in
+    walls-fit (grid (s .args .height) (s .args .width)) (now (s .args .given)) (s .args .len) (s .pre .0)
+
+slice-aggregate-groups-of : tie.Need-slice-aggregate-groups-of
+slice-aggregate-groups-of c = search needs
+
+groups-of-requires : tie.Need-groups-of-requires
+unfolding unmarked
+groups-of-requires c κs =
+    let s = c .before .before .before .before .before .before .before .before .before .before .before in
+    (rw (c .before .before .before .before .before .put .ensures) (marks-fit (grid (s .args .height) (s .args .width)) (now (s .args .given)) (s .args .len) (s .pre .0) 2), s .pre .1)
+
+same-length : tie.Need-same-length
+same-length c = search needs
+
+same-length-2 : tie.Need-same-length-2
+same-length-2 c = search needs
+
+same-length-3 : tie.Need-same-length-3
+same-length-3 c = search needs
+
+returns : tie.Need-returns
+unfolding unmarked
+returns c =
+    let s = c .before .before .before .before .before .before .before .before .before .before .before .before .before .before .before .before .before .before in
+    let o = c .before .before .before .before .before .before in
+    roomed (grid (s .args .height) (s .args .width)) (now (s .args .given)) (s .args .len) (s .pre .0) _ _ _ _ _ _ (o .groups-of .result)
+    (rw (o .before .before .before .before .before .before .put .ensures) at (o .groups-of .ensures))
+
+pub rooms-of-spec : {M : Type 1} → statement M
+rooms-of-spec =
+    tie.close
+    (tie.spec
+    slice-aggregate-put
+    put-requires
+    slice-aggregate-groups-of
+    groups-of-requires
+    same-length
+    same-length-2
+    same-length-3
+    returns)
