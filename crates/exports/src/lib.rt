@@ -2,7 +2,10 @@
 // by value, laid out as in C; a slice is a pointer and a length. An enum does not cross: it is handed over as numbers.
 mod boards;
 mod copies;
+mod groupings;
 mod hands;
+mod listings;
+mod paths;
 mod places;
 mod unions;
 
@@ -10,7 +13,10 @@ pub use boards::sendai_board_check;
 pub use boards::sendai_board_decide;
 pub use boards::sendai_board_make;
 pub use boards::sendai_board_undo;
+pub use groupings::sendai_group;
+pub use groupings::sendai_groups;
 pub use hands::sendai_hand_over;
+pub use paths::sendai_path;
 pub use places::sendai_neighbour;
 pub use unions::sendai_union_find;
 pub use unions::sendai_union_new;
