@@ -1,7 +1,7 @@
 -- What `groups::groups_of` leaves in lent slices: the cells of each group stand from its start up to its end.
 -- Assumes nothing.
 use Prim.Native.Nat.{ℕ, _≤_, _<_}
-use mathlib.Core.Path.{_≡_, refl, ap, sym, _∙_}
+use mathlib.Core.Path.{_≡_, refl}
 use mathlib.Core.Bool.{Bool}
 use mathlib.Core.List.{List}
 use native.Mathlib.Omega.{arith}
@@ -9,14 +9,14 @@ use lib.ListN.{getD, length}
 use lib.Seq.{sets, length-sets}
 use Rattle.grid.specs.Grid.{Grid, cells, Limits}
 use Rattle.grid.proofs.Geometry.{cells-le}
-use Rattle.groups.specs.Groups.{groupIds, groupCount, cellsOf}
+use Rattle.groups.specs.Groups.{groupIds, groupCount}
 use Rattle.groups.specs.Turn.{inTurn, startsOf}
-use Rattle.groups.specs.Info.{blankPlaces, infoOf, endOf, part}
+use Rattle.groups.specs.Info.{blankPlaces, endOf}
 use Rattle.groups.specs.Lent.{Grouped}
 use Rattle.groups.proofs.EdgeLaws.{ids-length}
 use Rattle.groups.proofs.Lending.{count-small}
-use Rattle.groups.proofs.InfoLaws.{Holds, holds-code, handed-out, start-before-end, end-within}
-use Rattle.groups.proofs.Theorems.{group-exists, no-empty-group, own-record, own-hand-out}
+use Rattle.groups.proofs.InfoLaws.{start-before-end, end-within}
+use Rattle.groups.proofs.Theorems.{group-exists, no-empty-group, own-record, part-cells}
 use Rattle.adjacency.specs.Turns.{InTurn}
 
 module _ {g : Grid} (limits : Limits g) (states : List ℕ) (p : Bool) (flat : List ℕ) (long : cells g ≤ length flat) where
@@ -41,17 +41,15 @@ module _ {g : Grid} (limits : Limits g) (states : List ℕ) (p : Bool) (flat : L
   own-turns : InTurn g ids count starts turns
   own-turns =
       record {
-        few = count-small states p limits;
+        few = count-small g states p;
         ids-long = omega (arith, ids-length g states p);
-        starts-long = simp length-sets (omega (arith, count-small states p limits, cells-le g limits, blank-long));
+        starts-long = simp length-sets (omega (arith, count-small g states p, cells-le g limits, blank-long));
         flat-long = turns-long;
         small = group-exists g states p;
         some = no-empty-group g states p;
         order = λ k h. omega (arith, rise k h);
         within = end-within (cells g) count starts (own-record g states p limits .rise);
-        cells-are = λ k h.
-            handed-out (infoOf g states p) turns k (sym (holds-code (infoOf g states p) (own-record g states p limits))) refl h turns-long refl refl
-            ∙ own-hand-out g states p limits flat k long h;
+        cells-are = λ k h. part-cells g states p blankPlaces (omega (arith, blank-long, cells-le g limits)) flat k long h;
       }
     where
       blank-long : length blankPlaces ≡ 1024

@@ -18,7 +18,7 @@ returns : tie.Need-returns
 returns c =
     let copied = c .before .before in
     let handed = copied .before .before in
-    (ap length (handed .group .ensures), rw (← handed .group .ensures) (copied .copy .ensures))
+    (ap length (handed .group .ensures .0), rw (← handed .group .ensures .0) (copied .copy .ensures))
 
 pub sendai-group-spec : {M : Type 1} → statement M
 sendai-group-spec = tie.close (tie.spec group-requires copy-requires same-length returns)
