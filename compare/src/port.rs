@@ -73,6 +73,32 @@ mod c {
     }
 
     #[repr(C)]
+    #[derive(Clone, Copy)]
+    pub struct CityCountConstraint {
+        pub vertices: usize,
+        pub edges: usize,
+        pub us: [u16; 1984],
+        pub vs: [u16; 1984],
+        pub count: u32,
+        pub states: [u8; 1984],
+        pub ledger: [u16; 1984],
+        pub len: usize,
+    }
+
+    #[repr(C)]
+    pub struct RoomDecided {
+        pub code: u8,
+        pub room: CityCountConstraint,
+    }
+
+    #[repr(C)]
+    pub struct Verdict {
+        pub code: u8,
+        pub fault: bool,
+        pub length: usize,
+    }
+
+    #[repr(C)]
     pub struct Listing {
         pub code: u8,
         pub length: usize,
@@ -89,6 +115,18 @@ mod c {
         pub safe fn sendai_union_new(n: usize) -> Made;
         pub safe fn sendai_union_find(union: UnionFind, x: usize) -> Found;
         pub safe fn sendai_union_unite(union: UnionFind, x: usize, y: usize) -> United;
+        pub safe fn sendai_room_check(room: CityCountConstraint) -> u8;
+        pub safe fn sendai_room_decide(room: CityCountConstraint, edge: usize, wall: bool) -> RoomDecided;
+        pub safe fn sendai_room_undo(room: CityCountConstraint) -> RoomDecided;
+        pub fn sendai_room_make(
+            vertices: usize,
+            us: *const u16,
+            us_length: usize,
+            vs: *const u16,
+            vs_length: usize,
+            count: u32,
+        ) -> RoomDecided;
+        pub fn sendai_room_ask(room: CityCountConstraint, buffer: *mut u16, room_for: usize) -> Verdict;
         pub fn sendai_groups(board: Board, potential: bool, buffer: *mut u16, room: usize) -> Grouping;
         pub fn sendai_group(
             info: GroupInfo,
@@ -275,5 +313,57 @@ impl Board {
 
     pub fn path(&self, from: usize, to: usize) -> Result<Vec<u16>, u8> {
         listed(self.room(), |buffer, room| unsafe { c::sendai_path(self.0, from, to, buffer, room) })
+    }
+}
+
+/// A room graph's record.
+#[derive(Clone, Copy)]
+pub struct City(c::CityCountConstraint);
+
+impl City {
+    pub fn make(vertices: usize, edges: &[(usize, usize)], count: u32) -> Result<City, u8> {
+        let ends = |end: fn(&(usize, usize)) -> usize| edges.iter().map(|e| end(e) as u16).collect::<Vec<u16>>();
+        let (us, vs) = (ends(|e| e.0), ends(|e| e.1));
+        // both slices live through the call
+        let made = unsafe { c::sendai_room_make(vertices, us.as_ptr(), us.len(), vs.as_ptr(), vs.len(), count) };
+        accepted(made.code).map(|()| City(made.room))
+    }
+
+    fn put(&mut self, decided: c::RoomDecided) -> Result<(), u8> {
+        self.0 = decided.room;
+        accepted(decided.code)
+    }
+
+    pub fn decide(&mut self, edge: usize, wall: bool) -> Result<(), u8> {
+        self.put(c::sendai_room_decide(self.0, edge, wall))
+    }
+
+    pub fn undo(&mut self) -> Result<(), u8> {
+        self.put(c::sendai_room_undo(self.0))
+    }
+
+    /// Questions 1 and 2.
+    pub fn check(&self) -> Result<(), u8> {
+        accepted(c::sendai_room_check(self.0))
+    }
+
+    pub fn states(&self) -> Vec<u8> {
+        self.0.states[..self.0.edges].to_vec()
+    }
+
+    pub fn ledger(&self) -> Vec<u16> {
+        self.0.ledger[..self.0.len].to_vec()
+    }
+
+    /// With a buffer of just the edge count.
+    pub fn ask(&self) -> Result<Option<Vec<u16>>, u8> {
+        let mut fault = false;
+        let list = listed(self.0.edges, |buffer, places| {
+            // the buffer lives through the call
+            let verdict = unsafe { c::sendai_room_ask(self.0, buffer, places) };
+            fault = verdict.fault;
+            c::Listing { code: verdict.code, length: verdict.length }
+        });
+        list.map(|list| fault.then_some(list))
     }
 }

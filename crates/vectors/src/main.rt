@@ -7,6 +7,7 @@ mod group_runs;
 mod hand_runs;
 mod numbering;
 mod path_runs;
+mod room_runs;
 mod sample;
 mod union_runs;
 
@@ -30,6 +31,7 @@ fn replay_case(s: &[u8], at: usize) -> Counts {
         3 => group_runs::replay(s, at),
         4 => path_runs::replay(s, at),
         7 => union_runs::replay(s, at),
+        8 => room_runs::replay(s, at),
         10 => hand_runs::replay(s, at),
         _ => case::unknown(),
     }
@@ -90,5 +92,6 @@ fn main() {
     check_file(b"groups.bin");
     check_file(b"path.bin");
     check_file(b"union_find.bin");
+    check_file(b"city_count.bin");
     check_file(b"hand_over.bin");
 }
