@@ -3,3 +3,4 @@ pub mod RoomLaws
 pub mod RoomUnits
 pub mod Theorems
 pub mod PutLaws
+pub mod VertexLaws
