@@ -4,3 +4,4 @@ pub mod RoomUnits
 pub mod Theorems
 pub mod PutLaws
 pub mod VertexLaws
+pub mod EdgeLaws
