@@ -5,3 +5,4 @@ pub mod Theorems
 pub mod PutLaws
 pub mod VertexLaws
 pub mod EdgeLaws
+pub mod EdgesLaws

@@ -102,3 +102,59 @@ fn edge<'a>(
     borders[m] = border as u16;
     m + 1
 }
+
+// Writes the edges of a room, whose cells are handed in, and returns how many there are.
+fn edges<'a>(
+    height: usize,
+    width: usize,
+    marks: &'a [u8],
+    ids: &'a [u16],
+    vertex: &'a [u16],
+    cells: &'a [u16],
+    room: usize,
+    us: &mut [u16],
+    vs: &mut [u16],
+    borders: &mut [u16],
+) -> usize
+    requires { ⌜ Housed (grid height width) (now marks) (now ids) (now vertex) ⌝ }
+    requires { ⌜ now cells ≡ cellsOf (grid height width) (now ids) room ⌝ }
+    requires { ⌜ Space (now us) (now vs) (now borders) 2048 ⌝ }
+    ensures { λ r.
+        ⌜ Written (grid height width) (now (ids .entry)) room (spots (grid height width) (markedIn (now (marks .entry))) (now (ids .entry)) room) (now (us .entry)) (now (vs .entry)) (now (borders .entry)) 0 (now (us .exit)) (now (vs .exit)) (now (borders .exit)) r ⌝ }
+{
+    let mut m = 0;
+    let mut i = 0;
+    while i < cells.len() {
+        let cell = wide(cells[i]);
+        m = edge(
+            height,
+            width,
+            marks,
+            ids,
+            vertex,
+            room,
+            cell,
+            Direction::Down,
+            us,
+            vs,
+            borders,
+            m,
+        );
+        m = edge(
+            height,
+            width,
+            marks,
+            ids,
+            vertex,
+            room,
+            cell,
+            Direction::Right,
+            us,
+            vs,
+            borders,
+            m,
+        );
+        i += 1;
+    }
+    m
+}
