@@ -6,3 +6,4 @@ pub mod PutLaws
 pub mod VertexLaws
 pub mod EdgeLaws
 pub mod EdgesLaws
+pub mod CopyLaws

@@ -1,13 +1,19 @@
 // The rooms of a puzzle: the cells that are joined when only given walls part cells, and the count of each room over the graph of its cells.
 ghost use mathlib.Core.Path.{_≡_};
 ghost use Prim.Native.Nat.{ℕ, _+_, _*_, _<_, _≤_};
+ghost use mathlib.Core.List.{map};
 ghost use lib.ListN.{length, getD, take};
+ghost use lib.Seq.{sets};
 ghost use Rattle.grid.specs.Grid.{grid};
 ghost use Rattle.groups.specs.Groups.{cellsOf};
 ghost use Rattle.groups.specs.Lent.{Lent};
 ghost use Rattle.groups.specs.Turn.{Keys};
-ghost use Rattle.rooms.specs.RoomGraph.{spotsAt, spots, place};
-ghost use Rattle.rooms.specs.Lent.{puts, Below, Given, Roomed, Vertices, markedIn, Housed, Space, Written};
+ghost use Rattle.borders.specs.Border.{stateOf};
+ghost use Rattle.city_count.specs.Fault.{listOf};
+ghost use Rattle.city_count.specs.Room.{foundOf};
+ghost use Rattle.rooms.specs.RoomGraph.{spotsAt, spots, onBoard, roomList};
+ghost use Rattle.rooms.specs.Lent.{puts, Below, Given, Roomed, Vertices, markedIn, Housed, Space, Written, Listed};
+use city_count::Inconsistency;
 use grid::Beyond;
 use grid::Direction;
 
@@ -157,4 +163,30 @@ fn edges<'a>(
         i += 1;
     }
     m
+}
+
+// Writes the state of each of the first m borders.
+fn edge_states<'a>(borders: &'a [u16], m: usize, states: &'a [u8], out: &mut [u8])
+    requires { ⌜ Below (length (now states)) (now borders) m ⌝ }
+    requires { ⌜ m ≤ length (now out) ⌝ }
+    ensures { λ _. ⌜ now (out .exit) ≡ sets (now (out .entry)) 0 (map (stateOf (now (states .entry))) (take m (now (borders .entry)))) ⌝ }
+{
+    let mut i = 0;
+    while i < m {
+        out[i] = states[wide(borders[i])];
+        i += 1;
+    }
+}
+
+// Turns the buffer's first k entries, of edges, into those of the edges' borders.
+fn on_board(borders: &[u16], k: usize, buf: &mut [u16])
+    requires { ⌜ Listed (now borders) k (now buf) ⌝ }
+    ensures { λ _. ⌜ now (buf .exit) ≡ sets (now (buf .entry)) 0 (map (onBoard (now (borders .entry))) (take k (now (buf .entry)))) ⌝ }
+{
+    let mut i = 0;
+    while i < k {
+        let l = wide(buf[i]);
+        buf[i] = (2 * wide(borders[l / 2]) + l % 2) as u16;
+        i += 1;
+    }
 }
