@@ -7,3 +7,4 @@ pub mod VertexLaws
 pub mod EdgeLaws
 pub mod EdgesLaws
 pub mod CopyLaws
+pub mod FewEdges
