@@ -3,3 +3,8 @@ pub mod RoomLaws
 pub mod RoomUnits
 pub mod Theorems
 pub mod PutLaws
+pub mod VertexLaws
+pub mod EdgeLaws
+pub mod EdgesLaws
+pub mod CopyLaws
+pub mod FewEdges

@@ -88,17 +88,22 @@ above-rising a (x ∷ xs) s i zero h l = absurd (omega arith)
 above-rising a (x ∷ xs) s zero (suc j) h l = above-at (suc x) xs (s .1) j (omega arith)
 above-rising a (x ∷ xs) s (suc i) (suc j) h l = above-rising (suc x) xs (s .1) i j (omega arith) (omega arith)
 
--- the cells of a group rise, and so do those that are kept of them
-module _ (g : Grid) (ids : List ℕ) (k : ℕ) where
-  cells-above : Above 0 (cellsOf g ids k)
-  unfolding cellsOf range
-  cells-above = above-keep (λ c. eqb (getD ids c 0) k) 0 (cells g)
+-- what is kept of the first n numbers rises, and so does what is kept of that
+kept-above : (p : ℕ → Bool) (n : ℕ) → Above 0 (keep p (range n))
+unfolding range
+kept-above p n = above-keep p 0 n
 
+pub keep-rising : (p : ℕ → Bool) (n : ℕ) → Rising (keep p (range n))
+keep-rising p n = above-rising 0 (keep p (range n)) (kept-above p n)
+
+module _ (g : Grid) (ids : List ℕ) (k : ℕ) where
   pub cells-rising : Rising (cellsOf g ids k)
-  cells-rising = above-rising 0 (cellsOf g ids k) cells-above
+  unfolding cellsOf
+  cells-rising = keep-rising (λ c. eqb (getD ids c 0) k) (cells g)
 
   pub kept-rising : (p : ℕ → Bool) → Rising (keep p (cellsOf g ids k))
-  kept-rising p = above-rising 0 (keep p (cellsOf g ids k)) (keep-above p 0 (cellsOf g ids k) cells-above)
+  unfolding cellsOf
+  kept-rising p = above-rising 0 (keep p (cellsOf g ids k)) (keep-above p 0 (cellsOf g ids k) (kept-above (λ c. eqb (getD ids c 0) k) (cells g)))
 
 -- PLACES
 pub place-of : (xs : List ℕ) (c : ℕ) → In c xs → (place xs c < length xs) × (getD xs (place xs c) 0 ≡ c)

@@ -1,6 +1,6 @@
 -- What the functions over lent slices ask and promise.
 -- Assumes nothing.
-use Prim.Native.Nat.{ℕ, _+_, _≤_, _<_}
+use Prim.Native.Nat.{ℕ, _+_, _/_, _≤_, _<_}
 use mathlib.Core.Path.{_≡_}
 use mathlib.Core.Bool.{Bool, not}
 use mathlib.Core.List.{List, [], _∷_, map}
@@ -67,3 +67,9 @@ pub record Written (g : Grid) (ids : List ℕ) (r : ℕ) (ss : List Spot) (us vs
   pub us-are : us' ≡ sets us m (map (fromOf g ids r) ss)
   pub vs-are : vs' ≡ sets vs m (map (intoOf g ids r) ss)
   pub borders-are : borders' ≡ sets borders m (map (borderOf g) ss)
+
+-- the first k entries of a buffer are of edges whose borders exist
+pub record Listed (borders : List ℕ) (k : ℕ) (buf : List ℕ) : Type 0 where
+  pub long : k ≤ length buf
+  pub edges : (i : ℕ) → i < k → getD buf i 0 / 2 < length borders
+  pub small : (e : ℕ) → getD borders e 0 < 1984

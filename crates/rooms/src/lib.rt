@@ -1,10 +1,21 @@
 // The rooms of a puzzle: the cells that are joined when only given walls part cells, and the count of each room over the graph of its cells.
 ghost use mathlib.Core.Path.{_≡_};
-ghost use Prim.Native.Nat.{_*_, _<_};
-ghost use lib.ListN.{length, take};
+ghost use Prim.Native.Nat.{ℕ, _+_, _*_, _<_, _≤_};
+ghost use mathlib.Core.List.{map};
+ghost use lib.ListN.{length, getD, take};
+ghost use lib.Seq.{sets};
 ghost use Rattle.grid.specs.Grid.{grid};
+ghost use Rattle.groups.specs.Groups.{cellsOf};
 ghost use Rattle.groups.specs.Lent.{Lent};
-ghost use Rattle.rooms.specs.Lent.{puts, Below, Given, Roomed};
+ghost use Rattle.groups.specs.Turn.{Keys};
+ghost use Rattle.borders.specs.Border.{stateOf};
+ghost use Rattle.city_count.specs.Fault.{listOf};
+ghost use Rattle.city_count.specs.Room.{foundOf};
+ghost use Rattle.rooms.specs.RoomGraph.{spotsAt, spots, onBoard, roomList};
+ghost use Rattle.rooms.specs.Lent.{puts, Below, Given, Roomed, Vertices, markedIn, Housed, Space, Written, Listed};
+use city_count::Inconsistency;
+use grid::Beyond;
+use grid::Direction;
 
 // A 16-bit number as an index.
 fn wide(x: u16) -> usize
@@ -44,4 +55,138 @@ pub fn rooms_of(
     let mut walls = [0u8; 1984];
     put(given, len, 2, &mut walls);
     groups::groups_of(&walls, height, width, true, ids, starts, flat)
+}
+
+// Writes each cell's vertex to `vertex`. `next` has a place for each room, with 0 at first.
+pub fn vertices(ids: &[u16], n: usize, next: &mut [u16], vertex: &mut [u16])
+    requires { ⌜ Keys n (now ids) (length (now next)) ⌝ }
+    requires { ⌜ ((k : ℕ) → getD (now next) k 0 ≡ 0) ⌝ }
+    requires { ⌜ n ≤ length (now vertex) ⌝ }
+    ensures { λ _. ⌜ Vertices n (now (ids .entry)) (now (vertex .exit)) ⌝ }
+{
+    let mut c = 0;
+    while c < n {
+        let room = wide(ids[c]);
+        vertex[c] = next[room];
+        next[room] += 1;
+        c += 1;
+    }
+}
+
+// Looks from a cell of the room in a direction, and writes an edge that is there behind the first m; returns how many there are then.
+fn edge<'a>(
+    height: usize,
+    width: usize,
+    marks: &'a [u8],
+    ids: &'a [u16],
+    vertex: &'a [u16],
+    room: usize,
+    cell: usize,
+    direction: Direction,
+    us: &mut [u16],
+    vs: &mut [u16],
+    borders: &mut [u16],
+    m: usize,
+) -> usize
+    requires { ⌜ Housed (grid height width) (now marks) (now ids) (now vertex) ⌝ }
+    requires { ⌜ (cell < height * width) × (getD (now ids) cell 0 ≡ room) ⌝ }
+    requires { ⌜ Space (now us) (now vs) (now borders) (m + 1) ⌝ }
+    ensures { λ r.
+        ⌜ Written (grid height width) (now (ids .entry)) room (spotsAt (grid height width) (markedIn (now (marks .entry))) (now (ids .entry)) room cell direction) (now (us .entry)) (now (vs .entry)) (now (borders .entry)) m (now (us .exit)) (now (vs .exit)) (now (borders .exit)) r ⌝ }
+{
+    let Beyond::At(next, border) = grid::step(height, width, cell, direction) else {
+        return m;
+    };
+    if wide(ids[next]) != room {
+        return m;
+    }
+    if marks[border] != 0 {
+        return m;
+    }
+    us[m] = vertex[cell];
+    vs[m] = vertex[next];
+    borders[m] = border as u16;
+    m + 1
+}
+
+// Writes the edges of a room, whose cells are handed in, and returns how many there are.
+fn edges<'a>(
+    height: usize,
+    width: usize,
+    marks: &'a [u8],
+    ids: &'a [u16],
+    vertex: &'a [u16],
+    cells: &'a [u16],
+    room: usize,
+    us: &mut [u16],
+    vs: &mut [u16],
+    borders: &mut [u16],
+) -> usize
+    requires { ⌜ Housed (grid height width) (now marks) (now ids) (now vertex) ⌝ }
+    requires { ⌜ now cells ≡ cellsOf (grid height width) (now ids) room ⌝ }
+    requires { ⌜ Space (now us) (now vs) (now borders) 2048 ⌝ }
+    ensures { λ r.
+        ⌜ Written (grid height width) (now (ids .entry)) room (spots (grid height width) (markedIn (now (marks .entry))) (now (ids .entry)) room) (now (us .entry)) (now (vs .entry)) (now (borders .entry)) 0 (now (us .exit)) (now (vs .exit)) (now (borders .exit)) r ⌝ }
+{
+    let mut m = 0;
+    let mut i = 0;
+    while i < cells.len() {
+        let cell = wide(cells[i]);
+        m = edge(
+            height,
+            width,
+            marks,
+            ids,
+            vertex,
+            room,
+            cell,
+            Direction::Down,
+            us,
+            vs,
+            borders,
+            m,
+        );
+        m = edge(
+            height,
+            width,
+            marks,
+            ids,
+            vertex,
+            room,
+            cell,
+            Direction::Right,
+            us,
+            vs,
+            borders,
+            m,
+        );
+        i += 1;
+    }
+    m
+}
+
+// Writes the state of each of the first m borders.
+fn edge_states<'a>(borders: &'a [u16], m: usize, states: &'a [u8], out: &mut [u8])
+    requires { ⌜ Below (length (now states)) (now borders) m ⌝ }
+    requires { ⌜ m ≤ length (now out) ⌝ }
+    ensures { λ _. ⌜ now (out .exit) ≡ sets (now (out .entry)) 0 (map (stateOf (now (states .entry))) (take m (now (borders .entry)))) ⌝ }
+{
+    let mut i = 0;
+    while i < m {
+        out[i] = states[wide(borders[i])];
+        i += 1;
+    }
+}
+
+// Turns the buffer's first k entries, of edges, into those of the edges' borders.
+fn on_board(borders: &[u16], k: usize, buf: &mut [u16])
+    requires { ⌜ Listed (now borders) k (now buf) ⌝ }
+    ensures { λ _. ⌜ now (buf .exit) ≡ sets (now (buf .entry)) 0 (map (onBoard (now (borders .entry))) (take k (now (buf .entry)))) ⌝ }
+{
+    let mut i = 0;
+    while i < k {
+        let l = wide(buf[i]);
+        buf[i] = (2 * wide(borders[l / 2]) + l % 2) as u16;
+        i += 1;
+    }
 }
