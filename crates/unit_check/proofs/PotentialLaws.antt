@@ -1,36 +1,28 @@
 -- The potential units that the stage finds in its own arrays, and what the check of all units is handed of them.
 -- Assumes nothing.
 use Prim.Native.Nat.{ℕ, _≤_, _<_}
-use mathlib.Core.Path.{_≡_, refl, sym}
+use mathlib.Core.Path.{_≡_}
 use mathlib.Core.Logic.{⊎-elim}
 use mathlib.Core.Bool.{true}
 use mathlib.Core.List.{List}
 use native.Mathlib.Omega.{arith}
 use lib.ListN.{length, take, replicate, length-replicate, getD-replicate, List·getD-eq-default}
-use lib.Seq.{length-sets, length-take-le}
 use Rattle.lists.specs.Lists.{range, first}
 use Rattle.lists.proofs.Cases.{le-or-lt}
 use Rattle.grid.specs.Grid.{Grid, cells}
 use Rattle.grid.proofs.Geometry.{cells-le}
 use Rattle.groups.specs.Groups.{groupIds, groupCount}
 use Rattle.groups.specs.Floods.{Fits}
-use Rattle.groups.specs.Lent.{Lent, Grouped}
+use Rattle.groups.specs.Lent.{Grouped}
 use Rattle.groups.specs.Info.{blankPlaces}
-use Rattle.groups.proofs.EdgeLaws.{ids-length}
-use Rattle.groups.proofs.InfoLaws.{lent}
 use Rattle.shape.specs.Shape.{unitFault}
 use Rattle.offsets.specs.Reach.{Tables}
 use Rattle.adjacency.specs.Turns.{InTurn}
 use Rattle.adjacency.specs.Adjacency.{Unmarked, Listing, Adjacency}
-use Rattle.adjacency.proofs.TurnLaws.{in-turn}
+use Rattle.adjacency.proofs.TurnLaws.{ids-are, front-turns}
 use Rattle.inner_walls.specs.declared.Found.{Found}
 use Rattle.inner_walls.specs.Found.{Told}
 use Rattle.unit_check.specs.Units.{Units, Staged}
-use Rattle.unit_check.proofs.UnitLaws.{taken-front}
-
-blank-long : length blankPlaces ≡ 1024
-unfolding blankPlaces
-blank-long = refl
 
 -- an array of zeros has no marks
 pub none-marked : (n : ℕ) → Unmarked (replicate n 0)
@@ -44,23 +36,9 @@ module _ {g : Grid} {states ids starts flat : List ℕ} {count room : ℕ} (p : 
   pub board-fits : Fits g states
   board-fits = record { limits = p .limits; borders = p .states-long }
 
-  pub arrays-lent : Lent (cells g) blankPlaces blankPlaces blankPlaces
-  arrays-lent = lent (cells g) blankPlaces (cells-le g (p .limits)) (omega (arith, blank-long, cells-le g (p .limits)))
-
   module _ {pids pstarts pflat : List ℕ} {pcount : ℕ} (w : Grouped g states true blankPlaces blankPlaces blankPlaces pids pstarts pflat pcount) where
-    pub pids-long : cells g ≤ length pids
-    pids-long = rw (w .ids-are) (simp length-sets (omega (arith, blank-long, cells-le g (p .limits))))
-
-    pub pids-part : cells g ≡ length (take (cells g) pids)
-    pids-part = sym (length-take-le (cells g) pids pids-long)
-
-    pids-are : take (cells g) pids ≡ groupIds g states true
-    pids-are =
-        let n : length (groupIds g states true) ≡ cells g = ids-length g states true in
-        rw (w .ids-are, ← n) (taken-front (groupIds g states true) blankPlaces (omega (arith, n, blank-long, cells-le g (p .limits))))
-
     potentials : InTurn g (take (cells g) pids) pcount pstarts pflat
-    potentials = rw pids-are (in-turn (p .limits) states true blankPlaces (omega (arith, blank-long, cells-le g (p .limits))) w)
+    potentials = front-turns (p .limits) w
 
     pub listing : {marks nstarts near : List ℕ} → length marks ≡ 1024 → length nstarts ≡ 1025 → length near ≡ 4096
         → Listing g states (take (cells g) pids) pcount pstarts pflat marks nstarts near
@@ -91,4 +69,4 @@ module _ {g : Grid} {states ids starts flat : List ℕ} {count room : ℕ} (p : 
 
     pub told : {b b' : List ℕ} {r : Found} → Told (first (unitFault g states ids (take (cells g) pids) pcount) (range count)) b b' r
         → Told (first (unitFault g states ids (groupIds g states true) (groupCount g states true)) (range count)) b b' r
-    told t = rw (pids-are, w .count-is) at t
+    told t = rw (ids-are (p .limits) w, w .count-is) at t

@@ -1,14 +1,14 @@
 -- A unit whose adjacent potential units are marked: it fits somewhere, or what is written is the list of its fault.
 -- Assumes nothing.
-use Prim.Native.Nat.{ℕ, _+_, _≤_, _<_}
+use Prim.Native.Nat.{ℕ, _≤_, _<_}
 use mathlib.Core.Path.{_≡_, refl, ap, sym, _∙_}
 use mathlib.Core.Bool.{Bool, true, false, not}
 use mathlib.Core.List.{List, [], _∷_, _++_}
 use mathlib.Core.Option.{some}
 use native.Mathlib.Omega.{arith}
 use lib.Dec.{eqb}
-use lib.ListN.{getD, length, take, drop, length-append}
-use lib.Seq.{sets, sets-eq, length-sets, take-append-seam}
+use lib.ListN.{getD, length, take, length-append}
+use lib.Seq.{length-sets}
 use Rattle.lists.specs.Choice.{pick, when, give}
 use Rattle.lists.specs.Lists.{range, keep, gather}
 use Rattle.lists.proofs.ListLaws.{in-range}
@@ -20,6 +20,7 @@ use Rattle.boundary.specs.Boundary.{potentialBoundary}
 use Rattle.shape.specs.Shape.{adjacent, headOr0, UnitInfo, unitOf, fits, failures, boundaries, unitFault}
 use Rattle.shape.proofs.Lengths.{failures-most, boundaries-most}
 use Rattle.offsets.specs.Trial.{Trial}
+use Rattle.adjacency.proofs.TurnLaws.{taken-front}
 use Rattle.inner_walls.specs.declared.Found.the-variants.{Clear, Fault}
 use Rattle.inner_walls.specs.Found.{Told}
 use Rattle.inner_walls.proofs.FoundLaws.{told-nothing}
@@ -28,10 +29,6 @@ use Rattle.unit_check.specs.declared.trials.Tried.the-variants.{Fits, Fa
 use Rattle.unit_check.specs.Trials.{Collected}
 use Rattle.unit_check.specs.Faults.{markedBoundary, nearBoundaries, faultList, Writing}
 use Rattle.unit_check.specs.Units.{Marked}
-
--- the front to which a list was written
-pub taken-front : (xs l : List ℕ) → length xs ≤ length l → take (length xs) (sets l 0 xs) ≡ xs
-taken-front xs l h = let z : 0 + length xs ≤ length l = omega arith in rw (sets-eq xs l 0 z) (take-append-seam xs (drop (0 + length xs) l))
 
 -- lists gathered of those that are kept
 gather-when : (f : ℕ → List ℕ) (t : Bool) (x : ℕ) (xs : List ℕ) → gather f (when t x ++ xs) ≡ pick t (f x) [] ++ gather f xs

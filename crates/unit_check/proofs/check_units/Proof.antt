@@ -2,7 +2,8 @@
 use mathlib.Core.Path.{refl}
 use Rattle.grid.proofs.Geometry.{cells-le}
 use Rattle.groups.specs.Info.{blankPlaces}
-use Rattle.unit_check.proofs.PotentialLaws.{none-marked, board-fits, arrays-lent, pids-long, pids-part, listing, units, told}
+use Rattle.adjacency.proofs.TurnLaws.{arrays-lent, ids-fit, ids-part}
+use Rattle.unit_check.proofs.PotentialLaws.{none-marked, board-fits, listing, units, told}
 use borrow.Author.Needs.{needs}
 use Rattle.unit_check.proofs.check_units.Statement.{statement}
 use Rattle.unit_check.proofs.check_units.Tie as tie
@@ -21,21 +22,21 @@ slice-aggregate-groups-of-3 c = search needs
 
 groups-of-requires : tie.Need-groups-of-requires
 unfolding blankPlaces
-groups-of-requires c κs = let p = c .before .before .before .before .before .before .before .before .pre in (board-fits p, arrays-lent p)
+groups-of-requires c κs = let p = c .before .before .before .before .before .before .before .before .pre in (board-fits p, arrays-lent (p .limits))
 
 array-share-prefix-pids : tie.Need-array-share-prefix-pids
 unfolding blankPlaces
 array-share-prefix-pids c =
     let w = c .before .before .before in
     let p = w .before .before .before .before .before .before .before .before .before .pre in
-    pids-long p (w .groups-of .ensures)
+    ids-fit (p .limits) (w .groups-of .ensures)
 
 slice-aggregate-list-adjacent : tie.Need-slice-aggregate-list-adjacent
 unfolding blankPlaces
 slice-aggregate-list-adjacent c =
     let w = c .before .before .before .before in
     let p = w .before .before .before .before .before .before .before .before .before .pre in
-    pids-part p (w .groups-of .ensures)
+    ids-part (p .limits) (w .groups-of .ensures)
 
 slice-aggregate-list-adjacent-2 : tie.Need-slice-aggregate-list-adjacent-2
 slice-aggregate-list-adjacent-2 c = search needs
@@ -86,7 +87,7 @@ unfolding blankPlaces
 slice-aggregate-check-all-3 c =
     let w = c .before .before .before .before .before .before .before .before .before .before .before .before .before .before .before .before .before .before .before .before .before in
     let p = w .before .before .before .before .before .before .before .before .before .pre in
-    pids-part p (w .groups-of .ensures)
+    ids-part (p .limits) (w .groups-of .ensures)
 
 slice-aggregate-check-all-4 : tie.Need-slice-aggregate-check-all-4
 slice-aggregate-check-all-4 c = search needs
