@@ -1,5 +1,7 @@
 //! Times of both sides from one driver. A ratio above 1 says that the port is faster.
+use crate::boards::{Standing, CONNECTED, UNDECIDED, WALL};
 use crate::port;
+use crate::random::Random;
 use crate::reference::Board;
 use std::hint::black_box;
 use std::time::Instant;
@@ -42,11 +44,54 @@ fn decide_and_undo(height: usize, width: usize, states: &[u8]) {
     line(&format!("decide and undo, {height} by {width}"), theirs, port);
 }
 
+/// The boards of a side's shape asks.
+fn boards(side: usize) -> Vec<(&'static str, Standing)> {
+    let all = |state| Standing::all(side, side, state);
+    let tiled = |a: usize, b: usize, inside| Standing::parted(side, side, inside, |y, x| y / a * 64 + x / b);
+    let mut random = Random::new(32);
+    let mut drawn = |undecided: usize, connected: usize| {
+        let mut board = all(WALL);
+        for state in &mut board.states {
+            let at = random.below(3);
+            *state = if at < undecided { UNDECIDED } else if at < undecided + connected { CONNECTED } else { WALL };
+        }
+        board
+    };
+    vec![
+        ("all Walls", all(WALL)),
+        ("dominoes", tiled(1, 2, CONNECTED)),
+        ("4 by 4 squares", tiled(4, 4, CONNECTED)),
+        ("rows walled off, open inside", tiled(1, 64, UNDECIDED)),
+        ("random Walls", drawn(2, 0)),
+        ("all undecided", all(UNDECIDED)),
+        ("all Connected", all(CONNECTED)),
+        ("random thirds", drawn(1, 1)),
+    ]
+}
+
+fn ask(side: usize, name: &str, board: &Standing) {
+    let mut rust = Board::standing(side, side, &board.states);
+    let theirs = time(|| {
+        black_box(rust.ask());
+    });
+    let ours = port::Board::standing(side, side, &board.states);
+    let mut buffer = vec![0; 9 * side * side];
+    let port = time(|| {
+        black_box(ours.faulty(&mut buffer));
+    });
+    line(&format!("ask, {side} by {side}, {name}"), theirs, port);
+}
+
 pub fn run() {
     println!("{:<44} {:>12} {:>12} {:>8}", "nanoseconds a turn", "the Rust", "the port", "ratio");
     for (height, width) in [(4, 4), (10, 10), (32, 32)] {
         let borders = crate::boards::border_count(height, width);
         let states: Vec<u8> = (0..borders).map(|b| [0, 1, 0, 2][b % 4]).collect();
         decide_and_undo(height, width, &states);
+    }
+    for side in [10, 32] {
+        for (name, board) in boards(side) {
+            ask(side, name, &board);
+        }
     }
 }

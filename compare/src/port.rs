@@ -139,6 +139,7 @@ mod c {
         pub fn sendai_path(board: Board, start: usize, target: usize, buffer: *mut u16, room: usize) -> Listing;
         pub fn sendai_unit_boundary(board: Board, unit: usize, buffer: *mut u16, room: usize) -> Listing;
         pub fn sendai_potential_unit_boundary(board: Board, unit: usize, buffer: *mut u16, room: usize) -> Listing;
+        pub fn sendai_board_ask(board: Board, buffer: *mut u16, room: usize) -> Verdict;
         pub fn sendai_hand_over(entries: *const u16, length: usize, buffer: *mut u16, room: usize) -> Listing;
     }
 }
@@ -263,6 +264,17 @@ fn listed(room: usize, call: impl FnOnce(*mut u16, usize) -> c::Listing) -> Resu
     accepted(listing.code).map(|()| buffer)
 }
 
+/// The same for an ask: none where it is clear, else the fault's list.
+fn judged(room: usize, call: impl FnOnce(*mut u16, usize) -> c::Verdict) -> Result<Option<Vec<u16>>, u8> {
+    let mut fault = false;
+    let list = listed(room, |buffer, places| {
+        let verdict = call(buffer, places);
+        fault = verdict.fault;
+        c::Listing { code: verdict.code, length: verdict.length }
+    });
+    list.map(|list| fault.then_some(list))
+}
+
 /// Hand-over into a buffer of so many places.
 pub fn hand_over(entries: &[u16], room: usize) -> Result<Vec<u16>, u8> {
     let (from, length) = (entries.as_ptr(), entries.len());
@@ -317,6 +329,16 @@ impl Board {
         listed(self.room(), |buffer, room| unsafe { c::sendai_path(self.0, from, to, buffer, room) })
     }
 
+    /// The shape check.
+    pub fn ask(&self) -> Result<Option<Vec<u16>>, u8> {
+        judged(self.room(), |buffer, room| unsafe { c::sendai_board_ask(self.0, buffer, room) })
+    }
+
+    /// Whether the shape check finds a fault, with a buffer that is lent again and again: for the benchmark.
+    pub fn faulty(&self, buffer: &mut [u16]) -> bool {
+        unsafe { c::sendai_board_ask(self.0, buffer.as_mut_ptr(), buffer.len()) }.fault
+    }
+
     pub fn unit_boundary(&self, unit: usize) -> Result<Vec<u16>, u8> {
         listed(self.room(), |buffer, room| unsafe { c::sendai_unit_boundary(self.0, unit, buffer, room) })
     }
@@ -367,13 +389,6 @@ impl City {
 
     /// With a buffer of just the edge count.
     pub fn ask(&self) -> Result<Option<Vec<u16>>, u8> {
-        let mut fault = false;
-        let list = listed(self.0.edges, |buffer, places| {
-            // the buffer lives through the call
-            let verdict = unsafe { c::sendai_room_ask(self.0, buffer, places) };
-            fault = verdict.fault;
-            c::Listing { code: verdict.code, length: verdict.length }
-        });
-        list.map(|list| fault.then_some(list))
+        judged(self.0.edges, |buffer, places| unsafe { c::sendai_room_ask(self.0, buffer, places) })
     }
 }

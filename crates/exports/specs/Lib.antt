@@ -1,5 +1,6 @@
--- Defined here: the numbers by which the exports hand over enums (`Listings`, `Places`, `Rooms`). The rest of each contract is its
+-- Defined here: the numbers by which the exports hand over enums (`Listings`, `Places`, `Rooms`, `Shapes`). The rest of each contract is its
 -- call's own.
 pub mod Listings
 pub mod Places
 pub mod Rooms
+pub mod Shapes

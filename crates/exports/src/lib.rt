@@ -9,6 +9,7 @@ mod listings;
 mod paths;
 mod places;
 mod rooms;
+mod shapes;
 mod unions;
 
 pub use boards::sendai_board_check;
@@ -27,6 +28,7 @@ pub use rooms::sendai_room_check;
 pub use rooms::sendai_room_decide;
 pub use rooms::sendai_room_make;
 pub use rooms::sendai_room_undo;
+pub use shapes::sendai_board_ask;
 pub use unions::sendai_union_find;
 pub use unions::sendai_union_new;
 pub use unions::sendai_union_unite;

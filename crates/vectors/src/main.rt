@@ -10,6 +10,7 @@ mod numbering;
 mod path_runs;
 mod room_runs;
 mod sample;
+mod shape_runs;
 mod union_runs;
 
 use case::Counts;
@@ -32,6 +33,7 @@ fn replay_case(s: &[u8], at: usize) -> Counts {
         3 => group_runs::replay(s, at),
         4 => path_runs::replay(s, at),
         5 => boundary_runs::replay(s, at),
+        6 => shape_runs::replay(s, at),
         7 => union_runs::replay(s, at),
         8 => room_runs::replay(s, at),
         10 => hand_runs::replay(s, at),
@@ -94,6 +96,7 @@ fn main() {
     check_file(b"groups.bin");
     check_file(b"path.bin");
     check_file(b"boundary.bin");
+    check_file(b"shape.bin");
     check_file(b"union_find.bin");
     check_file(b"city_count.bin");
     check_file(b"hand_over.bin");

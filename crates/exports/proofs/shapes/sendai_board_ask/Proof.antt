@@ -1,0 +1,23 @@
+-- `exports::shapes::sendai_board_ask` meets its contract: what its two calls ensure, put together. Assumes nothing.
+use mathlib.Core.Path.{ap, _∙_}
+use borrow.Author.Needs.{needs}
+use Rattle.exports.specs.Shapes.{shapeVerdict}
+use Rattle.exports.proofs.shapes.sendai_board_ask.Statement.{statement}
+use Rattle.exports.proofs.shapes.sendai_board_ask.Tie as tie
+
+find-inconsistency-requires : tie.Need-find-inconsistency-requires
+find-inconsistency-requires c κs = search needs
+
+verdict-of-requires : tie.Need-verdict-of-requires
+verdict-of-requires c κs = search needs
+
+same-length : tie.Need-same-length
+same-length c = search needs
+
+returns : tie.Need-returns
+returns c =
+    let asked = c .before .before .before .find-inconsistency .ensures in
+    (c .verdict-of .ensures ∙ ap shapeVerdict (asked .0), asked .1)
+
+pub sendai-board-ask-spec : {M : Type 1} → statement M
+sendai-board-ask-spec = tie.close (tie.spec find-inconsistency-requires verdict-of-requires same-length returns)
