@@ -1,7 +1,10 @@
 //! A module a layer: what is compared, on which inputs.
 pub mod board;
+pub mod city_count;
+pub mod groups;
 pub mod hand_over;
 pub mod numbering;
+pub mod path;
 pub mod union_find;
 
 use crate::boards::{self, Standing};
@@ -29,10 +32,13 @@ pub struct Layer {
     pub sample: fn(&mut Sample),
 }
 
-pub const LAYERS: [Layer; 4] = [
+pub const LAYERS: [Layer; 7] = [
     Layer { name: "numbering", kind: 1, run: numbering::run, sample: numbering::sample },
     Layer { name: "board", kind: 2, run: board::run, sample: board::sample },
+    Layer { name: "groups", kind: 3, run: groups::run, sample: groups::sample },
+    Layer { name: "path", kind: 4, run: path::run, sample: path::sample },
     Layer { name: "union_find", kind: 7, run: union_find::run, sample: union_find::sample },
+    Layer { name: "city_count", kind: 8, run: city_count::run, sample: city_count::sample },
     Layer { name: "hand_over", kind: 10, run: hand_over::run, sample: hand_over::sample },
 ];
 

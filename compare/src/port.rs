@@ -1,6 +1,8 @@
 //! The port: safe wrappers of the functions that crate `exports` hands out.
 //! The declarations must agree with crates/exports; nothing but these comparisons checks that.
 
+use crate::answers::Groups;
+
 /// The exported functions and records, as crates/exports declares them.
 mod c {
     #[repr(C)]
@@ -55,7 +57,49 @@ mod c {
     }
 
     #[repr(C)]
-    pub struct Hand {
+    #[derive(Clone, Copy)]
+    pub struct GroupInfo {
+        pub height: usize,
+        pub width: usize,
+        pub count: usize,
+        pub ids: [u16; 1024],
+        pub starts: [u16; 1024],
+    }
+
+    #[repr(C)]
+    pub struct Grouping {
+        pub code: u8,
+        pub info: GroupInfo,
+    }
+
+    #[repr(C)]
+    #[derive(Clone, Copy)]
+    pub struct CityCountConstraint {
+        pub vertices: usize,
+        pub edges: usize,
+        pub us: [u16; 1984],
+        pub vs: [u16; 1984],
+        pub count: u32,
+        pub states: [u8; 1984],
+        pub ledger: [u16; 1984],
+        pub len: usize,
+    }
+
+    #[repr(C)]
+    pub struct RoomDecided {
+        pub code: u8,
+        pub room: CityCountConstraint,
+    }
+
+    #[repr(C)]
+    pub struct Verdict {
+        pub code: u8,
+        pub fault: bool,
+        pub length: usize,
+    }
+
+    #[repr(C)]
+    pub struct Listing {
         pub code: u8,
         pub length: usize,
     }
@@ -71,7 +115,29 @@ mod c {
         pub safe fn sendai_union_new(n: usize) -> Made;
         pub safe fn sendai_union_find(union: UnionFind, x: usize) -> Found;
         pub safe fn sendai_union_unite(union: UnionFind, x: usize, y: usize) -> United;
-        pub fn sendai_hand_over(entries: *const u16, length: usize, buf: *mut u16, room: usize) -> Hand;
+        pub safe fn sendai_room_check(room: CityCountConstraint) -> u8;
+        pub safe fn sendai_room_decide(room: CityCountConstraint, edge: usize, wall: bool) -> RoomDecided;
+        pub safe fn sendai_room_undo(room: CityCountConstraint) -> RoomDecided;
+        pub fn sendai_room_make(
+            vertices: usize,
+            us: *const u16,
+            us_length: usize,
+            vs: *const u16,
+            vs_length: usize,
+            count: u32,
+        ) -> RoomDecided;
+        pub fn sendai_room_ask(room: CityCountConstraint, buffer: *mut u16, room_for: usize) -> Verdict;
+        pub fn sendai_groups(board: Board, potential: bool, buffer: *mut u16, room: usize) -> Grouping;
+        pub fn sendai_group(
+            info: GroupInfo,
+            buffer: *const u16,
+            length: usize,
+            group: usize,
+            out: *mut u16,
+            room: usize,
+        ) -> usize;
+        pub fn sendai_path(board: Board, start: usize, target: usize, buffer: *mut u16, room: usize) -> Listing;
+        pub fn sendai_hand_over(entries: *const u16, length: usize, buffer: *mut u16, room: usize) -> Listing;
     }
 }
 
@@ -185,27 +251,119 @@ impl Union {
 /// What the places of a buffer hold before a call.
 const UNTOUCHED: u16 = 0xbeef;
 
-/// A buffer with room for a call's list. What the call answered is taken out of it, and the other places must be untouched.
-struct Buffer(Vec<u16>);
-
-impl Buffer {
-    fn new(room: usize) -> Buffer {
-        Buffer(vec![UNTOUCHED; room])
-    }
-
-    fn list(mut self, code: u8, length: usize) -> Result<Vec<u16>, u8> {
-        let used = if code == 0 { length } else { 0 };
-        assert!(self.0[used..].iter().all(|&place| place == UNTOUCHED), "places behind the list were written");
-        self.0.truncate(length);
-        accepted(code).map(|()| self.0)
-    }
+/// Lends a buffer of so many places to a call, and takes out the list that it wrote; the other places must be untouched.
+fn listed(room: usize, call: impl FnOnce(*mut u16, usize) -> c::Listing) -> Result<Vec<u16>, u8> {
+    let mut buffer = vec![UNTOUCHED; room];
+    let listing = call(buffer.as_mut_ptr(), room);
+    let used = if listing.code == 0 { listing.length } else { 0 };
+    assert!(buffer[used..].iter().all(|&place| place == UNTOUCHED), "places behind the list were written");
+    buffer.truncate(used);
+    accepted(listing.code).map(|()| buffer)
 }
 
 /// Hand-over into a buffer of so many places.
 pub fn hand_over(entries: &[u16], room: usize) -> Result<Vec<u16>, u8> {
-    let mut buffer = Buffer::new(room);
-    let (place, length) = (buffer.0.as_mut_ptr(), entries.len());
+    let (from, length) = (entries.as_ptr(), entries.len());
     // both slices live through the call, and neither overlaps the other
-    let hand = unsafe { c::sendai_hand_over(entries.as_ptr(), length, place, room) };
-    buffer.list(hand.code, hand.length)
+    listed(room, |buffer, room| unsafe { c::sendai_hand_over(from, length, buffer, room) })
+}
+
+/// A group record with the buffer that holds the cells.
+pub struct Grouping {
+    info: c::GroupInfo,
+    cells: Vec<u16>,
+}
+
+impl Grouping {
+    pub fn groups(&self) -> Groups {
+        let cells = self.info.height * self.info.width;
+        assert!(self.cells[cells..].iter().all(|&place| place == UNTOUCHED), "places behind the cells were written");
+        Groups {
+            of: self.info.ids[..cells].to_vec(),
+            cells: self.cells[..cells].to_vec(),
+            starts: self.info.starts[..self.info.count].to_vec(),
+        }
+    }
+
+    /// The cells that are handed out for a group.
+    pub fn group(&self, group: usize) -> Vec<u16> {
+        let (from, length) = (self.cells.as_ptr(), self.cells.len());
+        let call = |out, room| c::Listing {
+            code: 0,
+            // both slices live through the call, and neither overlaps the other
+            length: unsafe { c::sendai_group(self.info, from, length, group, out, room) },
+        };
+        listed(length, call).expect("a hand-out has no code")
+    }
+}
+
+impl Board {
+    /// Room for any list of a board: 9·h·w places.
+    fn room(&self) -> usize {
+        9 * self.0.height * self.0.width
+    }
+
+    /// With three places more than the cells need.
+    pub fn grouping(&self, potential: bool) -> Result<Grouping, u8> {
+        let mut cells = vec![UNTOUCHED; self.0.height * self.0.width + 3];
+        // the buffer lives through the call
+        let grouping = unsafe { c::sendai_groups(self.0, potential, cells.as_mut_ptr(), cells.len()) };
+        accepted(grouping.code).map(|()| Grouping { info: grouping.info, cells })
+    }
+
+    pub fn path(&self, from: usize, to: usize) -> Result<Vec<u16>, u8> {
+        listed(self.room(), |buffer, room| unsafe { c::sendai_path(self.0, from, to, buffer, room) })
+    }
+}
+
+/// A room graph's record.
+#[derive(Clone, Copy)]
+pub struct City(c::CityCountConstraint);
+
+impl City {
+    pub fn make(vertices: usize, edges: &[(usize, usize)], count: u32) -> Result<City, u8> {
+        let ends = |end: fn(&(usize, usize)) -> usize| edges.iter().map(|e| end(e) as u16).collect::<Vec<u16>>();
+        let (us, vs) = (ends(|e| e.0), ends(|e| e.1));
+        // both slices live through the call
+        let made = unsafe { c::sendai_room_make(vertices, us.as_ptr(), us.len(), vs.as_ptr(), vs.len(), count) };
+        accepted(made.code).map(|()| City(made.room))
+    }
+
+    fn put(&mut self, decided: c::RoomDecided) -> Result<(), u8> {
+        self.0 = decided.room;
+        accepted(decided.code)
+    }
+
+    pub fn decide(&mut self, edge: usize, wall: bool) -> Result<(), u8> {
+        self.put(c::sendai_room_decide(self.0, edge, wall))
+    }
+
+    pub fn undo(&mut self) -> Result<(), u8> {
+        self.put(c::sendai_room_undo(self.0))
+    }
+
+    /// Questions 1 and 2.
+    pub fn check(&self) -> Result<(), u8> {
+        accepted(c::sendai_room_check(self.0))
+    }
+
+    pub fn states(&self) -> Vec<u8> {
+        self.0.states[..self.0.edges].to_vec()
+    }
+
+    pub fn ledger(&self) -> Vec<u16> {
+        self.0.ledger[..self.0.len].to_vec()
+    }
+
+    /// With a buffer of just the edge count.
+    pub fn ask(&self) -> Result<Option<Vec<u16>>, u8> {
+        let mut fault = false;
+        let list = listed(self.0.edges, |buffer, places| {
+            // the buffer lives through the call
+            let verdict = unsafe { c::sendai_room_ask(self.0, buffer, places) };
+            fault = verdict.fault;
+            c::Listing { code: verdict.code, length: verdict.length }
+        });
+        list.map(|list| fault.then_some(list))
+    }
 }

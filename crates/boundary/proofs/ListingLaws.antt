@@ -2,7 +2,7 @@
 -- Assumes nothing.
 use Prim.Native.Nat.{ℕ, _+_, _≤_, _<_}
 use mathlib.Core.Path.{_≡_, refl, ap, sym, _∙_}
-use mathlib.Core.Logic.{_⊎_, ⊎-elim}
+use mathlib.Core.Logic.{_⊎_}
 use mathlib.Core.Bool.{Bool, true, false, not}
 use mathlib.Core.List.{List, [], _∷_, _++_, append-assoc}
 use native.Mathlib.Omega.{arith}
@@ -10,13 +10,13 @@ use denote.Enum.Declared.{tagOf}
 use borrow.Author.Tests.{eqb-true, ne-eqb}
 use lib.Dec.{eqb}
 use lib.ListN.{getD, length, set, drop, length-append}
-use Rattle.lists.specs.Choice.{both, pick, when}
+use Rattle.lists.specs.Choice.{both, when}
 use Rattle.lists.specs.Lists.{gather}
 use Rattle.lists.proofs.ListLaws.{getD-in}
 use Rattle.grid.specs.declared.Direction.{Direction}
 use Rattle.grid.specs.declared.Direction.the-variants.{Up, Down, Left, Right}
 use Rattle.grid.specs.declared.Beyond.{Beyond}
-use Rattle.grid.specs.declared.Beyond.the-variants.{At, End}
+use Rattle.grid.specs.declared.Beyond.the-variants.{At}
 use Rattle.grid.specs.Grid.{Grid, goesOn, next, border, stepOf}
 use Rattle.grid.proofs.Beyond.{the-type}
 use Rattle.grid.specs.Steps.{Step}
@@ -25,6 +25,7 @@ use Rattle.borders.specs.Entry.{connectedEntry, wallEntry}
 use Rattle.borders.specs.Border.{stateAt, stands}
 use Rattle.groups.specs.Groups.{cellsOf}
 use Rattle.groups.proofs.GroupLaws.{in-cells}
+use Rattle.groups.proofs.FloodSteps.{at-told, end-told}
 use Rattle.boundary.specs.declared.Kind.{Kind}
 use Rattle.boundary.specs.declared.Kind.the-variants.{Connected, Wall, OuterWall}
 use Rattle.boundary.specs.declared.Member.{Member}
@@ -32,15 +33,6 @@ use Rattle.boundary.specs.Boundary.{ahead, connectedAt, wallAt, outerWal
 use Rattle.boundary.specs.Listing.{lists, entryOf, boardOf, listedAt, cellBoundary, listedOf, boundary, Ready, Listable}
 use Rattle.boundary.specs.Appended.{Appended}
 use Rattle.boundary.proofs.AppendLaws.{appended-long, Rest, turn-room, turn-on, turns-end}
-
--- what `grid::step` answered
-picked : (t : Bool) (n b d e : ℕ) → pick t (At n b) End ≡ At d e → (t ≡ true) × (d ≡ n) × (e ≡ b)
-picked true n b d e q = (refl, cc, cc)
-picked false n b d e q = absurd (let z : _≡_ {A = ℕ} 0 1 = cc in omega arith)
-
-not-picked : (t : Bool) (n b : ℕ) → (tagOf the-type (pick t (At n b) End) ≡ 1) ⊎ (tagOf the-type (pick t (At n b) End) ≡ 2) → t ≡ false
-not-picked true n b k = absurd (⊎-elim (λ e. omega arith) (λ e. omega arith) k)
-not-picked false n b k = refl
 
 -- the entry that a kind lists goes by the border's state
 module _ (e : ℕ) where
@@ -91,17 +83,11 @@ nothing q = rw q (record { place = omega arith; stored = refl })
 module _ {states ids : List ℕ} {m : Member} {xs buf : List ℕ} {at : ℕ} (p : Ready states ids m xs buf at)
     (kind : Kind) (d : Direction) (are : xs ≡ listedAt states ids m kind d) {r : Beyond} (is : r ≡ stepOf (boardOf m) d (m .cell)) where
   pub at-end : (tagOf the-type r ≡ 1) ⊎ (tagOf the-type r ≡ 2) → Appended buf at xs buf at
-  at-end t =
-      let g = boardOf m in
-      let c = m .cell in
-      nothing (are ∙ none-listed states ids m kind d (not-picked (goesOn g d c) (next g d c) (border g d c) (rw is at t)))
+  at-end t = nothing (are ∙ none-listed states ids m kind d (end-told (boardOf m) d (m .cell) is t))
 
   module _ {n e : ℕ} (told : r ≡ At n e) where
     step-told : (goesOn (boardOf m) d (m .cell) ≡ true) × (n ≡ next (boardOf m) d (m .cell)) × (e ≡ border (boardOf m) d (m .cell))
-    step-told =
-        let g = boardOf m in
-        let c = m .cell in
-        picked (goesOn g d c) (next g d c) (border g d c) n e (sym is ∙ told)
+    step-told = at-told (boardOf m) d (m .cell) is told
 
     there : Step (boardOf m) d (m .cell) n e
     there = rw (step-told .1, step-told .2) (goes-step (boardOf m) d (m .cell) (p .cell) (step-told .0))

@@ -4,9 +4,14 @@ use Prim.Native.Nat.{ℕ}
 use mathlib.Core.Path.{_≡_, refl}
 use mathlib.Core.Bool.{true, false}
 use mathlib.Core.List.{List, [], _∷_}
+use Rattle.lists.specs.Lists.{count}
 use Rattle.grid.specs.Grid.{grid}
-use Rattle.groups.specs.Groups.{groupIds}
+use Rattle.ledger.specs.Ledger.{holdsOf}
+use Rattle.board.specs.declared.Board.{Board}
+use Rattle.board.specs.Board.{together}
+use Rattle.groups.specs.Groups.{groupIds, groupCount}
 use Rattle.boundary.specs.Boundary.{unitBoundary, potentialBoundary}
+use Rattle.boundary.specs.Answer.{refused, listed, boundaryOutcome}
 
 -- 1 by 3, Wall, Connected: the unit of two cells, and its potential unit
 unit-of-two : unitBoundary (grid 1 3) (2 ∷ 1 ∷ []) (groupIds (grid 1 3) (2 ∷ 1 ∷ []) false) 1 ≡ 2 ∷ 1 ∷ []
@@ -28,3 +33,28 @@ middle-unit = refl
 middle-potential : potentialBoundary (grid 3 3) walls (groupIds (grid 3 3) walls true) 4 ≡ 15 ∷ 21 ∷ 5 ∷ 7 ∷ []
 unfolding potentialBoundary groupIds
 middle-potential = refl
+
+-- the same board by the public calls' definition: 27 places are enough, 26 are not; there is no unit 2
+abbrev three : Board
+three = record { height = 1; width = 3; states = 2 ∷ 1 ∷ []; ledger = 0 ∷ 1 ∷ []; len = 2 }
+
+three-unit : boundaryOutcome three false 1 27 ≡ listed (2 ∷ 1 ∷ [])
+unfolding unitBoundary groupIds groupCount together holdsOf count
+three-unit = refl
+
+three-potential : boundaryOutcome three true 1 27 ≡ listed (1 ∷ [])
+unfolding potentialBoundary groupIds groupCount together holdsOf count
+three-potential = refl
+
+no-such-unit : boundaryOutcome three false 2 27 ≡ refused 3
+unfolding unitBoundary groupIds groupCount together holdsOf count
+no-such-unit = refl
+
+short : boundaryOutcome three true 1 26 ≡ refused 6
+unfolding potentialBoundary groupIds groupCount together holdsOf count
+short = refl
+
+-- its ledger names border 0 twice
+unsound : boundaryOutcome (record { height = 1; width = 3; states = 2 ∷ 1 ∷ []; ledger = 0 ∷ 0 ∷ []; len = 2 }) true 1 27 ≡ refused 2
+unfolding potentialBoundary groupIds groupCount together holdsOf count
+unsound = refl

@@ -10,15 +10,15 @@ use mathlib.Core.Option.{Option, none, some}
 use native.Mathlib.Omega.{arith}
 use borrow.Author.Tests.{eqb-true, eqb-false, eq-eqb, ne-eqb, ltb-true, lt-ltb, not-true}
 use lib.Dec.{ltb}
-use lib.ListN.{length}
+use lib.ListN.{length, getD}
 use Rattle.lists.specs.Choice.{give}
 use Rattle.lists.specs.Lists.{In}
 use Rattle.lists.proofs.Cases.{le-or-lt, eq-or-ne, not-both}
 use Rattle.lists.proofs.ChoiceLaws.{both-true, true-both, give-some, give-none, orElse-none, orElse-some, none-or-some}
 use Rattle.borders.specs.Entry.{connectedEntry, wallEntry, Standing}
 use Rattle.borders.proofs.EntryLaws.{stands-wall, wall-stands, stands-connected, connected-stands}
-use Rattle.room_parts.specs.Graph.{Graph, isConnected, notWall, connectedParts, joinedParts, tippedOf}
-use Rattle.room_parts.proofs.EdgeLaws.{parts-fewer, parts-agree}
+use Rattle.room_parts.specs.Graph.{Graph, graph, isConnected, notWall, connectedParts, joinedParts, tippedOf}
+use Rattle.room_parts.proofs.EdgeLaws.{parts-fewer, parts-agree, parts-ends}
 use Rattle.city_count.specs.Fault.{entriesOf, roomFault}
 use Rattle.city_count.proofs.EntryLaws.{in-entries, entries-in, entries-few, entries-agree}
 
@@ -173,3 +173,12 @@ room-agrees g count s t h =
     let c = entries-agree connectedEntry 1 (g .edges) s t h in
     let d = entries-agree wallEntry 2 (g .edges) s t h in
     rw (a, b, c, d)
+
+-- and on the ends of those edges
+pub room-ends : (n m : ℕ) (us vs us' vs' : List ℕ) (count : ℕ) (s : ℕ → ℕ) → ((i : ℕ) → i < m → getD us i 0 ≡ getD us' i 0)
+    → ((i : ℕ) → i < m → getD vs i 0 ≡ getD vs' i 0) → roomFault (graph n m us vs) count s ≡ roomFault (graph n m us' vs') count s
+unfolding roomFault tippedOf
+room-ends n m us vs us' vs' count s hu hv =
+    let a : connectedParts (graph n m us vs) s ≡ connectedParts (graph n m us' vs') s = parts-ends isConnected n m us vs us' vs' s hu hv in
+    let b : joinedParts (graph n m us vs) s ≡ joinedParts (graph n m us' vs') s = parts-ends notWall n m us vs us' vs' s hu hv in
+    rw (a, b)

@@ -3,3 +3,5 @@ pub mod FaultLaws
 pub mod FindLaws
 pub mod LoopLaws
 pub mod RoomLaws
+pub mod Reached
+pub mod Theorem

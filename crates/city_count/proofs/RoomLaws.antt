@@ -204,3 +204,8 @@ module _ (r : CityCountConstraint) (code : ℕ) (q : code ≡ roomCode r) where
 
       pub ask-clear : Nothing ≡ foundOf (faultOf r) → (Clear ≡ askOf r (length buf)) × (buf' ≡ askedIn r buf)
       ask-clear e = simp (sym q, z, le-leb (r .edges) (length buf) h) (says-clear (faultOf r) e, eb)
+
+-- an ask of a record that holds together, with a long enough buffer
+pub ask-accepted : (r : CityCountConstraint) (f : Option (List ℕ)) (buf : List ℕ) → roomCode r ≡ 0 → r .edges ≤ length buf → faultOf r ≡ f
+    → (askOf r (length buf) ≡ says f) × (askedIn r buf ≡ sets buf 0 (listOf f))
+ask-accepted r f buf z h e = simp (z, le-leb (r .edges) (length buf) h) (ap says e, ap (λ x. sets buf 0 (listOf x)) e)

@@ -1,3 +1,5 @@
--- Defined here: the numbers by which the exports hand over enums (`Hands`, `Places`). The rest of each contract is its call's own.
-pub mod Hands
+-- Defined here: the numbers by which the exports hand over enums (`Listings`, `Places`, `Rooms`). The rest of each contract is its
+-- call's own.
+pub mod Listings
 pub mod Places
+pub mod Rooms

@@ -2,16 +2,28 @@
 // by value, laid out as in C; a slice is a pointer and a length. An enum does not cross: it is handed over as numbers.
 mod boards;
 mod copies;
+mod groupings;
 mod hands;
+mod listings;
+mod paths;
 mod places;
+mod rooms;
 mod unions;
 
 pub use boards::sendai_board_check;
 pub use boards::sendai_board_decide;
 pub use boards::sendai_board_make;
 pub use boards::sendai_board_undo;
+pub use groupings::sendai_group;
+pub use groupings::sendai_groups;
 pub use hands::sendai_hand_over;
+pub use paths::sendai_path;
 pub use places::sendai_neighbour;
+pub use rooms::sendai_room_ask;
+pub use rooms::sendai_room_check;
+pub use rooms::sendai_room_decide;
+pub use rooms::sendai_room_make;
+pub use rooms::sendai_room_undo;
 pub use unions::sendai_union_find;
 pub use unions::sendai_union_new;
 pub use unions::sendai_union_unite;

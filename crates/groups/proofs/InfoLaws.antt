@@ -1,7 +1,7 @@
 -- What the code of grouping and hand-out tests, and what that makes of their answers.
 -- Assumes nothing.
-use Prim.Native.Nat.{ℕ, zero, suc, _+_, _-_, _≤_, _<_}
-use mathlib.Core.Path.{_≡_, refl, sym, _∙_}
+use Prim.Native.Nat.{ℕ, zero, suc, _+_, _-_, _*_, _≤_, _<_}
+use mathlib.Core.Path.{_≡_, refl, ap, sym, _∙_}
 use mathlib.Core.Logic.{_≢_}
 use mathlib.Core.Bool.{Bool, true, false}
 use mathlib.Core.List.{List, []}
@@ -23,7 +23,7 @@ use Rattle.groups.specs.declared.GroupInfo.{GroupInfo}
 use Rattle.groups.specs.Groups.{groupIds, groupCount}
 use Rattle.groups.specs.Turn.{inTurn}
 use Rattle.groups.specs.Lent.{Lent, Grouped}
-use Rattle.groups.specs.Info.{blankPlaces, grouping, zeroInfo, infoOf, groupingCode, groupingOf, bufferOf, endOf, startsRise, groupsExist, infoTogether, infoGrid, infoCode, part, handOutOf}
+use Rattle.groups.specs.Info.{blankPlaces, grouping, zeroInfo, infoOf, groupingCode, groupingOf, bufferOf, endOf, startsRise, groupsExist, infoTogether, infoGrid, infoCode, part, handOutOf, handOutCode, handOutStart, addressOf}
 
 -- A LOOP THAT TESTS ALL NUMBERS BELOW n
 
@@ -179,27 +179,39 @@ module _ (n count : ℕ) (starts : List ℕ) (rise : startsRise n count starts �
 
 -- HAND-OUT
 
-module _ (i : GroupInfo) (buffer : List ℕ) (k : ℕ) {code : ℕ} (told : code ≡ infoCode i) where
-  pub hand-out-refused : code ≢ 0 → [] ≡ handOutOf i buffer k
-  hand-out-refused z = rw (← told, ne-eqb code 0 z, ne-eqb code 0 z)
+-- what `group` returns, with its address
+abbrev pub Handed : GroupInfo → List ℕ → ℕ → ℕ × ℕ → List ℕ → ℕ × ℕ → Type 0
+Handed i buffer k p xs q = (xs ≡ handOutOf i buffer k) × (q ≡ addressOf p (handOutStart i (length buffer) k))
+
+refused-part : (i : GroupInfo) (buffer : List ℕ) (k : ℕ) (p : ℕ × ℕ) → handOutCode i (length buffer) k ≢ 0 → Handed i buffer k p [] p
+refused-part i buffer k p z =
+    let e : p .1 ≡ 0 * 2 + p .1 = omega arith in rw (ne-eqb (handOutCode i (length buffer) k) 0 z) (refl, ap (λ (x : ℕ). addressed (p .0) x) e)
+  where
+    addressed : ℕ → ℕ → ℕ × ℕ
+    addressed x y = (x, y)
+
+module _ (i : GroupInfo) (buffer : List ℕ) (k : ℕ) (p : ℕ × ℕ) {code : ℕ} (told : code ≡ infoCode i) where
+  pub hand-out-refused : code ≢ 0 → Handed i buffer k p [] p
+  hand-out-refused z = refused-part i buffer k p (rw (← told, ne-eqb code 0 z) z)
 
   module _ (z : code ≡ 0) where
     pub info-holds : Holds i
     info-holds = holds i (sym told ∙ z)
 
-    pub no-group : i .count ≤ k → [] ≡ handOutOf i buffer k
-    no-group h = rw (← told, z, le-ltb k (i .count) h)
+    pub no-group : i .count ≤ k → Handed i buffer k p [] p
+    no-group h = refused-part i buffer k p (rw (← told, z, le-ltb k (i .count) h) (omega arith))
 
     module _ (h : k < i .count) where
-      pub hand-out-short : length buffer < cells (infoGrid i) → [] ≡ handOutOf i buffer k
-      hand-out-short l = rw (← told, z, lt-ltb k (i .count) h, lt-leb (cells (infoGrid i)) (length buffer) l)
+      pub hand-out-short : length buffer < cells (infoGrid i) → Handed i buffer k p [] p
+      hand-out-short l = refused-part i buffer k p (rw (← told, z, lt-ltb k (i .count) h, lt-leb (cells (infoGrid i)) (length buffer) l) (omega arith))
 
-      pub handed-out : {start end : ℕ} → cells (infoGrid i) ≤ length buffer → start ≡ getD (i .starts) k 0 → end ≡ endOf (cells (infoGrid i)) (i .count) (i .starts) k
-          → part buffer start end ≡ handOutOf i buffer k
-      handed-out l a e = rw (← told, z, lt-ltb k (i .count) h, le-leb (cells (infoGrid i)) (length buffer) l, a, e)
+      module _ {start end : ℕ} (a : start ≡ getD (i .starts) k 0) (e : end ≡ endOf (cells (infoGrid i)) (i .count) (i .starts) k) where
+        pub part-start : start ≤ end
+        part-start = omega (arith, start-before-end (cells (infoGrid i)) (i .count) (i .starts) (info-holds .rise) k h)
 
-      pub part-start : {start end : ℕ} → start ≡ getD (i .starts) k 0 → end ≡ endOf (cells (infoGrid i)) (i .count) (i .starts) k → start ≤ end
-      part-start a e = omega (arith, start-before-end (cells (infoGrid i)) (i .count) (i .starts) (info-holds .rise) k h)
+        module _ (l : cells (infoGrid i) ≤ length buffer) where
+          pub part-end : end ≤ length buffer
+          part-end = omega (arith, end-within (cells (infoGrid i)) (i .count) (i .starts) (info-holds .rise) k h)
 
-      pub part-end : {end : ℕ} → cells (infoGrid i) ≤ length buffer → end ≡ endOf (cells (infoGrid i)) (i .count) (i .starts) k → end ≤ length buffer
-      part-end l e = omega (arith, end-within (cells (infoGrid i)) (i .count) (i .starts) (info-holds .rise) k h)
+          pub handed-out : Handed i buffer k p (part buffer start end) (addressOf p start)
+          handed-out = rw (← told, z, lt-ltb k (i .count) h, le-leb (cells (infoGrid i)) (length buffer) l, a, e) (refl, refl)

@@ -227,7 +227,7 @@ module _ (g : Grid) (st : List ℕ) (p : Bool) (limits : Limits g) where
   own-hand-out buffer k fits h =
       let b = sets buffer 0 (inTurn (cells g) (groupIds g st p) (groupCount g st p)) in
       let long : length b ≡ length buffer = length-sets buffer 0 (inTurn (cells g) (groupIds g st p) (groupCount g st p)) in
-      sym (handed-out (infoOf g st p) b k (sym (holds-code (infoOf g st p) own-record)) refl h (omega arith) refl refl)
+      sym (handed-out (infoOf g st p) b k (0, 0) (sym (holds-code (infoOf g st p) own-record)) refl h refl refl (omega arith) .0)
       ∙ part-cells g st p blankPlaces blank-fits buffer k fits h
 
 -- an accepted grouping had a board that holds together and a buffer with a place for each cell

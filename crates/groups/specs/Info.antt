@@ -1,6 +1,6 @@
 -- The group record, and what grouping and hand-out answer (01, "Groups", with questions 1, 2, 3 and 6).
 -- Assumes nothing.
-use Prim.Native.Nat.{ℕ, _+_, _-_}
+use Prim.Native.Nat.{ℕ, _+_, _-_, _*_}
 use mathlib.Core.Bool.{Bool}
 use mathlib.Core.List.{List, []}
 use lib.Dec.{eqb, ltb, leb}
@@ -93,3 +93,11 @@ handOutOf i buffer k =
     pick (eqb (handOutCode i (length buffer) k) 0)
     (part buffer (getD (i .starts) k 0) (endOf (cells (infoGrid i)) (i .count) (i .starts) k))
     []
+
+-- where that part begins: at the group's start; refused, "at the buffer's start"
+abbrev pub handOutStart : GroupInfo → ℕ → ℕ → ℕ
+handOutStart i places k = pick (eqb (handOutCode i places k) 0) (getD (i .starts) k 0) 0
+
+-- the address of place a of a buffer at p, whose numbers have two bytes
+abbrev pub addressOf : ℕ × ℕ → ℕ → ℕ × ℕ
+addressOf p a = (p .0, a * 2 + p .1)

@@ -146,3 +146,12 @@ line-fits Clear list n s = omega arith
 line-fits Shape list n s = simp length-append (omega (arith, entries-fit list s))
 line-fits (Room k) list n s = simp length-append (omega (arith, digits-most 20 k, entries-fit list s))
 line-fits (Refused k) list n s = simp length-append (omega (arith, digits-few 2 20 k (omega arith)))
+
+-- no line is empty, so an answer of 0 places says that the buffer was too short
+pub line-some : (line : Line) (list : List ℕ) → 0 < length (lineOf line list)
+line-some Decided list = omega arith
+line-some Undone list = omega arith
+line-some Clear list = omega arith
+line-some Shape list = simp length-append (omega arith)
+line-some (Room k) list = simp length-append (omega arith)
+line-some (Refused k) list = simp length-append (omega arith)

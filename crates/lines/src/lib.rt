@@ -104,8 +104,8 @@ fn refused(number: u8, buf: &mut [u8]) -> usize
     put(b"\n", buf, at)
 }
 
-// Writes the line to the buffer's first places, and answers how many. The buffer needs 27 places and 6 for each entry;
-// in a shorter one nothing is written, and the answer is 0.
+// Writes the line to the buffer's first places, and answers how many. The buffer needs 27 places and 6 for each entry
+// (55,323 for 9,216 entries); in a shorter one nothing is written, and the answer is 0.
 pub fn write_line(line: Line, list: &[u16], buf: &mut [u8]) -> usize
     ensures { λ r. ⌜ r ≡ lengthIn line (now (list .entry)) (length (now (buf .entry))) ⌝ }
     ensures { λ _. ⌜ now (buf .exit) ≡ printedTo line (now (list .entry)) (now (buf .entry)) ⌝ }

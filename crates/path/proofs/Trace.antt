@@ -21,7 +21,7 @@ use Rattle.grid.specs.Grid.{Grid, cells, Cell, Limits, goesOn, next, border, st
 use Rattle.grid.specs.Steps.{Step}
 use Rattle.grid.proofs.Geometry.{goes-step, border-lt, borderCount-le, cells-le}
 use Rattle.borders.specs.Border.{stateOf, stateAt, stands}
-use Rattle.path.specs.Path.{Search, isNew, mark, finds, look, looks, lookAll}
+use Rattle.path.specs.Path.{Search, isNew, mark, finds, look, looks}
 use Rattle.path.specs.Trace.{blank, Traced, Looking, Looks, Follows}
 use Rattle.path.proofs.Found.{blank-set, new-none, marked-cases}
 use Rattle.path.proofs.Told.{at-told}

@@ -4,7 +4,7 @@ use Prim.Native.Nat.{ℕ, zero, suc, _+_, _≤_, _<_}
 use mathlib.Core.Path.{_≡_, refl, sym, ap}
 use mathlib.Core.Logic.{inl, inr, ⊎-elim}
 use mathlib.Core.Bool.{Bool, true, false}
-use mathlib.Core.List.{_∷_}
+use mathlib.Core.List.{List, _∷_}
 use native.Mathlib.Omega.{arith}
 use native.Mathlib.Numerals.{add-one}
 use lib.ListN.{getD}
@@ -13,7 +13,7 @@ use Rattle.parts.specs.Parts.{edge, Has, over, Within, begun}
 use Rattle.parts.proofs.PartLaws.{edge-ends}
 use Rattle.parts.proofs.PartLists.{within}
 use Rattle.parts.proofs.UniteLaws.{begun-more}
-use Rattle.room_parts.specs.Graph.{Graph, edgeAt, edgesIf, partsIf}
+use Rattle.room_parts.specs.Graph.{Graph, graph, edgeAt, edgesIf, partsIf}
 
 module _ (p : ℕ → Bool) (g : Graph) (s : ℕ → ℕ) where
   pub edges-pass : (i : ℕ) → p (s i) ≡ true → edgesIf p g s (i + 1) ≡ edgeAt g i ∷ edgesIf p g s i
@@ -91,3 +91,15 @@ edges-agree p g s t (suc m) h = rw (h m (omega arith), edges-agree p g s t m (λ
 pub parts-agree : (p : ℕ → Bool) (g : Graph) (s t : ℕ → ℕ) → ((i : ℕ) → i < g .edges → s i ≡ t i) → partsIf p g s ≡ partsIf p g t
 unfolding partsIf
 parts-agree p g s t h = ap (λ E. begun E (g .vertices)) (edges-agree p g s t (g .edges) h)
+
+-- and on the ends of those edges
+edges-ends : (p : ℕ → Bool) (g h : Graph) (s : ℕ → ℕ) (m : ℕ) → ((i : ℕ) → i < m → edgeAt g i ≡ edgeAt h i) → edgesIf p g s m ≡ edgesIf p h s m
+unfolding edgesIf
+edges-ends p g h s zero k = refl
+edges-ends p g h s (suc m) k = rw (k m (omega arith), edges-ends p g h s m (λ i l. k i (omega arith)))
+
+pub parts-ends : (p : ℕ → Bool) (n m : ℕ) (us vs us' vs' : List ℕ) (s : ℕ → ℕ) → ((i : ℕ) → i < m → getD us i 0 ≡ getD us' i 0)
+    → ((i : ℕ) → i < m → getD vs i 0 ≡ getD vs' i 0) → partsIf p (graph n m us vs) s ≡ partsIf p (graph n m us' vs') s
+unfolding partsIf
+parts-ends p n m us vs us' vs' s hu hv =
+    ap (λ E. begun E n) (edges-ends p (graph n m us vs) (graph n m us' vs') s m (λ i l. rw (hu i l, hv i l)))

@@ -26,6 +26,15 @@ pub fn compared(c: Counts, same: bool, step: usize) -> Counts {
     }
 }
 
+// Some bytes that say what to call, and hold no answer.
+pub fn passed(c: Counts, step: usize) -> Counts {
+    Counts {
+        next: sample::after(c.next, step),
+        answers: c.answers,
+        differences: c.differences,
+    }
+}
+
 // What is found so far, with one case more.
 pub fn sum(all: Counts, c: Counts) -> Counts {
     Counts {
@@ -53,6 +62,27 @@ pub fn compared_words<'a>(s: &'a [u8], c: Counts, list: &'a [u16], n: usize) -> 
         same = false;
     }
     compared(c, same, sample::after(2, 2 * length))
+}
+
+// A list of numbers of 16 bits, compared with the front of a list: one answer.
+pub fn compared_front<'a>(s: &'a [u8], c: Counts, list: &'a [u16]) -> Counts {
+    compared_words(s, c, list, sample::word(s, c.next))
+}
+
+// What a call that writes a list answered: its code, and the list's length where the code is 0.
+pub struct Listed {
+    pub code: u8,
+    pub length: usize,
+}
+
+// A code and, where it is 0, a list: one answer or two.
+pub fn compared_list<'a>(s: &'a [u8], c: Counts, listed: Listed, list: &'a [u16]) -> Counts {
+    let code = sample::byte(s, c.next);
+    let coded = compared(c, listed.code as usize == code, 1);
+    if code != 0 {
+        return coded;
+    }
+    compared_words(s, coded, list, listed.length)
 }
 
 // A list of bytes, compared with the front of a list: one answer.

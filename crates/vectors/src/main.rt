@@ -1,9 +1,13 @@
 // Replays the stored answers of the Rust (data/, written by compare/) and compares them with the port's: a line for each
 // case that differs, and a line of counts for each layer.
 mod board_runs;
+mod boards;
 mod case;
+mod group_runs;
 mod hand_runs;
 mod numbering;
+mod path_runs;
+mod room_runs;
 mod sample;
 mod union_runs;
 
@@ -24,7 +28,10 @@ fn replay_case(s: &[u8], at: usize) -> Counts {
     match kind {
         1 => numbering::replay(s, at),
         2 => board_runs::replay(s, at),
+        3 => group_runs::replay(s, at),
+        4 => path_runs::replay(s, at),
         7 => union_runs::replay(s, at),
+        8 => room_runs::replay(s, at),
         10 => hand_runs::replay(s, at),
         _ => case::unknown(),
     }
@@ -82,6 +89,9 @@ fn check_file(name: &[u8]) {
 fn main() {
     check_file(b"numbering.bin");
     check_file(b"board.bin");
+    check_file(b"groups.bin");
+    check_file(b"path.bin");
     check_file(b"union_find.bin");
+    check_file(b"city_count.bin");
     check_file(b"hand_over.bin");
 }

@@ -68,7 +68,7 @@ append-boundary-requires c κs =
     let e = f .before .before .before .before in
     let m = e .before .before .before .before in
     let long : length (m .before .before .before .before .args .t1 .states) ≡ 1984 = search needs in
-    listable (made m) (e .if1 .left) _ (f .before .if2 .left) (f .if3 .left) long (m .compute-connected-components .ensures .1) (h .group .ensures)
+    listable (made m) (e .if1 .left) _ (f .before .if2 .left) (f .if3 .left) long (m .compute-connected-components .ensures .1) (h .group .ensures .0)
 
 same-length-4 : tie.Need-same-length-4
 same-length-4 c = search needs

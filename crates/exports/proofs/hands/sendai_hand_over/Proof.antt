@@ -1,22 +1,31 @@
 -- `exports::hands::sendai_hand_over` meets its contract: what its two calls ensure, put together. Assumes nothing.
-use mathlib.Core.Path.{ap, _∙_}
+use mathlib.Core.Path.{_≡_, refl, ap, _∙_}
 use borrow.Author.Needs.{needs}
-use Rattle.exports.specs.Hands.{handOf}
+use Rattle.hand_over.specs.HandOver.{paper}
+use Rattle.hand_over.specs.declared.Handed.{Handed}
+use Rattle.hand_over.specs.declared.Handed.the-variants.{Written, Refused}
+use Rattle.exports.specs.Listings.{handListing, paperListing}
 use Rattle.exports.proofs.hands.sendai_hand_over.Statement.{statement}
 use Rattle.exports.proofs.hands.sendai_hand_over.Tie as tie
+
+by-paper : (h : Handed) → handListing h ≡ paperListing (paper h)
+by-paper (Written n) = refl
+by-paper (Refused k) = refl
 
 hand-over-requires : tie.Need-hand-over-requires
 hand-over-requires c κs = search needs
 
-hand-of-requires : tie.Need-hand-of-requires
-hand-of-requires c κs = search needs
+of-hand-requires : tie.Need-of-hand-requires
+of-hand-requires c κs = search needs
 
 same-length : tie.Need-same-length
 same-length c = search needs
 
 returns : tie.Need-returns
-returns c = (c .hand-of .ensures ∙ ap handOf (c .before .before .before .hand-over .ensures .0), c .before .before .before .hand-over .ensures .1)
+returns c =
+    let handed = c .before .before .before .hand-over in
+    (c .of-hand .ensures ∙ by-paper (handed .result) ∙ ap paperListing (handed .ensures .0), handed .ensures .1)
 
 pub sendai-hand-over-spec : {M : Type 1} → statement M
 sendai-hand-over-spec =
-    tie.close (tie.spec hand-over-requires hand-of-requires same-length returns)
+    tie.close (tie.spec hand-over-requires of-hand-requires same-length returns)

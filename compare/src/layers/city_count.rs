@@ -1,0 +1,169 @@
+//! `CityCountConstraint`: making, decide, undo and ask on room graphs, loops and repeated edges included.
+use super::{until, Limits};
+use crate::port;
+use crate::random::Random;
+use crate::reference::City;
+use crate::runs::{self, Call};
+use crate::sample::Sample;
+use crate::tally::Tally;
+
+type Edges = Vec<(usize, usize)>;
+
+/// A graph on which states stand is asked.
+fn ask(tally: &mut Tally, vertices: usize, edges: &Edges, count: u32, states: &[u8]) {
+    tally.case();
+    let on = || format!("{vertices} vertices, {edges:?}, count {count}, {states:?}");
+    let theirs = City::new(vertices, edges, count);
+    let ours = port::City::make(vertices, edges, count);
+    tally.same(&theirs.as_ref().err(), &ours.as_ref().err(), on);
+    let (Ok(mut rust), Ok(mut ours)) = (theirs, ours) else { return };
+    for (edge, &state) in states.iter().enumerate() {
+        if state != 0 {
+            tally.same(&rust.decide(edge, state == 2), &ours.decide(edge, state == 2), on);
+        }
+    }
+    tally.same(&Ok(rust.ask()), &ours.ask(), on);
+}
+
+/// A list of calls on a graph, with an ask after each.
+fn compare(tally: &mut Tally, vertices: usize, edges: &Edges, count: u32, calls: &[Call]) {
+    tally.case();
+    let (mut rust, mut ours) = match (City::new(vertices, edges, count), port::City::make(vertices, edges, count)) {
+        (Ok(rust), Ok(ours)) => (rust, ours),
+        (theirs, ours) => {
+            let on = || format!("{vertices} vertices, {edges:?}, count {count}");
+            return tally.same(&theirs.err(), &ours.err(), on);
+        }
+    };
+    for (at, &call) in calls.iter().enumerate() {
+        let on = || format!("{vertices} vertices, {edges:?}, count {count}, call {at} of {calls:?}");
+        let (theirs, answer) = match call {
+            Call::Decide { border, wall } => (rust.decide(border, wall), ours.decide(border, wall)),
+            Call::Undo => (rust.undo(), ours.undo()),
+        };
+        tally.same(&theirs, &answer, on);
+        tally.same(&(rust.states(), rust.ledger()), &(ours.states(), ours.ledger()), on);
+        tally.same(&Ok(()), &ours.check(), on);
+        tally.same(&Ok(rust.ask()), &ours.ask(), on);
+    }
+}
+
+/// All graphs with so many vertices and edges, an edge being any two vertices or one, in a rising order of edges.
+fn graphs(vertices: usize, edges: usize) -> Vec<Edges> {
+    let pairs: Edges = (0..vertices).flat_map(|a| (a..vertices).map(move |b| (a, b))).collect();
+    let mut lists: Vec<Vec<usize>> = vec![vec![]];
+    for _ in 0..edges {
+        let longer = |list: &Vec<usize>| {
+            let (from, list) = (list.last().copied().unwrap_or(0), list.clone());
+            (from..pairs.len()).map(move |pair| [&list[..], &[pair]].concat()).collect::<Vec<_>>()
+        };
+        lists = lists.iter().flat_map(longer).collect();
+    }
+    lists.into_iter().map(|list| list.into_iter().map(|pair| pairs[pair]).collect()).collect()
+}
+
+fn states(edges: usize) -> impl Iterator<Item = Vec<u8>> {
+    (0..3usize.pow(edges as u32)).map(move |number| (0..edges as u32).map(|e| (number / 3usize.pow(e) % 3) as u8).collect())
+}
+
+fn drawn(random: &mut Random, vertices: usize, edges: usize) -> Edges {
+    let near = random.chance(1, 2);
+    let edge = |random: &mut Random| {
+        let a = random.below(vertices);
+        let b = if near { (a + random.below(3)).min(vertices - 1) } else { random.below(vertices) };
+        if random.chance(1, 2) { (a, b) } else { (b, a) }
+    };
+    let mut list: Edges = (0..edges).map(|_| edge(random)).collect();
+    if random.chance(1, 40) && !list.is_empty() {
+        let at = random.below(list.len());
+        list[at].1 = vertices;
+    }
+    list
+}
+
+pub fn run(limits: &Limits) -> Tally {
+    let mut tally = Tally::new("city_count");
+    for vertices in 0..=4 {
+        for edges in 0..=5 {
+            for graph in graphs(vertices, edges) {
+                for states in states(edges) {
+                    (0..=5).for_each(|count| ask(&mut tally, vertices, &graph, count, &states));
+                }
+            }
+        }
+    }
+    // the largest graph: one path and repeats of it, which the walk goes down in one piece
+    let path: Edges = (0..1984).map(|e| (e % 1023, e % 1023 + 1)).collect();
+    for count in [0, 1, 2, 1023, 1024, u32::MAX] {
+        for state in 0..3 {
+            ask(&mut tally, 1024, &path, count, &[state; 1984]);
+        }
+    }
+    let random = &mut Random::new(limits.seed);
+    until(limits.time, || {
+        let most = *random.pick(&[4, 12, 60, 1024]);
+        let vertices = random.within(1, most);
+        let edges = random.below(2 * vertices.min(990) + 2);
+        let graph = drawn(random, vertices, edges);
+        let count = if random.chance(1, 20) { u32::MAX } else { random.below(vertices + 3) as u32 };
+        let length = random.within(1, 40);
+        let calls = runs::random(random, edges, length, 4);
+        compare(&mut tally, vertices, &graph, count, &calls);
+    });
+    until(limits.time, || {
+        let most = *random.pick(&[4, 12, 60, 1024]);
+        let vertices = random.within(1, most);
+        let edges = random.below(2 * vertices.min(990) + 2);
+        let graph = drawn(random, vertices, edges);
+        let weights = [random.below(4), random.below(4), random.below(4) + 1];
+        let state = |random: &mut Random| {
+            let at = random.below(weights.iter().sum());
+            if at < weights[0] { 1 } else if at < weights[0] + weights[1] { 2 } else { 0 }
+        };
+        let states: Vec<u8> = (0..edges).map(|_| state(random)).collect();
+        ask(&mut tally, vertices, &graph, random.below(vertices + 3) as u32, &states);
+    });
+    for (vertices, edges) in [(1025, 0), (2, 1985), (usize::MAX, 0)] {
+        let ours = port::City::make(vertices, &vec![(0, 1); edges], 1).err();
+        tally.same(&Some(1), &ours, || format!("{vertices} vertices, {edges} edges"));
+    }
+    tally.done()
+}
+
+/// The vertices, each edge's first and second vertex, the count (32 bits), the making's code, and calls (as in a case file, each
+/// with its edge) with their codes, an ask's code being followed by its answer.
+pub fn sample(sample: &mut Sample) {
+    let random = &mut Random::new(8);
+    for _ in 0..60 {
+        sample.case();
+        let vertices = random.within(1, 9);
+        let edges = random.below(12);
+        let graph = drawn(random, vertices, edges);
+        let count = random.below(vertices + 2) as u32;
+        let ends = |end: fn(&(usize, usize)) -> usize| graph.iter().map(|e| end(e) as u16).collect::<Vec<u16>>();
+        sample.word(vertices);
+        sample.words(&ends(|e| e.0));
+        sample.words(&ends(|e| e.1));
+        sample.word((count >> 16) as usize);
+        sample.word((count & 0xffff) as usize);
+        let made = City::new(vertices, &graph, count);
+        sample.byte(*made.as_ref().err().unwrap_or(&0));
+        let calls = if made.is_ok() { runs::random(random, edges, 12, 4) } else { vec![] };
+        sample.word(2 * calls.len());
+        let Ok(mut rust) = made else { continue };
+        for call in calls {
+            let (kind, edge) = call.coded();
+            let answer = match call {
+                Call::Decide { border, wall } => rust.decide(border.min(65535), wall),
+                Call::Undo => rust.undo(),
+            };
+            sample.byte(kind);
+            sample.word(edge);
+            sample.byte(answer.err().unwrap_or(0));
+            sample.byte(3);
+            sample.word(0);
+            sample.byte(0);
+            sample.fault(&rust.ask());
+        }
+    }
+}

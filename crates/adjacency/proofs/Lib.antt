@@ -1,0 +1,4 @@
+pub mod TurnLaws
+pub mod LookLaws
+pub mod MarkLaws
+pub mod ListingLaws

@@ -1,0 +1,73 @@
+-- `adjacency::write_marks` meets its contract: the loop's invariant is what is written up to place i. Assumes nothing.
+use Prim.Native.Nat.{_-_, _≤_}
+use mathlib.Core.Path.{_≡_}
+use native.Mathlib.Omega.{arith}
+use borrow.Author.Needs.{needs}
+use Rattle.adjacency.specs.Adjacency.{Written}
+use Rattle.adjacency.proofs.MarkLaws.{written-none, written-turn}
+use Rattle.adjacency.proofs.write_marks.Statement.{statement}
+use Rattle.adjacency.proofs.write_marks.Tie as tie
+
+abbrev Inv-loop : tie.InvT-loop
+Inv-loop list from to mark marks₀ i₀ marks i = (from ≤ i) × (i ≤ to) × Written list from i mark marks₀ marks
+
+abbrev μ-loop : tie.MeasureT-loop
+μ-loop list from to mark marks₀ i₀ marks i = to - i
+
+loop-holds : tie.Need-loop-holds Inv-loop μ-loop
+loop-holds c = (omega arith, omega arith, written-none _ _ _ _)
+
+mul-wide : tie.Need-mul-wide Inv-loop μ-loop
+mul-wide c = omega arith
+
+shared-slice-read-wide : tie.Need-shared-slice-read-wide Inv-loop μ-loop
+shared-slice-read-wide c = omega arith
+
+wide-requires : tie.Need-wide-requires Inv-loop μ-loop
+wide-requires c κs = search needs
+
+slice-write-marks : tie.Need-slice-write-marks Inv-loop μ-loop
+slice-write-marks c =
+    let l = c .before .before .before in
+    let p = l .before .before .before .pre in
+    let h = p .1 (l .loop .i) (l .loop .inv .0) (c .before .before .loop-test .taken) in
+    omega (arith, c .wide .ensures, h, l .loop .inv .2 .long)
+
+add-i : tie.Need-add-i Inv-loop μ-loop
+add-i c = omega arith
+
+loop-less : tie.Need-loop-less Inv-loop μ-loop
+loop-less c = omega arith
+
+loop-again : tie.Need-loop-again Inv-loop μ-loop
+loop-again c =
+    let l = c .before .before .before in
+    let p = l .before .before .before .pre in
+    let h = p .1 (l .loop .i) (l .loop .inv .0) (c .before .before .loop-test .taken) in
+    (omega arith, omega arith, written-turn _ _ _ _ _ _ _ (l .loop .inv .2) (l .loop .inv .0) (c .wide .ensures) (omega (arith, c .wide .ensures, h)))
+
+same-length : tie.Need-same-length Inv-loop μ-loop
+same-length c = c .before .loop .inv .2 .long
+
+returns : tie.Need-returns Inv-loop μ-loop
+returns c =
+    let l = c .before .loop in
+    let e : l .i ≡ c .before .before .before .before .args .to = omega arith in
+    rw e at (l .inv .2)
+
+pub write-marks-spec : {M : Type 1} → statement M
+write-marks-spec =
+    tie.close
+    (tie.spec
+    Inv-loop
+    μ-loop
+    loop-holds
+    mul-wide
+    shared-slice-read-wide
+    wide-requires
+    slice-write-marks
+    add-i
+    loop-less
+    loop-again
+    same-length
+    returns)

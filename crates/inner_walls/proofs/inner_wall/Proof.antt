@@ -1,0 +1,91 @@
+-- `inner_walls::inner_wall` meets its contract: the loop's invariant is that the cells passed found nothing. Assumes nothing.
+use Prim.Native.Nat.{_-_, _*_}
+use mathlib.Core.List.{[], _∷_}
+use mathlib.Core.Path.{ap, _∙_}
+use native.Mathlib.Omega.{arith}
+use borrow.Author.Needs.{needs}
+use lib.ListN.{length}
+use Rattle.lists.specs.Lists.{first}
+use Rattle.grid.specs.declared.Direction.the-variants.{Down, Right}
+use Rattle.grid.specs.Grid.{grid}
+use Rattle.grid.proofs.Geometry.{cells-le}
+use Rattle.shape.specs.Shape.{innerAt, innerWall}
+use Rattle.inner_walls.proofs.FoundLaws.{told-long, Searched, searched-none, search-fault, search-on, search-over}
+use Rattle.inner_walls.proofs.inner_wall.Statement.{statement}
+use Rattle.inner_walls.proofs.inner_wall.Tie as tie
+
+abbrev Inv-loop : tie.InvT-loop
+Inv-loop height width states ids buffer₀ n cell₀ buffer cell =
+    Searched (λ c. first (innerAt (grid height width) states ids c) (Down ∷ Right ∷ [])) (height * width) buffer₀ buffer cell
+
+abbrev μ-loop : tie.MeasureT-loop
+μ-loop height width states ids buffer₀ n cell₀ buffer cell = n - cell
+
+mul-n : tie.Need-mul-n Inv-loop μ-loop
+mul-n c = let p = c .before .before .before .pre in omega (arith, cells-le _ (p .limits))
+
+loop-holds : tie.Need-loop-holds Inv-loop μ-loop
+loop-holds c = searched-none _ _ _
+
+inner-cell-requires : tie.Need-inner-cell-requires Inv-loop μ-loop
+inner-cell-requires c κs =
+    let l = c .before .before in
+    let p = l .before .before .before .before .pre in
+    let e = ap length (l .loop .inv .same) in
+    (record { limits = p .limits; states-long = p .states-long; ids-long = p .ids-long; room = omega (arith, p .room) }, c .before .loop-test .taken)
+
+enum-known-f : tie.Need-enum-known-f Inv-loop μ-loop
+enum-known-f c = search needs
+
+same-length : tie.Need-same-length Inv-loop μ-loop
+same-length c =
+    let t = c .before .before .before .before .before in
+    told-long _ (t .inner-cell .ensures) ∙ ap length (t .before .before .before .loop .inv .same)
+
+returns : tie.Need-returns Inv-loop μ-loop
+unfolding innerWall
+returns c =
+    let t = c .before .before .before .before .before in
+    let i = t .before .before in
+    search-fault _ _ (i .before .loop .inv) (i .loop-test .taken) (t .inner-cell .ensures) (c .before .f .given .1)
+
+enum-told : tie.Need-enum-told Inv-loop μ-loop
+enum-told c = search needs
+
+add-cell : tie.Need-add-cell Inv-loop μ-loop
+add-cell c = omega arith
+
+loop-less : tie.Need-loop-less Inv-loop μ-loop
+loop-less c = omega arith
+
+loop-again : tie.Need-loop-again Inv-loop μ-loop
+loop-again c =
+    let t = c .before .before .before .before in
+    let i = t .before .before in
+    search-on _ _ (i .before .loop .inv) (i .loop-test .taken) (t .inner-cell .ensures) (c .enum-told .given .1)
+
+same-length-2 : tie.Need-same-length-2 Inv-loop μ-loop
+same-length-2 c = ap length (c .before .loop .inv .same)
+
+returns-2 : tie.Need-returns-2 Inv-loop μ-loop
+unfolding innerWall
+returns-2 c = search-over _ _ (c .before .loop .inv) (c .loop-test .left)
+
+pub inner-wall-spec : {M : Type 1} → statement M
+inner-wall-spec =
+    tie.close
+    (tie.spec
+    Inv-loop
+    μ-loop
+    mul-n
+    loop-holds
+    inner-cell-requires
+    enum-known-f
+    same-length
+    returns
+    enum-told
+    add-cell
+    loop-less
+    loop-again
+    same-length-2
+    returns-2)
