@@ -6,3 +6,4 @@ pub mod FaultLaws
 pub mod Asks
 pub mod Orders
 pub mod Demand3
+pub mod Loops

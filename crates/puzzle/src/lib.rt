@@ -1,4 +1,14 @@
 // The puzzle: a board with given walls and a clue for each room, which joins the shape check to a count for each clued room.
+ghost use mathlib.Core.Path.{_≡_};
+ghost use Prim.Native.Nat.{_≤_, _<_};
+ghost use lib.Dec.{eqb, ltb, leb};
+ghost use lib.ListN.{length, take};
+ghost use lib.Seq.{sets};
+ghost use Rattle.lists.specs.Choice.{either};
+ghost use Rattle.lists.specs.Lists.{all};
+ghost use Rattle.grid.specs.Grid.{grid};
+ghost use Rattle.puzzle.specs.Lists.{allFit, Sizes, Lists};
+ghost use Rattle.puzzle.specs.Puzzle.{rises, listsCode};
 
 // The board has the given walls as Wall; its ledger names none of them. The first `given_len` places of `given` are the given walls,
 // the first `clues_len` of `clues` the clues.
@@ -29,4 +39,67 @@ pub enum Answer {
     Clear,
     Fault(Check, usize),
     Refused(u8),
+}
+
+// A 16-bit number as an index.
+fn wide(x: u16) -> usize
+    ensures { λ r. ⌜ r ≡ x ⌝ }
+{
+    x as usize
+}
+
+// Question 3: each of the first `len` given walls is below n.
+fn exist(given: &[u16], len: usize, n: usize) -> bool
+    requires { ⌜ len ≤ length (now given) ⌝ }
+    ensures { λ r. ⌜ r ≡ all (λ e. ltb e n) (take len (now (given .entry))) ⌝ }
+{
+    let mut i = 0;
+    while i < len {
+        if n <= wide(given[i]) {
+            return false;
+        }
+        i += 1;
+    }
+    true
+}
+
+// Question 7: the first `len` given walls rise strictly.
+fn rise(given: &[u16], len: usize) -> bool
+    requires { ⌜ len ≤ length (now given) ⌝ }
+    ensures { λ r. ⌜ r ≡ rises (take len (now (given .entry))) ⌝ }
+{
+    let mut i = 1;
+    while i < len {
+        if given[i] <= given[i - 1] {
+            return false;
+        }
+        i += 1;
+    }
+    true
+}
+
+// A clue fits a room of so many cells.
+fn clue_fits(clue: usize, size: usize) -> bool
+    ensures { λ r. ⌜ r ≡ either (eqb clue 65535) (leb clue size) ⌝ }
+{
+    if clue == 65535 {
+        return true;
+    }
+    clue <= size
+}
+
+// Question 9: each room's clue is 65535 or at most its cells.
+fn clues_fit<'a>(clues: &'a [u16], starts: &'a [u16], count: usize, n: usize) -> bool
+    requires { ⌜ Sizes n count (now starts) (now clues) ⌝ }
+    ensures { λ r. ⌜ r ≡ allFit n count (now (starts .entry)) (now (clues .entry)) ⌝ }
+{
+    let mut room = 0;
+    while room < count {
+        let size = groups::end_of(starts, count, n, room) - wide(starts[room]);
+        if !clue_fits(wide(clues[room]), size) {
+            return false;
+        }
+        room += 1;
+    }
+    true
 }
