@@ -7,3 +7,4 @@ pub mod Asks
 pub mod Orders
 pub mod Demand3
 pub mod Loops
+pub mod ListsCode

@@ -103,3 +103,42 @@ fn clues_fit<'a>(clues: &'a [u16], starts: &'a [u16], count: usize, n: usize) ->
     }
     true
 }
+
+// Questions 3, 7, 8 and 9 of given walls and clues: 01's number, or 0.
+fn lists_code<'a>(
+    height: usize,
+    width: usize,
+    given: &'a [u16],
+    given_len: usize,
+    clues: &'a [u16],
+    clues_len: usize,
+) -> u8
+    requires { ⌜ Lists (grid height width) (now given) «given_len» (now clues) «clues_len» ⌝ }
+    ensures { λ r. ⌜ r ≡ listsCode (grid height width) (take «given_len» (now (given .entry))) (take «clues_len» (now (clues .entry))) ⌝ }
+{
+    if !exist(given, given_len, grid::border_count(height, width)) {
+        return 3;
+    }
+    if !rise(given, given_len) {
+        return 7;
+    }
+    let mut ids = [0u16; 1024];
+    let mut starts = [0u16; 1024];
+    let mut flat = [0u16; 1024];
+    let count = rooms::rooms_of(
+        height,
+        width,
+        given,
+        given_len,
+        &mut ids,
+        &mut starts,
+        &mut flat,
+    );
+    if clues_len != count {
+        return 8;
+    }
+    if clues_fit(clues, &starts, count, height * width) {
+        return 0;
+    }
+    9
+}
