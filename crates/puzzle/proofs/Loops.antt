@@ -1,4 +1,4 @@
--- The loops over given walls: what is left to test.
+-- The loops over given walls and clues: what is left to test, or to copy.
 -- Assumes nothing.
 use Prim.Native.Nat.{ℕ, suc, _+_, _-_, _≤_, _<_}
 use mathlib.Core.Path.{_≡_, refl, ap, sym, _∙_}
@@ -8,8 +8,8 @@ use native.Mathlib.Omega.{arith}
 use native.Mathlib.Numerals.{add-one}
 use borrow.Author.Tests.{lt-ltb, le-ltb}
 use lib.Dec.{ltb}
-use lib.ListN.{length, getD, take, drop, length-drop, drop-of-length-le}
-use lib.Seq.{drop-cons, getD-take, length-take-le}
+use lib.ListN.{length, getD, take, drop, set, length-drop, drop-of-length-le}
+use lib.Seq.{sets, drop-cons, getD-take, length-take-le}
 use Rattle.lists.specs.Choice.{both}
 use Rattle.lists.specs.Lists.{all}
 use Rattle.puzzle.specs.Puzzle.{rises}
@@ -57,3 +57,11 @@ module _ (given : List ℕ) (len : ℕ) (long : len ≤ length given) where
         short [] k = unfold rises in refl
         short (x ∷ []) k = unfold rises in refl
         short (x ∷ y ∷ l) k = absurd (omega arith)
+
+-- COPYING
+module _ (from to : List ℕ) (i : ℕ) where
+  pub copy-turn : i < length from → sets to i (drop i from) ≡ sets (set to i (getD from i 0)) (i + 1) (drop (i + 1) from)
+  copy-turn h = rw (drop-cons from i 0 h, add-one)
+
+  pub copy-end : length from ≤ i → sets to i (drop i from) ≡ to
+  copy-end h = rw (drop-of-length-le from {i = i} h)

@@ -8,13 +8,15 @@ ghost use Rattle.lists.specs.Choice.{either};
 ghost use Rattle.lists.specs.Lists.{all};
 ghost use Rattle.grid.specs.Grid.{grid};
 ghost use Rattle.puzzle.specs.Lists.{allFit, Sizes, Lists};
-ghost use Rattle.puzzle.specs.Puzzle.{rises, listsCode};
+ghost use Rattle.rooms.specs.Lent.{Below};
+ghost use Rattle.puzzle.specs.Puzzle.{rises, listsCode, freshBoard, freshPuzzle, zeroPuzzle, answer, makeOf};
+use board::Board;
 
 // The board has the given walls as Wall; its ledger names none of them. The first `given_len` places of `given` are the given walls,
 // the first `clues_len` of `clues` the clues.
 #[repr(C)]
 pub struct Puzzle {
-    pub board: board::Board,
+    pub board: Board,
     pub given: [u16; 1984],
     pub given_len: usize,
     pub clues: [u16; 1024],
@@ -141,4 +143,92 @@ fn lists_code<'a>(
         return 0;
     }
     9
+}
+
+// Copies a slice to the front of another.
+fn copy(from: &[u16], to: &mut [u16])
+    requires { ⌜ length (now from) ≤ length (now to) ⌝ }
+    ensures { λ _. ⌜ now (to .exit) ≡ sets (now (to .entry)) 0 (now (from .entry)) ⌝ }
+{
+    let mut i = 0;
+    while i < from.len() {
+        to[i] = from[i];
+        i += 1;
+    }
+}
+
+// A board with the given walls, and nothing else, decided.
+fn fresh_board(height: usize, width: usize, given: &[u16]) -> Board
+    requires { ⌜ Below 1984 (now given) (length (now given)) ⌝ }
+    ensures { λ r. ⌜ r ≡ freshBoard height width (now (given .entry)) ⌝ }
+{
+    let mut states = [0u8; 1984];
+    rooms::put(given, given.len(), 2, &mut states);
+    Board {
+        height: height,
+        width: width,
+        states: states,
+        ledger: [0u16; 1984],
+        len: 0,
+    }
+}
+
+// A fresh puzzle.
+fn fresh<'a>(height: usize, width: usize, given: &'a [u16], clues: &'a [u16]) -> Puzzle
+    requires { ⌜ Below 1984 (now given) (length (now given)) ⌝ }
+    requires { ⌜ (length (now given) ≤ 1984) × (length (now clues) ≤ 1024) ⌝ }
+    ensures { λ r. ⌜ r ≡ freshPuzzle height width (now (given .entry)) (now (clues .entry)) ⌝ }
+{
+    let mut walls = [0u16; 1984];
+    copy(given, &mut walls);
+    let mut counts = [0u16; 1024];
+    copy(clues, &mut counts);
+    let board = fresh_board(height, width, given);
+    Puzzle {
+        board: board,
+        given: walls,
+        given_len: given.len(),
+        clues: counts,
+        clues_len: clues.len(),
+    }
+}
+
+// A refused making: a record whose every number is 0.
+fn unmade(code: u8) -> Made
+    ensures { λ r. ⌜ r ≡ answer code zeroPuzzle ⌝ }
+{
+    let board = Board {
+        height: 0,
+        width: 0,
+        states: [0u8; 1984],
+        ledger: [0u16; 1984],
+        len: 0,
+    };
+    Made {
+        code: code,
+        puzzle: Puzzle {
+            board: board,
+            given: [0u16; 1984],
+            given_len: 0,
+            clues: [0u16; 1024],
+            clues_len: 0,
+        },
+    }
+}
+
+// Makes a puzzle of a size, given walls and clues, or refuses them by questions 1, 3, 7, 8 and 9.
+pub fn make<'a>(height: usize, width: usize, given: &'a [u16], clues: &'a [u16]) -> Made
+    ensures { λ r. ⌜ r ≡ makeOf height width (now (given .entry)) (now (clues .entry)) ⌝ }
+{
+    if !grid::sizes_ok(height, width) {
+        return unmade(1);
+    }
+    let code = lists_code(height, width, given, given.len(), clues, clues.len());
+    if code != 0 {
+        return unmade(code);
+    }
+    Made {
+        code: 0,
+        puzzle: fresh(height, width, given, clues),
+    }
 }
