@@ -8,3 +8,4 @@ pub mod Orders
 pub mod Demand3
 pub mod Loops
 pub mod ListsCode
+pub mod Ready

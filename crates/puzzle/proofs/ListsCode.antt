@@ -11,21 +11,20 @@ use lib.Dec.{eqb, ltb, leb}
 use lib.ListN.{length, getD, take, drop, length-replicate, length-drop}
 use lib.Seq.{getD-take, length-take-le, length-sets}
 use Rattle.lists.specs.Choice.{either, pick}
-use Rattle.lists.specs.Lists.{range, In, all}
+use Rattle.lists.specs.Lists.{range, all}
 use Rattle.lists.proofs.ListLaws.{all-true, in-range}
 use Rattle.grid.specs.Grid.{Grid, Limits, cells, borderCount}
 use Rattle.grid.proofs.Geometry.{cells-le}
 use Rattle.borders.proofs.Congruence.{all-same}
-use Rattle.groups.specs.Groups.{cellsOf}
 use Rattle.groups.specs.Lent.{Lent}
 use Rattle.groups.specs.Info.{endOf}
 use Rattle.groups.specs.Turn.{inTurn, startsOf}
 use Rattle.groups.proofs.Theorems.{Between}
 use Rattle.rooms.specs.Rooms.{roomIds, roomCount, roomCells, clueOf}
-use Rattle.rooms.specs.Lent.{Below, Given, Roomed}
+use Rattle.rooms.specs.Lent.{Given, Roomed}
 use Rattle.rooms.proofs.PutLaws.{room-between}
-use Rattle.puzzle.specs.Lists.{clueFits, allFit, Sizes, Lists}
-use Rattle.puzzle.specs.Puzzle.{exist, rises, oneEach, fitsRoom, cluesFit, listsCode, noClues}
+use Rattle.puzzle.specs.Lists.{clueFits, allFit, Sizes}
+use Rattle.puzzle.specs.Puzzle.{rises, fitsRoom, cluesFit, listsCode, noClues}
 use Rattle.puzzle.proofs.Making.{rooms-few}
 
 -- A LAW FOR EACH ANSWER

@@ -9,7 +9,7 @@ ghost use Rattle.lists.specs.Lists.{all};
 ghost use Rattle.grid.specs.Grid.{grid};
 ghost use Rattle.puzzle.specs.Lists.{allFit, Sizes, Lists};
 ghost use Rattle.rooms.specs.Lent.{Below};
-ghost use Rattle.puzzle.specs.Puzzle.{rises, listsCode, freshBoard, freshPuzzle, zeroPuzzle, answer, makeOf};
+ghost use Rattle.puzzle.specs.Puzzle.{rises, listsCode, freshBoard, freshPuzzle, zeroPuzzle, answer, makeOf, puzzleCode, onto as withBoard, decideOf, undoOf};
 use board::Board;
 
 // The board has the given walls as Wall; its ledger names none of them. The first `given_len` places of `given` are the given walls,
@@ -230,5 +230,97 @@ pub fn make<'a>(height: usize, width: usize, given: &'a [u16], clues: &'a [u16])
     Made {
         code: 0,
         puzzle: fresh(height, width, given, clues),
+    }
+}
+
+// Questions 1 and 2 of a puzzle: 01's number, or 0.
+pub fn puzzle_code(p: Puzzle) -> u8
+    ensures { λ r. ⌜ r ≡ puzzleCode p ⌝ }
+{
+    let b = p.board;
+    if !grid::sizes_ok(b.height, b.width) {
+        return 1;
+    }
+    if 1984 < p.given_len {
+        return 2;
+    }
+    if 1024 < p.clues_len {
+        return 2;
+    }
+    if lists_code(
+        b.height,
+        b.width,
+        &p.given,
+        p.given_len,
+        &p.clues,
+        p.clues_len,
+    )
+        != 0
+    {
+        return 2;
+    }
+    let n = grid::border_count(b.height, b.width);
+    if n < b.len {
+        return 2;
+    }
+    let mut marks = [0u8; 1984];
+    rooms::put(&p.given, p.given_len, 1, &mut marks);
+    if ledger::holds(&b.states, &b.ledger, b.len, n, &mut marks) {
+        return 0;
+    }
+    2
+}
+
+// The same puzzle with another board.
+fn onto(p: Puzzle, b: Board) -> Puzzle
+    ensures { λ r. ⌜ r ≡ withBoard p b ⌝ }
+{
+    let mut next = p;
+    next.board = b;
+    next
+}
+
+// Decides a border as Wall or Connected.
+pub fn decide(p: Puzzle, border: usize, wall: bool) -> Made
+    ensures { λ r. ⌜ r ≡ decideOf p border wall ⌝ }
+{
+    let code = puzzle_code(p);
+    if code != 0 {
+        return Made {
+            code: code,
+            puzzle: p,
+        };
+    }
+    let b = p.board;
+    if grid::border_count(b.height, b.width) <= border {
+        return Made { code: 3, puzzle: p };
+    }
+    if b.states[border] != 0 {
+        return Made { code: 4, puzzle: p };
+    }
+    Made {
+        code: 0,
+        puzzle: onto(p, board::place(b, border, wall)),
+    }
+}
+
+// Takes the last decision back.
+pub fn undo(p: Puzzle) -> Made
+    ensures { λ r. ⌜ r ≡ undoOf p ⌝ }
+{
+    let code = puzzle_code(p);
+    if code != 0 {
+        return Made {
+            code: code,
+            puzzle: p,
+        };
+    }
+    let b = p.board;
+    if b.len == 0 {
+        return Made { code: 5, puzzle: p };
+    }
+    Made {
+        code: 0,
+        puzzle: onto(p, board::take_back(b)),
     }
 }

@@ -7,8 +7,7 @@ use denote.Ref.{now}
 use lib.Dec.{ltb}
 use lib.ListN.{take, drop}
 use Rattle.lists.specs.Lists.{all}
-use Rattle.puzzle.specs.Puzzle.{rises}
-use Rattle.puzzle.proofs.Loops.{exist-end, exist-stop, exist-turn, rise-stop, rise-turn, rise-end}
+use Rattle.puzzle.proofs.Loops.{exist-end, exist-stop, exist-turn}
 use Rattle.puzzle.proofs.exist.Statement.{statement}
 use Rattle.puzzle.proofs.exist.Tie as tie
 

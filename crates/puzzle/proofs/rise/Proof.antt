@@ -4,11 +4,9 @@ use mathlib.Core.Path.{_≡_, refl, sym, _∙_}
 use native.Mathlib.Omega.{arith}
 use borrow.Author.Needs.{needs}
 use denote.Ref.{now}
-use lib.Dec.{ltb}
 use lib.ListN.{take, drop}
-use Rattle.lists.specs.Lists.{all}
 use Rattle.puzzle.specs.Puzzle.{rises}
-use Rattle.puzzle.proofs.Loops.{exist-end, exist-stop, exist-turn, rise-stop, rise-turn, rise-end}
+use Rattle.puzzle.proofs.Loops.{rise-stop, rise-turn, rise-end}
 use Rattle.puzzle.proofs.rise.Statement.{statement}
 use Rattle.puzzle.proofs.rise.Tie as tie
 
