@@ -1,5 +1,6 @@
 //! A module a layer: what is compared, on which inputs.
 pub mod board;
+pub mod boundary;
 pub mod city_count;
 pub mod groups;
 pub mod hand_over;
@@ -32,11 +33,12 @@ pub struct Layer {
     pub sample: fn(&mut Sample),
 }
 
-pub const LAYERS: [Layer; 7] = [
+pub const LAYERS: [Layer; 8] = [
     Layer { name: "numbering", kind: 1, run: numbering::run, sample: numbering::sample },
     Layer { name: "board", kind: 2, run: board::run, sample: board::sample },
     Layer { name: "groups", kind: 3, run: groups::run, sample: groups::sample },
     Layer { name: "path", kind: 4, run: path::run, sample: path::sample },
+    Layer { name: "boundary", kind: 5, run: boundary::run, sample: boundary::sample },
     Layer { name: "union_find", kind: 7, run: union_find::run, sample: union_find::sample },
     Layer { name: "city_count", kind: 8, run: city_count::run, sample: city_count::sample },
     Layer { name: "hand_over", kind: 10, run: hand_over::run, sample: hand_over::sample },

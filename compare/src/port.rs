@@ -137,6 +137,8 @@ mod c {
             room: usize,
         ) -> usize;
         pub fn sendai_path(board: Board, start: usize, target: usize, buffer: *mut u16, room: usize) -> Listing;
+        pub fn sendai_unit_boundary(board: Board, unit: usize, buffer: *mut u16, room: usize) -> Listing;
+        pub fn sendai_potential_unit_boundary(board: Board, unit: usize, buffer: *mut u16, room: usize) -> Listing;
         pub fn sendai_hand_over(entries: *const u16, length: usize, buffer: *mut u16, room: usize) -> Listing;
     }
 }
@@ -313,6 +315,14 @@ impl Board {
 
     pub fn path(&self, from: usize, to: usize) -> Result<Vec<u16>, u8> {
         listed(self.room(), |buffer, room| unsafe { c::sendai_path(self.0, from, to, buffer, room) })
+    }
+
+    pub fn unit_boundary(&self, unit: usize) -> Result<Vec<u16>, u8> {
+        listed(self.room(), |buffer, room| unsafe { c::sendai_unit_boundary(self.0, unit, buffer, room) })
+    }
+
+    pub fn potential_unit_boundary(&self, unit: usize) -> Result<Vec<u16>, u8> {
+        listed(self.room(), |buffer, room| unsafe { c::sendai_potential_unit_boundary(self.0, unit, buffer, room) })
     }
 }
 

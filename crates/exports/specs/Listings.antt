@@ -4,6 +4,8 @@ use Prim.Native.Nat.{ℕ}
 use mathlib.Core.List.{List, [], _∷_}
 use Rattle.path.specs.declared.PathAnswer.{PathAnswer}
 use Rattle.path.specs.declared.PathAnswer.the-variants as path-answer
+use Rattle.boundary.specs.declared.BoundaryAnswer.{BoundaryAnswer}
+use Rattle.boundary.specs.declared.BoundaryAnswer.the-variants as boundary-answer
 use Rattle.hand_over.specs.declared.Handed.{Handed}
 use Rattle.hand_over.specs.declared.Handed.the-variants as handed
 use Rattle.exports.specs.declared.listings.Listing.{Listing}
@@ -17,6 +19,10 @@ refused k = record { code = k; length = 0 }
 abbrev pub pathListing : PathAnswer → Listing
 pathListing (path-answer.Listed n) = listed n
 pathListing (path-answer.Refused k) = refused k
+
+abbrev pub boundaryListing : BoundaryAnswer → Listing
+boundaryListing (boundary-answer.Listed n) = listed n
+boundaryListing (boundary-answer.Refused k) = refused k
 
 abbrev pub handListing : Handed → Listing
 handListing (handed.Written n) = listed n

@@ -1,6 +1,7 @@
 // The public calls for programs in Rust and C, each a thin wrapper with its call's contract. A record goes in and comes back
 // by value, laid out as in C; a slice is a pointer and a length. An enum does not cross: it is handed over as numbers.
 mod boards;
+mod boundaries;
 mod copies;
 mod groupings;
 mod hands;
@@ -14,6 +15,8 @@ pub use boards::sendai_board_check;
 pub use boards::sendai_board_decide;
 pub use boards::sendai_board_make;
 pub use boards::sendai_board_undo;
+pub use boundaries::sendai_potential_unit_boundary;
+pub use boundaries::sendai_unit_boundary;
 pub use groupings::sendai_group;
 pub use groupings::sendai_groups;
 pub use hands::sendai_hand_over;

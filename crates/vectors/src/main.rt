@@ -2,6 +2,7 @@
 // case that differs, and a line of counts for each layer.
 mod board_runs;
 mod boards;
+mod boundary_runs;
 mod case;
 mod group_runs;
 mod hand_runs;
@@ -30,6 +31,7 @@ fn replay_case(s: &[u8], at: usize) -> Counts {
         2 => board_runs::replay(s, at),
         3 => group_runs::replay(s, at),
         4 => path_runs::replay(s, at),
+        5 => boundary_runs::replay(s, at),
         7 => union_runs::replay(s, at),
         8 => room_runs::replay(s, at),
         10 => hand_runs::replay(s, at),
@@ -91,6 +93,7 @@ fn main() {
     check_file(b"board.bin");
     check_file(b"groups.bin");
     check_file(b"path.bin");
+    check_file(b"boundary.bin");
     check_file(b"union_find.bin");
     check_file(b"city_count.bin");
     check_file(b"hand_over.bin");

@@ -1,0 +1,50 @@
+//! `reason_for_unit_and_its_boundary` and `reason_for_potential_unit_boundary`, for every group of a board.
+use super::{on_boards, Limits};
+use crate::boards::Standing;
+use crate::port;
+use crate::reference::Board;
+use crate::sample::{few_boards, Sample};
+use crate::tally::Tally;
+
+fn compare(tally: &mut Tally, board: &Standing) {
+    tally.case();
+    let rust = Board::standing(board.height, board.width, &board.states);
+    let ours = port::Board::standing(board.height, board.width, &board.states);
+    let info = rust.info();
+    for unit in (0..=info.count(false)).chain([1024, usize::MAX]) {
+        let theirs = rust.unit_boundary(&info, unit);
+        tally.same(&theirs, &ours.unit_boundary(unit), || format!("{board:?}, unit {unit}"));
+    }
+    for unit in (0..=info.count(true)).chain([1024, usize::MAX]) {
+        let theirs = rust.potential_unit_boundary(&info, unit);
+        tally.same(&theirs, &ours.potential_unit_boundary(unit), || format!("{board:?}, potential unit {unit}"));
+    }
+}
+
+pub fn run(limits: &Limits) -> Tally {
+    let mut tally = Tally::new("boundary");
+    on_boards(limits, 9, |_, board| compare(&mut tally, board));
+    tally.done()
+}
+
+/// A board, the number of lists, and for each its kind (1 for a potential unit), the group and the answer.
+pub fn sample(sample: &mut Sample) {
+    for board in few_boards(30) {
+        sample.case();
+        sample.board(&board);
+        let rust = Board::standing(board.height, board.width, &board.states);
+        let info = rust.info();
+        let (units, potential) = (info.count(false).min(12), info.count(true).min(12));
+        sample.word(units + potential + 2);
+        for unit in 0..=units {
+            sample.byte(0);
+            sample.word(unit);
+            sample.answer(&rust.unit_boundary(&info, unit));
+        }
+        for unit in 0..=potential {
+            sample.byte(1);
+            sample.word(unit);
+            sample.answer(&rust.potential_unit_boundary(&info, unit));
+        }
+    }
+}

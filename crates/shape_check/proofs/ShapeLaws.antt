@@ -1,0 +1,51 @@
+-- The two stages of the check, over the units that it finds in its own arrays.
+-- Assumes nothing.
+use Prim.Native.Nat.{ℕ, _*_, _≤_}
+use mathlib.Core.Path.{_≡_}
+use mathlib.Core.Bool.{true, false}
+use mathlib.Core.List.{List}
+use native.Mathlib.Omega.{arith}
+use lib.ListN.{length, take}
+use Rattle.lists.specs.Lists.{range, first}
+use Rattle.grid.specs.Grid.{Grid, cells}
+use Rattle.groups.specs.Groups.{groupIds, groupCount}
+use Rattle.groups.specs.Floods.{Fits}
+use Rattle.groups.specs.Lent.{Grouped}
+use Rattle.groups.specs.Info.{blankPlaces}
+use Rattle.shape.specs.Shape.{innerWall, unitFault, faultIn, shapeFault}
+use Rattle.adjacency.proofs.TurnLaws.{ids-part, ids-are, front-turns}
+use Rattle.inner_walls.specs.declared.Found.{Found}
+use Rattle.inner_walls.specs.declared.Found.the-variants.{Clear, Fault}
+use Rattle.inner_walls.specs.Found.{Told}
+use Rattle.inner_walls.specs.Asked.{Asked}
+use Rattle.inner_walls.proofs.FoundLaws.{told-long, first-told, next-told}
+use Rattle.unit_check.specs.Units.{Staged}
+
+module _ {g : Grid} {states : List ℕ} (p : Fits g states) {ids starts flat : List ℕ} {count : ℕ} (w : Grouped g states false blankPlaces blankPlaces blankPlaces ids starts flat count) where
+  pub inner-asked : {b : List ℕ} → 9 * cells g ≤ length b → Asked g states (take (cells g) ids) b
+  inner-asked h = record { limits = p .limits; states-long = p .borders; ids-long = omega (arith, ids-part (p .limits) w); room = h }
+
+  -- the check's stages, of the units that were found
+  abbrev shape-stages : Type 0
+  shape-stages =
+      (b b' : List ℕ) (r : Found) → Told (faultIn g states (take (cells g) ids) (groupIds g states true) count (groupCount g states true)) b b' r
+      → Told (shapeFault g states) b b' r
+
+  stages : shape-stages
+  unfolding shapeFault
+  stages b b' r t = rw (ids-are (p .limits) w, w .count-is) at t
+
+  module _ {b b' : List ℕ} {r : Found} (t : Told (innerWall g states (take (cells g) ids)) b b' r) where
+    pub inner-fault : {n : ℕ} → r ≡ Fault n → Told (shapeFault g states) b b' (Fault n)
+    inner-fault e =
+        stages _ _ _
+        (unfold faultIn in
+        first-told (innerWall g states (take (cells g) ids)) (first (unitFault g states (take (cells g) ids) (groupIds g states true) (groupCount g states true)) (range count)) t e)
+
+    pub staged : 9 * cells g ≤ length b → Staged g states (take (cells g) ids) starts flat count (length b')
+    staged h =
+        record { limits = p .limits; states-long = p .borders; units = front-turns (p .limits) w; room = omega (arith, told-long (innerWall g states (take (cells g) ids)) t) }
+
+    pub units-told : r ≡ Clear → {b'' : List ℕ} {r' : Found} → Told (first (unitFault g states (take (cells g) ids) (groupIds g states true) (groupCount g states true)) (range count)) b' b'' r'
+        → Told (shapeFault g states) b b'' r'
+    units-told e u = stages _ _ _ (unfold faultIn in next-told t e u)

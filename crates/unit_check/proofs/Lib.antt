@@ -1,0 +1,7 @@
+pub mod TableLaws
+pub mod RestLaws
+pub mod TrialLaws
+pub mod FaultLaws
+pub mod UnitLaws
+pub mod StageLaws
+pub mod PotentialLaws
