@@ -9,3 +9,4 @@ pub mod Demand3
 pub mod Loops
 pub mod ListsCode
 pub mod Ready
+pub mod RoomChecks

@@ -5,10 +5,16 @@ use mathlib.Core.Bool.{Bool}
 use mathlib.Core.List.{List}
 use lib.Dec.{eqb, leb}
 use lib.ListN.{length, getD}
-use Rattle.lists.specs.Choice.{either}
-use Rattle.lists.specs.Lists.{range, all}
-use Rattle.grid.specs.Grid.{Grid, Limits}
+use Rattle.lists.specs.Choice.{either, pick}
+use Rattle.lists.specs.Lists.{range, all, first}
+use mathlib.Core.Option.{Option, none, some}
+use Rattle.grid.specs.Grid.{Grid, Limits, cells, borderCount}
 use Rattle.groups.specs.Info.{endOf}
+use Rattle.groups.proofs.Theorems.{Between}
+use Rattle.rooms.specs.RoomGraph.{roomList}
+use Rattle.rooms.specs.Lent.{Housed}
+use Rattle.puzzle.specs.declared.Check.the-variants.{Shape, Room}
+use Rattle.puzzle.specs.Fault.{Found, foundBy}
 
 -- a clue is 65535 or at most the places between its room's start and end
 abbrev pub clueFits : ℕ → ℕ → List ℕ → List ℕ → ℕ → Bool
@@ -29,3 +35,25 @@ pub record Lists (g : Grid) (given : List ℕ) (givenLen : ℕ) (clues : List �
   pub limits : Limits g
   pub given-long : givenLen ≤ length given
   pub clues-long : cluesLen ≤ length clues
+
+-- what the count of room r lists where it has a clue; `given` tells the given walls, `ids` each cell's room
+unfoldable pub clueList : Grid → (ℕ → Bool) → List ℕ → List ℕ → ℕ → (ℕ → ℕ) → Option (List ℕ)
+clueList g given ids clues r s = pick (eqb (getD clues r 0) 65535) none (roomList g given ids r (getD clues r 0) s)
+
+-- the first of the clued rooms whose count lists something
+unfoldable pub roomsFault : Grid → (ℕ → Bool) → List ℕ → List ℕ → ℕ → (ℕ → ℕ) → Option Found
+unfolding first range
+roomsFault g given ids clues count s = first (λ r. foundBy (Room r) (clueList g given ids clues r s)) (range count)
+
+-- a board's rooms: marks at the given walls, each cell's room and vertex, and the cells of each room from its start to its end
+pub record Housing (g : Grid) (marks ids vertex starts flat : List ℕ) (count : ℕ) : Type 0 where
+  pub housed : Housed g marks ids vertex
+  pub starts-long : count ≤ length starts
+  pub between : (r : ℕ) → r < count → Between g ids starts flat count r
+  pub flat-long : cells g ≤ length flat
+
+-- states, clues and a buffer that are long enough
+pub record Asking (g : Grid) (states clues : List ℕ) (count : ℕ) (buf : List ℕ) : Type 0 where
+  pub states-long : borderCount g ≤ length states
+  pub clues-long : count ≤ length clues
+  pub buf-long : borderCount g ≤ length buf

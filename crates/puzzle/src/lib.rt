@@ -7,10 +7,14 @@ ghost use lib.Seq.{sets};
 ghost use Rattle.lists.specs.Choice.{either};
 ghost use Rattle.lists.specs.Lists.{all};
 ghost use Rattle.grid.specs.Grid.{grid};
-ghost use Rattle.puzzle.specs.Lists.{allFit, Sizes, Lists};
-ghost use Rattle.rooms.specs.Lent.{Below};
-ghost use Rattle.puzzle.specs.Puzzle.{rises, listsCode, freshBoard, freshPuzzle, zeroPuzzle, answer, makeOf, puzzleCode, onto as withBoard, decideOf, undoOf};
+ghost use Rattle.puzzle.specs.Lists.{allFit, Sizes, Lists, clueList, roomsFault, Housing, Asking};
+ghost use Rattle.borders.specs.Border.{stateOf};
+ghost use Rattle.city_count.specs.Fault.{listOf};
+ghost use Rattle.city_count.specs.Room.{foundOf};
+ghost use Rattle.rooms.specs.Lent.{Below, markedIn};
+ghost use Rattle.puzzle.specs.Puzzle.{rises, listsCode, freshBoard, freshPuzzle, zeroPuzzle, answer, makeOf, puzzleCode, onto as withBoard, decideOf, undoOf, says, writes};
 use board::Board;
+use city_count::Inconsistency;
 
 // The board has the given walls as Wall; its ledger names none of them. The first `given_len` places of `given` are the given walls,
 // the first `clues_len` of `clues` the clues.
@@ -323,4 +327,73 @@ pub fn undo(p: Puzzle) -> Made
         code: 0,
         puzzle: onto(p, board::take_back(b)),
     }
+}
+
+// The count of a room, where it has a clue: the list of a fault goes to the buffer's front, else the buffer stays.
+fn check_room<'a>(
+    height: usize,
+    width: usize,
+    marks: &'a [u8],
+    ids: &'a [u16],
+    vertex: &'a [u16],
+    starts: &'a [u16],
+    flat: &'a [u16],
+    count: usize,
+    states: &'a [u8],
+    clues: &'a [u16],
+    room: usize,
+    buf: &mut [u16],
+) -> Inconsistency
+    requires { ⌜ Housing (grid height width) (now marks) (now ids) (now vertex) (now starts) (now flat) count ⌝ }
+    requires { ⌜ Asking (grid height width) (now states) (now clues) count (now buf) ⌝ }
+    requires { ⌜ room < count ⌝ }
+    ensures { λ r.
+        ⌜ r ≡ foundOf (clueList (grid height width) (markedIn (now (marks .entry))) (now (ids .entry)) (now (clues .entry)) room (stateOf (now (states .entry)))) ⌝ }
+    ensures { λ _.
+        ⌜ now (buf .exit) ≡ sets (now (buf .entry)) 0 (listOf (clueList (grid height width) (markedIn (now (marks .entry))) (now (ids .entry)) (now (clues .entry)) room (stateOf (now (states .entry))))) ⌝ }
+{
+    let clue = wide(clues[room]);
+    if clue == 65535 {
+        return Inconsistency::Nothing;
+    }
+    let start = wide(starts[room]);
+    let end = groups::end_of(starts, count, height * width, room);
+    let cells = &flat[start..end];
+    rooms::find_inconsistency(
+        height, width, marks, states, ids, vertex, cells, room, clue, buf,
+    )
+}
+
+// The counts of the clued rooms in order, up to the first fault.
+fn check_rooms<'a>(
+    height: usize,
+    width: usize,
+    marks: &'a [u8],
+    ids: &'a [u16],
+    vertex: &'a [u16],
+    starts: &'a [u16],
+    flat: &'a [u16],
+    count: usize,
+    states: &'a [u8],
+    clues: &'a [u16],
+    buf: &mut [u16],
+) -> Answer
+    requires { ⌜ Housing (grid height width) (now marks) (now ids) (now vertex) (now starts) (now flat) count ⌝ }
+    requires { ⌜ Asking (grid height width) (now states) (now clues) count (now buf) ⌝ }
+    ensures { λ r.
+        ⌜ r ≡ says 0 (roomsFault (grid height width) (markedIn (now (marks .entry))) (now (ids .entry)) (now (clues .entry)) count (stateOf (now (states .entry)))) ⌝ }
+    ensures { λ _.
+        ⌜ now (buf .exit) ≡ writes 0 (roomsFault (grid height width) (markedIn (now (marks .entry))) (now (ids .entry)) (now (clues .entry)) count (stateOf (now (states .entry)))) (now (buf .entry)) ⌝ }
+{
+    let mut room = 0;
+    while room < count {
+        let found = check_room(
+            height, width, marks, ids, vertex, starts, flat, count, states, clues, room, buf,
+        );
+        if let Inconsistency::Listed(k) = found {
+            return Answer::Fault(Check::Room(room), k);
+        }
+        room += 1;
+    }
+    Answer::Clear
 }
