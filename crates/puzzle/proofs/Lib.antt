@@ -10,3 +10,4 @@ pub mod Loops
 pub mod ListsCode
 pub mod Ready
 pub mod RoomChecks
+pub mod Housed

@@ -2,16 +2,17 @@
 -- Assumes nothing.
 use Prim.Native.Nat.{ℕ, zero, suc, _-_, _≤_, _<_}
 use mathlib.Core.Path.{_≡_, refl, ap, ap₂, sym, _∙_}
-use mathlib.Core.Logic.{_≢_}
+use mathlib.Core.Logic.{_≢_, ⊎-elim}
 use mathlib.Core.Bool.{Bool, true, false}
 use mathlib.Core.List.{List, [], _∷_}
 use native.Mathlib.Omega.{arith}
 use borrow.Author.Tests.{eq-eqb, ne-eqb, ltb-true}
 use lib.Dec.{eqb, ltb, leb}
-use lib.ListN.{length, getD, take, drop, length-replicate, length-drop}
+use lib.ListN.{length, getD, take, drop, replicate, length-replicate, getD-replicate, length-drop, List·getD-eq-default}
 use lib.Seq.{getD-take, length-take-le, length-sets}
 use Rattle.lists.specs.Choice.{either, pick}
 use Rattle.lists.specs.Lists.{range, all}
+use Rattle.lists.proofs.Cases.{le-or-lt}
 use Rattle.lists.proofs.ListLaws.{all-true, in-range}
 use Rattle.grid.specs.Grid.{Grid, Limits, cells, borderCount}
 use Rattle.grid.proofs.Geometry.{cells-le}
@@ -52,9 +53,17 @@ pub tested : (n m : ℕ) (l : List ℕ) (t : Bool) → n ≡ m → t ≡ all (λ
 tested n m l t q k = sym (k ∙ ap (λ x. all (λ e. ltb e x) l) q)
 
 -- ARRAYS
-no-clues-length : length noClues ≡ 1024
+pub no-clues-length : length noClues ≡ 1024
 unfolding noClues
 no-clues-length = length-replicate {A = ℕ} 1024 0
+
+pub no-clue-at : (i : ℕ) → getD noClues i 0 ≡ 0
+unfolding noClues
+no-clue-at i =
+    ⊎-elim
+    (λ (h : 1024 ≤ i). List·getD-eq-default (replicate 1024 0) 0 {n = i} (rw (length-replicate {A = ℕ} 1024 0) h))
+    (λ (h : i < 1024). getD-replicate 1024 i 0 0 h)
+    (le-or-lt 1024 i)
 
 pub rooms-lent : (g : Grid) → Limits g → Lent (cells g) noClues noClues noClues
 rooms-lent g l =

@@ -11,6 +11,8 @@ use mathlib.Core.Option.{Option, none, some}
 use Rattle.grid.specs.Grid.{Grid, Limits, cells, borderCount}
 use Rattle.groups.specs.Info.{endOf}
 use Rattle.groups.proofs.Theorems.{Between}
+use Rattle.borders.specs.Border.{stateOf}
+use Rattle.rooms.specs.Rooms.{isGiven, roomIds, roomCount}
 use Rattle.rooms.specs.RoomGraph.{roomList}
 use Rattle.rooms.specs.Lent.{Housed}
 use Rattle.puzzle.specs.declared.Check.the-variants.{Shape, Room}
@@ -44,6 +46,10 @@ clueList g given ids clues r s = pick (eqb (getD clues r 0) 65535) none (roomLis
 unfoldable pub roomsFault : Grid → (ℕ → Bool) → List ℕ → List ℕ → ℕ → (ℕ → ℕ) → Option Found
 unfolding first range
 roomsFault g given ids clues count s = first (λ r. foundBy (Room r) (clueList g given ids clues r s)) (range count)
+
+-- the same for a board's own rooms
+abbrev pub roomsIn : Grid → List ℕ → List ℕ → List ℕ → Option Found
+roomsIn g given clues states = roomsFault g (isGiven given) (roomIds g given) clues (roomCount g given) (stateOf states)
 
 -- a board's rooms: marks at the given walls, each cell's room and vertex, and the cells of each room from its start to its end
 pub record Housing (g : Grid) (marks ids vertex starts flat : List ℕ) (count : ℕ) : Type 0 where

@@ -7,11 +7,12 @@ ghost use lib.Seq.{sets};
 ghost use Rattle.lists.specs.Choice.{either};
 ghost use Rattle.lists.specs.Lists.{all};
 ghost use Rattle.grid.specs.Grid.{grid};
-ghost use Rattle.puzzle.specs.Lists.{allFit, Sizes, Lists, clueList, roomsFault, Housing, Asking};
+ghost use Rattle.puzzle.specs.Lists.{allFit, Sizes, Lists, clueList, roomsFault, roomsIn, Housing, Asking};
 ghost use Rattle.borders.specs.Border.{stateOf};
 ghost use Rattle.city_count.specs.Fault.{listOf};
 ghost use Rattle.city_count.specs.Room.{foundOf};
-ghost use Rattle.rooms.specs.Lent.{Below, markedIn};
+ghost use Rattle.rooms.specs.Rooms.{roomCount};
+ghost use Rattle.rooms.specs.Lent.{Below, Given, markedIn};
 ghost use Rattle.puzzle.specs.Puzzle.{rises, listsCode, freshBoard, freshPuzzle, zeroPuzzle, answer, makeOf, puzzleCode, onto as withBoard, decideOf, undoOf, says, writes};
 use board::Board;
 use city_count::Inconsistency;
@@ -396,4 +397,54 @@ fn check_rooms<'a>(
         room += 1;
     }
     Answer::Clear
+}
+
+// The counts of the clued rooms of a board whose borders have these states.
+fn rooms_fault<'a>(
+    height: usize,
+    width: usize,
+    given: &'a [u16],
+    len: usize,
+    states: &'a [u8],
+    clues: &'a [u16],
+    buf: &mut [u16],
+) -> Answer
+    requires { ⌜ Given (grid height width) (now given) len ⌝ }
+    requires { ⌜ Asking (grid height width) (now states) (now clues) (roomCount (grid height width) (take len (now given))) (now buf) ⌝ }
+    ensures { λ r.
+        ⌜ r ≡ says 0 (roomsIn (grid height width) (take len (now (given .entry))) (now (clues .entry)) (now (states .entry))) ⌝ }
+    ensures { λ _.
+        ⌜ now (buf .exit) ≡ writes 0 (roomsIn (grid height width) (take len (now (given .entry))) (now (clues .entry)) (now (states .entry))) (now (buf .entry)) ⌝ }
+{
+    let n = height * width;
+    let mut marks = [0u8; 1984];
+    rooms::put(given, len, 1, &mut marks);
+    let mut ids = [0u16; 1024];
+    let mut starts = [0u16; 1024];
+    let mut flat = [0u16; 1024];
+    let count = rooms::rooms_of(
+        height,
+        width,
+        given,
+        len,
+        &mut ids,
+        &mut starts,
+        &mut flat,
+    );
+    let mut next = [0u16; 1024];
+    let mut vertex = [0u16; 1024];
+    rooms::vertices(&ids[..n], n, &mut next, &mut vertex);
+    check_rooms(
+        height,
+        width,
+        &marks,
+        &ids[..n],
+        &vertex,
+        &starts,
+        &flat,
+        count,
+        states,
+        clues,
+        buf,
+    )
 }
