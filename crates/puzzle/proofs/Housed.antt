@@ -1,23 +1,22 @@
 -- What the rooms' arrays hold once they are filled, and that the counts over them are the counts of the board's own rooms.
 -- Assumes nothing.
-use Prim.Native.Nat.{ℕ, _≤_, _<_}
-use mathlib.Core.Path.{_≡_, refl, ap, sym, _∙_, fun-ext}
+use Prim.Native.Nat.{ℕ, _≤_}
+use mathlib.Core.Path.{_≡_, refl, ap, _∙_, fun-ext}
 use mathlib.Core.Bool.{Bool, true, false, not}
 use mathlib.Core.List.{List}
 use mathlib.Core.Option.{Option}
 use native.Mathlib.Omega.{arith}
 use lib.Dec.{eqb}
-use lib.ListN.{length, getD, take}
-use lib.Seq.{sets, length-sets, length-take-le}
+use lib.ListN.{length, take}
+use lib.Seq.{length-sets, length-take-le}
 use Rattle.lists.specs.Choice.{pick}
-use Rattle.grid.specs.Grid.{Grid, Limits, cells, borderCount}
+use Rattle.grid.specs.Grid.{Grid, cells}
 use Rattle.grid.proofs.Geometry.{cells-le, borderCount-le}
 use Rattle.borders.specs.Border.{stateOf}
 use Rattle.parts.proofs.PartLists.{parts-length}
-use Rattle.groups.specs.Lent.{Lent}
 use Rattle.groups.specs.Turn.{Keys, inTurn, startsOf}
 use Rattle.rooms.specs.Rooms.{isGiven, roomEdges, roomIds, roomCount}
-use Rattle.rooms.specs.Lent.{unmarked, puts, Given, Roomed, Vertices, markedIn, Housed}
+use Rattle.rooms.specs.Lent.{unmarked, puts, Given, Roomed, Vertices, markedIn}
 use Rattle.rooms.proofs.RoomLaws.{room-labels}
 use Rattle.rooms.proofs.PutLaws.{puts-length, unmarked-length, marks-at, room-between}
 use Rattle.puzzle.specs.declared.Answer.{Answer}
@@ -72,11 +71,11 @@ module _ (g : Grid) (given : List ℕ) (len : ℕ) (w : Given g given len) (ids 
     housing vertex v =
         record {
           housed = record {
-              limits = w .limits;
-              marks-long = rw q (omega (arith, puts-length G 1 unmarked, unmarked-length, borderCount-le g (w .limits)));
-              ids-long = omega (arith, front-length);
-              vertices = v;
-            };
+            limits = w .limits;
+            marks-long = rw q (omega (arith, puts-length G 1 unmarked, unmarked-length, borderCount-le g (w .limits)));
+            ids-long = omega (arith, front-length);
+            vertices = v;
+          };
           starts-long = rw (o .starts-are)
               (omega (arith, length-sets noClues 0 (startsOf (cells g) (roomIds g G) (roomCount g G)), no-clues-length, o .count-is, rooms-few g G G, few));
           between = λ r h. rw ids-front (room-between g given len w noClues noClues noClues ids starts flat count (rooms-lent g (w .limits)) o r h);

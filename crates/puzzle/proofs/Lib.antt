@@ -11,3 +11,4 @@ pub mod ListsCode
 pub mod Ready
 pub mod RoomChecks
 pub mod Housed
+pub mod Finding

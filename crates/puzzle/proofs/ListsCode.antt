@@ -74,7 +74,7 @@ walls-given g given len l h a =
     record { limits = l; below = record { long = h; small = λ e m. ltb-true e (borderCount g) (all-true (λ x. ltb x (borderCount g)) (take len given) a e m) } }
 
 -- the element at a place does not depend on what stands for none
-other-default : (xs : List ℕ) (i a b : ℕ) → i < length xs → getD xs i a ≡ getD xs i b
+pub other-default : (xs : List ℕ) (i a b : ℕ) → i < length xs → getD xs i a ≡ getD xs i b
 other-default [] i a b h = absurd (omega arith)
 other-default (x ∷ xs) zero a b h = refl
 other-default (x ∷ xs) (suc i) a b h = other-default xs i a b (omega arith)

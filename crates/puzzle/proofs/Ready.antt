@@ -1,6 +1,6 @@
 -- Questions 1 and 2 of a puzzle: a law for each answer, and what an accepted puzzle is like.
 -- Assumes nothing.
-use Prim.Native.Nat.{ℕ, _-_, _≤_, _<_}
+use Prim.Native.Nat.{ℕ, _-_, _*_, _≤_, _<_}
 use mathlib.Core.Path.{_≡_, refl, ap, sym, _∙_, fun-ext}
 use mathlib.Core.Logic.{_≢_}
 use mathlib.Core.Bool.{Bool, true, false}
@@ -13,7 +13,7 @@ use lib.Seq.{getD-take, length-take-le}
 use Rattle.lists.specs.Choice.{pick}
 use Rattle.lists.proofs.ChoiceLaws.{both-true}
 use Rattle.lists.proofs.ListLaws.{getD-in}
-use Rattle.grid.specs.Grid.{sizesOk, Limits}
+use Rattle.grid.specs.Grid.{sizesOk, Limits, cells}
 use Rattle.grid.proofs.Geometry.{limits, borderCount-le}
 use Rattle.ledger.specs.Ledger.{holdsOf}
 use Rattle.ledger.specs.Marks.{givenIn, Lent}
@@ -23,6 +23,7 @@ use Rattle.rooms.specs.Rooms.{isGiven}
 use Rattle.rooms.specs.Lent.{unmarked, puts, Below}
 use Rattle.rooms.proofs.PutLaws.{puts-length, puts-at, unmarked-at, unmarked-length}
 use Rattle.puzzle.specs.declared.Puzzle.{Puzzle}
+use Rattle.puzzle.specs.Lists.{Finding}
 use Rattle.puzzle.specs.Puzzle.{listsCode, gridOf, givenOf, cluesOf, together, puzzleCode}
 use Rattle.puzzle.proofs.Making.{lists-fit}
 
@@ -156,3 +157,15 @@ module _ (p : Puzzle) (r : Ready p) (long : length (p .board .ledger) ≡ 1984) 
       let b : i < p .board .len = omega arith in
       let k : i < length (namesOf (p .board)) = omega (arith, names-length) in
       rw (getD-take (p .board .len) (p .board .ledger) i 0 b) at (question .inside (getD (namesOf (p .board)) i 0) (getD-in 0 (namesOf (p .board)) i k))
+
+-- what an ask hands on
+pub ready-finding : (p : Puzzle) → Ready p → length (p .given) ≡ 1984 → length (p .clues) ≡ 1024 → length (p .board .states) ≡ 1984 → (buf : List ℕ) → 9 * cells (gridOf p) ≤ length buf
+    → Finding (gridOf p) (p .given) (p .«given_len») (p .board .states) (cluesOf p) buf
+ready-finding p r given clues states buf h =
+    let f = lists-fit (gridOf p) (givenOf p) (cluesOf p) (r .lists) in
+    record {
+      walls = record { limits = r .limits; below = record { long = omega (arith, r .given-fits); small = f .inside } };
+      states-long = omega (arith, borderCount-le (gridOf p) (r .limits));
+      one-each = f .one-each;
+      buf-long = h;
+    }

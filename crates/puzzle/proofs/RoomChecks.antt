@@ -3,16 +3,14 @@
 use Prim.Native.Nat.{ℕ, _+_, _-_, _≤_, _<_}
 use mathlib.Core.Path.{_≡_, refl, ap, ap₂, sym, _∙_}
 use mathlib.Core.Logic.{_≢_}
-use mathlib.Core.Bool.{Bool, true, false, not}
-use mathlib.Core.List.{List, [], _∷_}
+use mathlib.Core.Bool.{Bool}
+use mathlib.Core.List.{List}
 use mathlib.Core.Option.{Option, none, some}
-use native.Mathlib.Omega.{arith}
 use native.Mathlib.Nat.{sub-zero}
 use borrow.Author.Tests.{eq-eqb, ne-eqb}
-use lib.Dec.{eqb}
 use lib.ListN.{length, getD}
 use lib.Seq.{sets, length-sets}
-use Rattle.lists.specs.Choice.{pick, orElse}
+use Rattle.lists.specs.Choice.{orElse}
 use Rattle.lists.specs.Lists.{countFrom, range, first}
 use Rattle.lists.proofs.ListLaws.{countFrom-step, countFrom-end}
 use Rattle.grid.specs.Grid.{Grid}
@@ -23,7 +21,6 @@ use Rattle.city_count.specs.declared.Inconsistency.the-variants.{Nothing, Liste
 use Rattle.rooms.specs.RoomGraph.{roomList}
 use Rattle.rooms.proofs.FindLaws.{found-none, found-some}
 use Rattle.puzzle.specs.declared.Check.the-variants.{Room}
-use Rattle.puzzle.specs.declared.Answer.{Answer}
 use Rattle.puzzle.specs.declared.Answer.the-variants.{Clear, Fault}
 use Rattle.puzzle.specs.Fault.{Found, foundBy}
 use Rattle.puzzle.specs.Lists.{clueList, roomsFault}

@@ -1,21 +1,22 @@
 -- What the functions over a puzzle's lists ask and promise.
 -- Assumes nothing.
-use Prim.Native.Nat.{ℕ, _-_, _≤_, _<_}
+use Prim.Native.Nat.{ℕ, _-_, _*_, _≤_, _<_}
+use mathlib.Core.Path.{_≡_}
 use mathlib.Core.Bool.{Bool}
 use mathlib.Core.List.{List}
 use lib.Dec.{eqb, leb}
-use lib.ListN.{length, getD}
+use lib.ListN.{length, getD, take}
 use Rattle.lists.specs.Choice.{either, pick}
 use Rattle.lists.specs.Lists.{range, all, first}
-use mathlib.Core.Option.{Option, none, some}
+use mathlib.Core.Option.{Option, none}
 use Rattle.grid.specs.Grid.{Grid, Limits, cells, borderCount}
 use Rattle.groups.specs.Info.{endOf}
 use Rattle.groups.proofs.Theorems.{Between}
 use Rattle.borders.specs.Border.{stateOf}
 use Rattle.rooms.specs.Rooms.{isGiven, roomIds, roomCount}
 use Rattle.rooms.specs.RoomGraph.{roomList}
-use Rattle.rooms.specs.Lent.{Housed}
-use Rattle.puzzle.specs.declared.Check.the-variants.{Shape, Room}
+use Rattle.rooms.specs.Lent.{Given, Housed}
+use Rattle.puzzle.specs.declared.Check.the-variants.{Room}
 use Rattle.puzzle.specs.Fault.{Found, foundBy}
 
 -- a clue is 65535 or at most the places between its room's start and end
@@ -63,3 +64,10 @@ pub record Asking (g : Grid) (states clues : List ℕ) (count : ℕ) (buf : List
   pub states-long : borderCount g ≤ length states
   pub clues-long : count ≤ length clues
   pub buf-long : borderCount g ≤ length buf
+
+-- given walls, states, a clue for each room, and a buffer that is long enough for an ask
+pub record Finding (g : Grid) (given : List ℕ) (len : ℕ) (states clues buf : List ℕ) : Type 0 where
+  pub walls : Given g given len
+  pub states-long : borderCount g ≤ length states
+  pub one-each : length clues ≡ roomCount g (take len given)
+  pub buf-long : 9 * cells g ≤ length buf

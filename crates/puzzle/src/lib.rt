@@ -7,15 +7,17 @@ ghost use lib.Seq.{sets};
 ghost use Rattle.lists.specs.Choice.{either};
 ghost use Rattle.lists.specs.Lists.{all};
 ghost use Rattle.grid.specs.Grid.{grid};
-ghost use Rattle.puzzle.specs.Lists.{allFit, Sizes, Lists, clueList, roomsFault, roomsIn, Housing, Asking};
+ghost use Rattle.puzzle.specs.Fault.{faultOf};
+ghost use Rattle.puzzle.specs.Lists.{allFit, Sizes, Lists, clueList, roomsFault, roomsIn, Housing, Asking, Finding};
 ghost use Rattle.borders.specs.Border.{stateOf};
 ghost use Rattle.city_count.specs.Fault.{listOf};
 ghost use Rattle.city_count.specs.Room.{foundOf};
 ghost use Rattle.rooms.specs.Rooms.{roomCount};
 ghost use Rattle.rooms.specs.Lent.{Below, Given, markedIn};
-ghost use Rattle.puzzle.specs.Puzzle.{rises, listsCode, freshBoard, freshPuzzle, zeroPuzzle, answer, makeOf, puzzleCode, onto as withBoard, decideOf, undoOf, says, writes};
+ghost use Rattle.puzzle.specs.Puzzle.{rises, listsCode, freshBoard, freshPuzzle, zeroPuzzle, answer, makeOf, puzzleCode, onto as withBoard, decideOf, undoOf, says, writes, askOf};
 use board::Board;
 use city_count::Inconsistency;
+use inner_walls::Found;
 
 // The board has the given walls as Wall; its ledger names none of them. The first `given_len` places of `given` are the given walls,
 // the first `clues_len` of `clues` the clues.
@@ -361,7 +363,16 @@ fn check_room<'a>(
     let end = groups::end_of(starts, count, height * width, room);
     let cells = &flat[start..end];
     rooms::find_inconsistency(
-        height, width, marks, states, ids, vertex, cells, room, clue, buf,
+        height,
+        width,
+        marks,
+        states,
+        ids,
+        vertex,
+        cells,
+        room,
+        clue,
+        buf,
     )
 }
 
@@ -389,7 +400,18 @@ fn check_rooms<'a>(
     let mut room = 0;
     while room < count {
         let found = check_room(
-            height, width, marks, ids, vertex, starts, flat, count, states, clues, room, buf,
+            height,
+            width,
+            marks,
+            ids,
+            vertex,
+            starts,
+            flat,
+            count,
+            states,
+            clues,
+            room,
+            buf,
         );
         if let Inconsistency::Listed(k) = found {
             return Answer::Fault(Check::Room(room), k);
@@ -422,15 +444,7 @@ fn rooms_fault<'a>(
     let mut ids = [0u16; 1024];
     let mut starts = [0u16; 1024];
     let mut flat = [0u16; 1024];
-    let count = rooms::rooms_of(
-        height,
-        width,
-        given,
-        len,
-        &mut ids,
-        &mut starts,
-        &mut flat,
-    );
+    let count = rooms::rooms_of(height, width, given, len, &mut ids, &mut starts, &mut flat);
     let mut next = [0u16; 1024];
     let mut vertex = [0u16; 1024];
     rooms::vertices(&ids[..n], n, &mut next, &mut vertex);
@@ -445,6 +459,55 @@ fn rooms_fault<'a>(
         count,
         states,
         clues,
+        buf,
+    )
+}
+
+// The shape check, and then the counts of the clued rooms, on a board whose borders have these states.
+fn find<'a>(
+    height: usize,
+    width: usize,
+    given: &'a [u16],
+    len: usize,
+    states: &'a [u8],
+    clues: &'a [u16],
+    buf: &mut [u16],
+) -> Answer
+    requires { ⌜ Finding (grid height width) (now given) len (now states) (now clues) (now buf) ⌝ }
+    ensures { λ r. ⌜ r ≡ says 0 (faultOf (grid height width) (take len (now (given .entry))) (now (clues .entry)) (now (states .entry))) ⌝ }
+    ensures { λ _.
+        ⌜ now (buf .exit) ≡ writes 0 (faultOf (grid height width) (take len (now (given .entry))) (now (clues .entry)) (now (states .entry))) (now (buf .entry)) ⌝ }
+{
+    let shape = shape_check::shape_fault(height, width, states, buf);
+    if let Found::Fault(n) = shape {
+        return Answer::Fault(Check::Shape, n);
+    }
+    rooms_fault(height, width, given, len, states, clues, buf)
+}
+
+// What stands wrong on a puzzle as it stands: the shape check, then the clued rooms in order, up to the first fault, whose list goes to the
+// buffer's front.
+pub fn ask(p: Puzzle, buf: &mut [u16]) -> Answer
+    ensures { λ r. ⌜ r ≡ askOf p (now (buf .entry)) .answer ⌝ }
+    ensures { λ _. ⌜ now (buf .exit) ≡ askOf p (now (buf .entry)) .buffer ⌝ }
+{
+    let code = puzzle_code(p);
+    if code != 0 {
+        return Answer::Refused(code);
+    }
+    let b = p.board;
+    if buf.len() < 9 * (b.height * b.width) {
+        return Answer::Refused(6);
+    }
+    let clues = p.clues;
+    let clues_len = p.clues_len;
+    find(
+        b.height,
+        b.width,
+        &p.given,
+        p.given_len,
+        &b.states,
+        &clues[..clues_len],
         buf,
     )
 }
