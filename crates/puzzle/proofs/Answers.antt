@@ -1,7 +1,7 @@
 -- A law for each answer of decide, undo and ask: which tests lead to it.
 -- Assumes nothing.
-use Prim.Native.Nat.{ℕ, _*_, _≤_, _<_}
-use mathlib.Core.Path.{_≡_}
+use Prim.Native.Nat.{ℕ, zero, suc, _*_, _≤_, _<_}
+use mathlib.Core.Path.{_≡_, refl}
 use mathlib.Core.Logic.{_≢_}
 use mathlib.Core.Bool.{Bool}
 use mathlib.Core.List.{List}
@@ -12,6 +12,8 @@ use Rattle.grid.specs.Grid.{cells}
 use Rattle.board.specs.Board.{bordersOf, placed, taken}
 use Rattle.puzzle.specs.declared.Puzzle.{Puzzle}
 use Rattle.puzzle.specs.declared.Made.{Made}
+use Rattle.puzzle.specs.declared.Answer.{Answer}
+use Rattle.puzzle.specs.declared.Answer.the-variants.{Refused}
 use Rattle.puzzle.specs.Fault.{Found}
 use Rattle.puzzle.specs.Puzzle.{answer, gridOf, puzzleCode, asked, onto, decideOf, undoOf, askCode, Asked, says, writes, faultIn, askOf}
 
@@ -48,3 +50,26 @@ asked-by n m f buf q = rw q
 
 pub accepted-ask : (p : Puzzle) (buf : List ℕ) → askCode p buf ≡ 0 → askOf p buf ≡ record { answer = says 0 (faultIn p); buffer = writes 0 (faultIn p) buf }
 accepted-ask p buf q = asked-by (askCode p buf) 0 (faultIn p) buf q
+
+-- a refused ask answers its number and leaves the buffer
+refused-by : (n : ℕ) (f : Option Found) (buf : List ℕ) → n ≢ 0 → (Refused n ≡ says n f) × (buf ≡ writes n f buf)
+refused-by zero f buf z = absurd (z refl)
+refused-by (suc n) f buf z = (refl, refl)
+
+by-number : (n m : ℕ) (f : Option Found) (x : Answer) (buf buf' : List ℕ) → m ≡ n → (x ≡ says n f) × (buf' ≡ writes n f buf) → (x ≡ says m f) × (buf' ≡ writes m f buf)
+by-number n m f x buf buf' q e = rw q e
+
+module _ (p : Puzzle) (code : ℕ) (q : code ≡ puzzleCode p) (buf : List ℕ) where
+  code-same : code ≢ 0 → askCode p buf ≡ code
+  code-same z = rw (← q, ne-eqb code 0 z)
+
+  pub ask-refused : code ≢ 0 → (Refused code ≡ askOf p buf .answer) × (buf ≡ askOf p buf .buffer)
+  ask-refused z = by-number code (askCode p buf) (faultIn p) (Refused code) buf buf (code-same z) (refused-by code (faultIn p) buf z)
+
+  module _ (z : code ≡ 0) where
+    pub ask-short : length buf < 9 * cells (gridOf p) → (Refused 6 ≡ askOf p buf .answer) × (buf ≡ askOf p buf .buffer)
+    ask-short h = by-number 6 (askCode p buf) (faultIn p) (Refused 6) buf buf (short-buffer p code q z buf h) (refl, refl)
+
+    pub ask-found : 9 * cells (gridOf p) ≤ length buf → (x : Answer) (buf' : List ℕ) → (x ≡ says 0 (faultIn p)) × (buf' ≡ writes 0 (faultIn p) buf)
+        → (x ≡ askOf p buf .answer) × (buf' ≡ askOf p buf .buffer)
+    ask-found h x buf' e = by-number 0 (askCode p buf) (faultIn p) x buf buf' (long-buffer p code q z buf h) e

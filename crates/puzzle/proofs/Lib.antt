@@ -6,3 +6,9 @@ pub mod FaultLaws
 pub mod Asks
 pub mod Orders
 pub mod Demand3
+pub mod Loops
+pub mod ListsCode
+pub mod Ready
+pub mod RoomChecks
+pub mod Housed
+pub mod Finding

@@ -1,31 +1,36 @@
 -- What questions 1, 3, 7, 8 and 9 say of the lists that a making accepts, and what the fresh puzzle holds.
 -- Assumes nothing.
 use Prim.Native.Nat.{ℕ, _≤_, _<_}
-use mathlib.Core.Path.{_≡_, refl}
+use mathlib.Core.Path.{_≡_, refl, ap, sym, _∙_}
 use mathlib.Core.Bool.{Bool, true, false, not}
 use mathlib.Core.List.{List}
 use native.Mathlib.Omega.{arith}
-use borrow.Author.Tests.{eqb-true, leb-true, ltb-true, not-true}
+use borrow.Author.Tests.{ne-eqb, eqb-true, leb-true, ltb-true, not-true}
 use lib.Dec.{eqb, ltb, leb}
-use lib.ListN.{length, length-replicate}
+use lib.ListN.{length, take, length-replicate}
+use lib.Seq.{sets, take-length}
 use Rattle.lists.specs.Choice.{pick}
 use Rattle.lists.specs.Lists.{range, In}
 use Rattle.lists.proofs.Cases.{not-both}
 use Rattle.lists.proofs.ChoiceLaws.{either-true}
 use Rattle.lists.proofs.ListLaws.{all-true, range-in}
-use mathlib.Core.Logic.{⊎-elim}
+use mathlib.Core.Logic.{_≢_, ⊎-elim}
 use Rattle.grid.specs.Grid.{Grid, grid, sizesOk, Limits, cells, borderCount}
 use Rattle.grid.proofs.Geometry.{limits, cells-le, borderCount-le}
 use Rattle.parts.proofs.PartLaws.{begun-small}
 use Rattle.parts.proofs.PartLists.{begun-at}
 use Rattle.groups.proofs.GroupLaws.{edges-within}
+use Rattle.board.specs.declared.Board.{Board}
 use Rattle.board.specs.Board.{zeros}
 use Rattle.board.proofs.Laws.{zeros-length}
 use Rattle.puzzle.specs.declared.Puzzle.{Puzzle}
+use Rattle.puzzle.specs.declared.Made.{Made}
 use Rattle.rooms.specs.Rooms.{isGiven, roomEdges, roomCount, roomCells, clued, clueOf}
-use Rattle.puzzle.specs.Puzzle.{exist, rises, oneEach, fitsRoom, cluesFit, listsCode, noClues, freshPuzzle, zeroPuzzle, answer, makeCode, makeOf, givenOf, cluesOf}
+use Rattle.puzzle.specs.Puzzle.{exist, rises, oneEach, fitsRoom, cluesFit, listsCode, noClues, freshBoard, freshPuzzle, zeroPuzzle, answer, makeCode, makeOf, givenOf, cluesOf, statesOf, freshState}
+use Rattle.rooms.specs.Lent.{unmarked, puts, Below}
 use Rattle.rooms.proofs.RoomLaws.{given-in}
-use Rattle.puzzle.proofs.Basics.{rises-length, sets-length}
+use Rattle.rooms.proofs.PutLaws.{puts-length, puts-at, unmarked-at, unmarked-length}
+use Rattle.puzzle.proofs.Basics.{rises-length, sets-length, states-are}
 
 -- lists that questions 3, 7, 8 and 9 accept
 pub record Fit (g : Grid) (given clues : List ℕ) : Type 0 where
@@ -117,3 +122,48 @@ module _ (h w : ℕ) (given clues : List ℕ) where
     -- no number behind the board's borders is a given wall
     pub given-inside : (e : ℕ) → isGiven given e ≡ true → e < borderCount (grid h w)
     given-inside e q = a .fit .inside e (given-in given e q)
+
+-- 2 at each given wall of zeros: the states of a fresh board
+pub fresh-states : (given : List ℕ) → Below 1984 given (length given) → puts (take (length given) given) 2 unmarked ≡ statesOf 1984 (freshState given)
+fresh-states given w =
+    rw (take-length given)
+    (states-are 1984 (freshState given) (puts given 2 unmarked) (puts-length given 2 unmarked ∙ unmarked-length)
+    (λ e h.
+    puts-at given 2 unmarked (λ x m. rw unmarked-length (w .small x (rw (take-length given) m))) e ∙ ap (pick (isGiven given e) 2) (unmarked-at e)))
+
+-- WHAT MAKING ANSWERS
+pub board-is : (h w : ℕ) (given s : List ℕ) → s ≡ statesOf 1984 (freshState given) → _≡_ {A = Board} (record { height = h; width = w; states = s; ledger = zeros; len = 0 }) (freshBoard h w given)
+board-is h w given s q = rw q
+
+pub puzzle-is : (h w : ℕ) (given clues walls counts : List ℕ) (b : Board) → b ≡ freshBoard h w given → walls ≡ sets zeros 0 given → counts ≡ sets noClues 0 clues
+    → _≡_ {A = Puzzle} (record { board = b; given = walls; «given_len» = length given; clues = counts; «clues_len» = length clues }) (freshPuzzle h w given clues)
+puzzle-is h w given clues walls counts b p q r = rw (p, q, r)
+
+module _ (h w : ℕ) (given clues : List ℕ) where
+  pub no-size : (m : Made) → sizesOk (grid h w) ≡ false → m ≡ answer 1 zeroPuzzle → m ≡ makeOf h w given clues
+  no-size m q e = e ∙ rw q
+
+  by-code : (n : ℕ) → makeCode h w given clues ≡ n → (m : Made) → m ≡ pick (eqb n 0) (answer 0 (freshPuzzle h w given clues)) (answer n zeroPuzzle) → m ≡ makeOf h w given clues
+  by-code n q m e = e ∙ ap (λ k. pick (eqb k 0) (answer 0 (freshPuzzle h w given clues)) (answer k zeroPuzzle)) (sym q)
+
+  module _ (ok : sizesOk (grid h w) ≡ true) (code : ℕ) (q : code ≡ listsCode (grid h w) given clues) where
+    code-is : makeCode h w given clues ≡ code
+    code-is = rw ok (sym q)
+
+    pub not-made : (m : Made) → code ≢ 0 → m ≡ answer code zeroPuzzle → m ≡ makeOf h w given clues
+    not-made m z e = by-code code code-is m (e ∙ rw (ne-eqb code 0 z))
+
+    pub newly-made : (m : Made) → code ≡ 0 → m ≡ answer 0 (freshPuzzle h w given clues) → m ≡ makeOf h w given clues
+    newly-made m z e = by-code code code-is m (e ∙ rw z)
+
+    pub code-accepted-by : code ≡ 0 → Accepted h w given clues
+    code-accepted-by z = record { limits = limits (grid h w) ok; lists = sym q ∙ z; fit = lists-fit (grid h w) given clues (sym q ∙ z) }
+
+-- an accepted making's lists have their places
+pub walls-below : (h w : ℕ) (given clues : List ℕ) → Accepted h w given clues → Below 1984 given (length given)
+walls-below h w given clues a =
+    record { long = omega arith; small = λ e m. omega (arith, a .fit .inside e (rw (take-length given) at m), borderCount-le (grid h w) (a .limits)) }
+
+-- the code of whole slices
+pub whole-lists : (h w : ℕ) (given clues : List ℕ) (code : ℕ) → code ≡ listsCode (grid h w) (take (length given) given) (take (length clues) clues) → code ≡ listsCode (grid h w) given clues
+whole-lists h w given clues code q = rw (take-length given, take-length clues) at q

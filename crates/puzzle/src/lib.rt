@@ -1,10 +1,29 @@
 // The puzzle: a board with given walls and a clue for each room, which joins the shape check to a count for each clued room.
+ghost use mathlib.Core.Path.{_≡_};
+ghost use Prim.Native.Nat.{_≤_, _<_};
+ghost use lib.Dec.{eqb, ltb, leb};
+ghost use lib.ListN.{length, take};
+ghost use lib.Seq.{sets};
+ghost use Rattle.lists.specs.Choice.{either};
+ghost use Rattle.lists.specs.Lists.{all};
+ghost use Rattle.grid.specs.Grid.{grid};
+ghost use Rattle.puzzle.specs.Fault.{faultOf};
+ghost use Rattle.puzzle.specs.Lists.{allFit, Sizes, Lists, clueList, roomsFault, roomsIn, Housing, Asking, Finding};
+ghost use Rattle.borders.specs.Border.{stateOf};
+ghost use Rattle.city_count.specs.Fault.{listOf};
+ghost use Rattle.city_count.specs.Room.{foundOf};
+ghost use Rattle.rooms.specs.Rooms.{roomCount};
+ghost use Rattle.rooms.specs.Lent.{Below, Given, markedIn};
+ghost use Rattle.puzzle.specs.Puzzle.{rises, listsCode, freshBoard, freshPuzzle, zeroPuzzle, answer, makeOf, puzzleCode, onto as withBoard, decideOf, undoOf, says, writes, askOf};
+use board::Board;
+use city_count::Inconsistency;
+use inner_walls::Found;
 
 // The board has the given walls as Wall; its ledger names none of them. The first `given_len` places of `given` are the given walls,
 // the first `clues_len` of `clues` the clues.
 #[repr(C)]
 pub struct Puzzle {
-    pub board: board::Board,
+    pub board: Board,
     pub given: [u16; 1984],
     pub given_len: usize,
     pub clues: [u16; 1024],
@@ -29,4 +48,466 @@ pub enum Answer {
     Clear,
     Fault(Check, usize),
     Refused(u8),
+}
+
+// A 16-bit number as an index.
+fn wide(x: u16) -> usize
+    ensures { λ r. ⌜ r ≡ x ⌝ }
+{
+    x as usize
+}
+
+// Question 3: each of the first `len` given walls is below n.
+fn exist(given: &[u16], len: usize, n: usize) -> bool
+    requires { ⌜ len ≤ length (now given) ⌝ }
+    ensures { λ r. ⌜ r ≡ all (λ e. ltb e n) (take len (now (given .entry))) ⌝ }
+{
+    let mut i = 0;
+    while i < len {
+        if n <= wide(given[i]) {
+            return false;
+        }
+        i += 1;
+    }
+    true
+}
+
+// Question 7: the first `len` given walls rise strictly.
+fn rise(given: &[u16], len: usize) -> bool
+    requires { ⌜ len ≤ length (now given) ⌝ }
+    ensures { λ r. ⌜ r ≡ rises (take len (now (given .entry))) ⌝ }
+{
+    let mut i = 1;
+    while i < len {
+        if given[i] <= given[i - 1] {
+            return false;
+        }
+        i += 1;
+    }
+    true
+}
+
+// A clue fits a room of so many cells.
+fn clue_fits(clue: usize, size: usize) -> bool
+    ensures { λ r. ⌜ r ≡ either (eqb clue 65535) (leb clue size) ⌝ }
+{
+    if clue == 65535 {
+        return true;
+    }
+    clue <= size
+}
+
+// Question 9: each room's clue is 65535 or at most its cells.
+fn clues_fit<'a>(clues: &'a [u16], starts: &'a [u16], count: usize, n: usize) -> bool
+    requires { ⌜ Sizes n count (now starts) (now clues) ⌝ }
+    ensures { λ r. ⌜ r ≡ allFit n count (now (starts .entry)) (now (clues .entry)) ⌝ }
+{
+    let mut room = 0;
+    while room < count {
+        let size = groups::end_of(starts, count, n, room) - wide(starts[room]);
+        if !clue_fits(wide(clues[room]), size) {
+            return false;
+        }
+        room += 1;
+    }
+    true
+}
+
+// Questions 3, 7, 8 and 9 of given walls and clues: 01's number, or 0.
+fn lists_code<'a>(
+    height: usize,
+    width: usize,
+    given: &'a [u16],
+    given_len: usize,
+    clues: &'a [u16],
+    clues_len: usize,
+) -> u8
+    requires { ⌜ Lists (grid height width) (now given) «given_len» (now clues) «clues_len» ⌝ }
+    ensures { λ r. ⌜ r ≡ listsCode (grid height width) (take «given_len» (now (given .entry))) (take «clues_len» (now (clues .entry))) ⌝ }
+{
+    if !exist(given, given_len, grid::border_count(height, width)) {
+        return 3;
+    }
+    if !rise(given, given_len) {
+        return 7;
+    }
+    let mut ids = [0u16; 1024];
+    let mut starts = [0u16; 1024];
+    let mut flat = [0u16; 1024];
+    let count = rooms::rooms_of(
+        height,
+        width,
+        given,
+        given_len,
+        &mut ids,
+        &mut starts,
+        &mut flat,
+    );
+    if clues_len != count {
+        return 8;
+    }
+    if clues_fit(clues, &starts, count, height * width) {
+        return 0;
+    }
+    9
+}
+
+// Copies a slice to the front of another.
+fn copy(from: &[u16], to: &mut [u16])
+    requires { ⌜ length (now from) ≤ length (now to) ⌝ }
+    ensures { λ _. ⌜ now (to .exit) ≡ sets (now (to .entry)) 0 (now (from .entry)) ⌝ }
+{
+    let mut i = 0;
+    while i < from.len() {
+        to[i] = from[i];
+        i += 1;
+    }
+}
+
+// A board with the given walls, and nothing else, decided.
+fn fresh_board(height: usize, width: usize, given: &[u16]) -> Board
+    requires { ⌜ Below 1984 (now given) (length (now given)) ⌝ }
+    ensures { λ r. ⌜ r ≡ freshBoard height width (now (given .entry)) ⌝ }
+{
+    let mut states = [0u8; 1984];
+    rooms::put(given, given.len(), 2, &mut states);
+    Board {
+        height: height,
+        width: width,
+        states: states,
+        ledger: [0u16; 1984],
+        len: 0,
+    }
+}
+
+// A fresh puzzle.
+fn fresh<'a>(height: usize, width: usize, given: &'a [u16], clues: &'a [u16]) -> Puzzle
+    requires { ⌜ Below 1984 (now given) (length (now given)) ⌝ }
+    requires { ⌜ (length (now given) ≤ 1984) × (length (now clues) ≤ 1024) ⌝ }
+    ensures { λ r. ⌜ r ≡ freshPuzzle height width (now (given .entry)) (now (clues .entry)) ⌝ }
+{
+    let mut walls = [0u16; 1984];
+    copy(given, &mut walls);
+    let mut counts = [0u16; 1024];
+    copy(clues, &mut counts);
+    let board = fresh_board(height, width, given);
+    Puzzle {
+        board: board,
+        given: walls,
+        given_len: given.len(),
+        clues: counts,
+        clues_len: clues.len(),
+    }
+}
+
+// A refused making: a record whose every number is 0.
+fn unmade(code: u8) -> Made
+    ensures { λ r. ⌜ r ≡ answer code zeroPuzzle ⌝ }
+{
+    let board = Board {
+        height: 0,
+        width: 0,
+        states: [0u8; 1984],
+        ledger: [0u16; 1984],
+        len: 0,
+    };
+    Made {
+        code: code,
+        puzzle: Puzzle {
+            board: board,
+            given: [0u16; 1984],
+            given_len: 0,
+            clues: [0u16; 1024],
+            clues_len: 0,
+        },
+    }
+}
+
+// Makes a puzzle of a size, given walls and clues, or refuses them by questions 1, 3, 7, 8 and 9.
+pub fn make<'a>(height: usize, width: usize, given: &'a [u16], clues: &'a [u16]) -> Made
+    ensures { λ r. ⌜ r ≡ makeOf height width (now (given .entry)) (now (clues .entry)) ⌝ }
+{
+    if !grid::sizes_ok(height, width) {
+        return unmade(1);
+    }
+    let code = lists_code(height, width, given, given.len(), clues, clues.len());
+    if code != 0 {
+        return unmade(code);
+    }
+    Made {
+        code: 0,
+        puzzle: fresh(height, width, given, clues),
+    }
+}
+
+// Questions 1 and 2 of a puzzle: 01's number, or 0.
+pub fn puzzle_code(p: Puzzle) -> u8
+    ensures { λ r. ⌜ r ≡ puzzleCode p ⌝ }
+{
+    let b = p.board;
+    if !grid::sizes_ok(b.height, b.width) {
+        return 1;
+    }
+    if 1984 < p.given_len {
+        return 2;
+    }
+    if 1024 < p.clues_len {
+        return 2;
+    }
+    if lists_code(
+        b.height,
+        b.width,
+        &p.given,
+        p.given_len,
+        &p.clues,
+        p.clues_len,
+    )
+        != 0
+    {
+        return 2;
+    }
+    let n = grid::border_count(b.height, b.width);
+    if n < b.len {
+        return 2;
+    }
+    let mut marks = [0u8; 1984];
+    rooms::put(&p.given, p.given_len, 1, &mut marks);
+    if ledger::holds(&b.states, &b.ledger, b.len, n, &mut marks) {
+        return 0;
+    }
+    2
+}
+
+// The same puzzle with another board.
+fn onto(p: Puzzle, b: Board) -> Puzzle
+    ensures { λ r. ⌜ r ≡ withBoard p b ⌝ }
+{
+    let mut next = p;
+    next.board = b;
+    next
+}
+
+// Decides a border as Wall or Connected.
+pub fn decide(p: Puzzle, border: usize, wall: bool) -> Made
+    ensures { λ r. ⌜ r ≡ decideOf p border wall ⌝ }
+{
+    let code = puzzle_code(p);
+    if code != 0 {
+        return Made {
+            code: code,
+            puzzle: p,
+        };
+    }
+    let b = p.board;
+    if grid::border_count(b.height, b.width) <= border {
+        return Made { code: 3, puzzle: p };
+    }
+    if b.states[border] != 0 {
+        return Made { code: 4, puzzle: p };
+    }
+    Made {
+        code: 0,
+        puzzle: onto(p, board::place(b, border, wall)),
+    }
+}
+
+// Takes the last decision back.
+pub fn undo(p: Puzzle) -> Made
+    ensures { λ r. ⌜ r ≡ undoOf p ⌝ }
+{
+    let code = puzzle_code(p);
+    if code != 0 {
+        return Made {
+            code: code,
+            puzzle: p,
+        };
+    }
+    let b = p.board;
+    if b.len == 0 {
+        return Made { code: 5, puzzle: p };
+    }
+    Made {
+        code: 0,
+        puzzle: onto(p, board::take_back(b)),
+    }
+}
+
+// The count of a room, where it has a clue: the list of a fault goes to the buffer's front, else the buffer stays.
+fn check_room<'a>(
+    height: usize,
+    width: usize,
+    marks: &'a [u8],
+    ids: &'a [u16],
+    vertex: &'a [u16],
+    starts: &'a [u16],
+    flat: &'a [u16],
+    count: usize,
+    states: &'a [u8],
+    clues: &'a [u16],
+    room: usize,
+    buf: &mut [u16],
+) -> Inconsistency
+    requires { ⌜ Housing (grid height width) (now marks) (now ids) (now vertex) (now starts) (now flat) count ⌝ }
+    requires { ⌜ Asking (grid height width) (now states) (now clues) count (now buf) ⌝ }
+    requires { ⌜ room < count ⌝ }
+    ensures { λ r.
+        ⌜ r ≡ foundOf (clueList (grid height width) (markedIn (now (marks .entry))) (now (ids .entry)) (now (clues .entry)) room (stateOf (now (states .entry)))) ⌝ }
+    ensures { λ _.
+        ⌜ now (buf .exit) ≡ sets (now (buf .entry)) 0 (listOf (clueList (grid height width) (markedIn (now (marks .entry))) (now (ids .entry)) (now (clues .entry)) room (stateOf (now (states .entry))))) ⌝ }
+{
+    let clue = wide(clues[room]);
+    if clue == 65535 {
+        return Inconsistency::Nothing;
+    }
+    let start = wide(starts[room]);
+    let end = groups::end_of(starts, count, height * width, room);
+    let cells = &flat[start..end];
+    rooms::find_inconsistency(
+        height,
+        width,
+        marks,
+        states,
+        ids,
+        vertex,
+        cells,
+        room,
+        clue,
+        buf,
+    )
+}
+
+// The counts of the clued rooms in order, up to the first fault.
+fn check_rooms<'a>(
+    height: usize,
+    width: usize,
+    marks: &'a [u8],
+    ids: &'a [u16],
+    vertex: &'a [u16],
+    starts: &'a [u16],
+    flat: &'a [u16],
+    count: usize,
+    states: &'a [u8],
+    clues: &'a [u16],
+    buf: &mut [u16],
+) -> Answer
+    requires { ⌜ Housing (grid height width) (now marks) (now ids) (now vertex) (now starts) (now flat) count ⌝ }
+    requires { ⌜ Asking (grid height width) (now states) (now clues) count (now buf) ⌝ }
+    ensures { λ r.
+        ⌜ r ≡ says 0 (roomsFault (grid height width) (markedIn (now (marks .entry))) (now (ids .entry)) (now (clues .entry)) count (stateOf (now (states .entry)))) ⌝ }
+    ensures { λ _.
+        ⌜ now (buf .exit) ≡ writes 0 (roomsFault (grid height width) (markedIn (now (marks .entry))) (now (ids .entry)) (now (clues .entry)) count (stateOf (now (states .entry)))) (now (buf .entry)) ⌝ }
+{
+    let mut room = 0;
+    while room < count {
+        let found = check_room(
+            height,
+            width,
+            marks,
+            ids,
+            vertex,
+            starts,
+            flat,
+            count,
+            states,
+            clues,
+            room,
+            buf,
+        );
+        if let Inconsistency::Listed(k) = found {
+            return Answer::Fault(Check::Room(room), k);
+        }
+        room += 1;
+    }
+    Answer::Clear
+}
+
+// The counts of the clued rooms of a board whose borders have these states.
+fn rooms_fault<'a>(
+    height: usize,
+    width: usize,
+    given: &'a [u16],
+    len: usize,
+    states: &'a [u8],
+    clues: &'a [u16],
+    buf: &mut [u16],
+) -> Answer
+    requires { ⌜ Given (grid height width) (now given) len ⌝ }
+    requires { ⌜ Asking (grid height width) (now states) (now clues) (roomCount (grid height width) (take len (now given))) (now buf) ⌝ }
+    ensures { λ r.
+        ⌜ r ≡ says 0 (roomsIn (grid height width) (take len (now (given .entry))) (now (clues .entry)) (now (states .entry))) ⌝ }
+    ensures { λ _.
+        ⌜ now (buf .exit) ≡ writes 0 (roomsIn (grid height width) (take len (now (given .entry))) (now (clues .entry)) (now (states .entry))) (now (buf .entry)) ⌝ }
+{
+    let n = height * width;
+    let mut marks = [0u8; 1984];
+    rooms::put(given, len, 1, &mut marks);
+    let mut ids = [0u16; 1024];
+    let mut starts = [0u16; 1024];
+    let mut flat = [0u16; 1024];
+    let count = rooms::rooms_of(height, width, given, len, &mut ids, &mut starts, &mut flat);
+    let mut next = [0u16; 1024];
+    let mut vertex = [0u16; 1024];
+    rooms::vertices(&ids[..n], n, &mut next, &mut vertex);
+    check_rooms(
+        height,
+        width,
+        &marks,
+        &ids[..n],
+        &vertex,
+        &starts,
+        &flat,
+        count,
+        states,
+        clues,
+        buf,
+    )
+}
+
+// The shape check, and then the counts of the clued rooms, on a board whose borders have these states.
+fn find<'a>(
+    height: usize,
+    width: usize,
+    given: &'a [u16],
+    len: usize,
+    states: &'a [u8],
+    clues: &'a [u16],
+    buf: &mut [u16],
+) -> Answer
+    requires { ⌜ Finding (grid height width) (now given) len (now states) (now clues) (now buf) ⌝ }
+    ensures { λ r. ⌜ r ≡ says 0 (faultOf (grid height width) (take len (now (given .entry))) (now (clues .entry)) (now (states .entry))) ⌝ }
+    ensures { λ _.
+        ⌜ now (buf .exit) ≡ writes 0 (faultOf (grid height width) (take len (now (given .entry))) (now (clues .entry)) (now (states .entry))) (now (buf .entry)) ⌝ }
+{
+    let shape = shape_check::shape_fault(height, width, states, buf);
+    if let Found::Fault(n) = shape {
+        return Answer::Fault(Check::Shape, n);
+    }
+    rooms_fault(height, width, given, len, states, clues, buf)
+}
+
+// What stands wrong on a puzzle as it stands: the shape check, then the clued rooms in order, up to the first fault, whose list goes to the
+// buffer's front.
+pub fn ask(p: Puzzle, buf: &mut [u16]) -> Answer
+    ensures { λ r. ⌜ r ≡ askOf p (now (buf .entry)) .answer ⌝ }
+    ensures { λ _. ⌜ now (buf .exit) ≡ askOf p (now (buf .entry)) .buffer ⌝ }
+{
+    let code = puzzle_code(p);
+    if code != 0 {
+        return Answer::Refused(code);
+    }
+    let b = p.board;
+    if buf.len() < 9 * (b.height * b.width) {
+        return Answer::Refused(6);
+    }
+    let clues = p.clues;
+    let clues_len = p.clues_len;
+    find(
+        b.height,
+        b.width,
+        &p.given,
+        p.given_len,
+        &b.states,
+        &clues[..clues_len],
+        buf,
+    )
 }

@@ -1,7 +1,7 @@
 -- A list written element by element, each through a function: a turn of the loop, and its end.
 -- Assumes nothing.
 use Prim.Native.Nat.{ℕ, _+_, _≤_, _<_}
-use mathlib.Core.Path.{_≡_, refl}
+use mathlib.Core.Path.{_≡_}
 use mathlib.Core.List.{List, map}
 use native.Mathlib.Numerals.{add-one}
 use lib.ListN.{length, getD, take, drop, set, drop-of-length-le}

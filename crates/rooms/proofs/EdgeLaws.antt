@@ -1,28 +1,24 @@
 -- One look from a cell of a room: a law for each way out, and the places that are read and written.
 -- Assumes nothing.
-use Prim.Native.Nat.{ℕ, _+_, _≤_, _<_}
-use mathlib.Core.Path.{_≡_, refl, ap, sym, _∙_}
+use Prim.Native.Nat.{ℕ, _+_, _<_}
+use mathlib.Core.Path.{_≡_, refl, ap, _∙_}
 use mathlib.Core.Logic.{_≢_}
-use mathlib.Core.Bool.{Bool, true, false, not}
-use mathlib.Core.List.{List, [], _∷_, map}
+use mathlib.Core.Bool.{true, false}
+use mathlib.Core.List.{List}
 use native.Mathlib.Omega.{arith}
 use borrow.Author.Tests.{eq-eqb, ne-eqb}
-use lib.Dec.{eqb}
 use lib.ListN.{length, getD, set}
-use lib.Seq.{sets}
-use Rattle.lists.specs.Choice.{both, when}
-use Rattle.lists.proofs.ChoiceLaws.{true-both}
+use Rattle.lists.specs.Choice.{when}
 use Rattle.grid.specs.declared.Direction.{Direction}
 use Rattle.grid.specs.declared.Beyond.{Beyond}
-use Rattle.grid.specs.declared.Beyond.the-variants.{At, End, Refused}
-use Rattle.grid.specs.Grid.{Grid, cells, Cell, goesOn, next, border, borderCount, stepOf}
+use Rattle.grid.specs.declared.Beyond.the-variants.{At}
+use Rattle.grid.specs.Grid.{Grid, cells, Cell, goesOn, next, border, stepOf}
 use Rattle.grid.specs.Steps.{Step}
 use Rattle.grid.proofs.Geometry.{goes-step, border-lt, borderCount-le}
-use Rattle.boundary.specs.Boundary.{ahead}
 use Rattle.groups.specs.Groups.{cellsOf}
 use Rattle.groups.specs.Turn.{cellsIn}
 use Rattle.groups.proofs.FloodSteps.{at-told}
-use Rattle.rooms.specs.RoomGraph.{Spot, inRoom, spotsAt, place, fromOf, intoOf, borderOf}
+use Rattle.rooms.specs.RoomGraph.{inRoom, spotsAt, place}
 use Rattle.rooms.specs.Lent.{markedIn, Housed, Written}
 
 -- the vertex of a cell of room r

@@ -9,8 +9,7 @@ use native.Mathlib.Numerals.{add-one}
 use native.Mathlib.Nat.{add-zero}
 use lib.ListN.{length, getD, set, drop, length-append, drop-of-length-le}
 use lib.Seq.{sets, length-sets, drop-cons}
-use Rattle.lists.specs.Choice.{when}
-use Rattle.lists.specs.Lists.{In, gather}
+use Rattle.lists.specs.Lists.{gather}
 use Rattle.lists.proofs.ListLaws.{getD-in}
 use Rattle.grid.specs.declared.Direction.{Direction}
 use Rattle.grid.specs.declared.Direction.the-variants.{Down, Right}
@@ -20,7 +19,7 @@ use Rattle.boundary.proofs.BoundaryLaws.{cells-most}
 use Rattle.groups.specs.Groups.{cellsOf}
 use Rattle.groups.proofs.GroupLaws.{in-cells}
 use Rattle.rooms.specs.RoomGraph.{Spot, inRoom, spotsAt, spots, fromOf, intoOf, borderOf}
-use Rattle.rooms.specs.Lent.{markedIn, Space, Written}
+use Rattle.rooms.specs.Lent.{Space, Written}
 
 sets-append : (l : List ℕ) (i : ℕ) (xs ys : List ℕ) → sets l i (xs ++ ys) ≡ sets (sets l i xs) (i + length xs) ys
 sets-append l i [] ys = rw (add-zero i)

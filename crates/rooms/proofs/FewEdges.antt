@@ -2,20 +2,20 @@
 -- Assumes nothing.
 use Prim.Native.Nat.{ℕ, _+_, _≤_, _<_}
 use mathlib.Core.Path.{_≡_, refl, ap, sym, _∙_, subst}
-use mathlib.Core.Logic.{_⊎_, inl, inr, _≢_, ⊎-elim}
+use mathlib.Core.Logic.{inl, inr, _≢_, ⊎-elim}
 use mathlib.Core.Bool.{Bool, true}
 use mathlib.Core.List.{List, [], _∷_, _++_, map, append-nil}
 use native.Mathlib.Omega.{arith}
 use borrow.Author.Tests.{ltb-true}
-use lib.ListN.{length, getD, length-map, length-append}
-use Rattle.lists.specs.Lists.{In, count, gather, range}
+use lib.ListN.{length, length-map}
+use Rattle.lists.specs.Lists.{In, count, gather}
 use Rattle.lists.proofs.Cases.{le-or-lt, eq-or-ne}
 use Rattle.lists.proofs.ChoiceLaws.{both-true}
-use Rattle.lists.proofs.ListLaws.{in-when, in-gather, in-append}
+use Rattle.lists.proofs.ListLaws.{in-when, in-gather}
 use Rattle.lists.proofs.CountLaws.{count-none, count-append, count-here, count-other, in-count, count-in, distinct-le}
 use Rattle.grid.specs.declared.Direction.{Direction}
-use Rattle.grid.specs.declared.Direction.the-variants.{Up, Down, Left, Right}
-use Rattle.grid.specs.Grid.{Grid, cells, Cell, col, goesOn, next, border, borderCount}
+use Rattle.grid.specs.declared.Direction.the-variants.{Down, Right}
+use Rattle.grid.specs.Grid.{Grid, Cell, col, goesOn, next, border, borderCount}
 use Rattle.grid.specs.Steps.{Step}
 use Rattle.grid.proofs.Geometry.{goes-step, one-pair, border-lt, cell-wide}
 use Rattle.boundary.proofs.Lengths.{when-most}

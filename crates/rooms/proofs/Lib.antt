@@ -8,3 +8,4 @@ pub mod EdgeLaws
 pub mod EdgesLaws
 pub mod CopyLaws
 pub mod FewEdges
+pub mod FindLaws

@@ -1,7 +1,7 @@
 -- A value at each given wall: the loop that writes it, and what stands at each place then.
 -- Assumes nothing.
 use Prim.Native.Nat.{ℕ, _+_, _≤_, _<_}
-use mathlib.Core.Path.{_≡_, refl, ap, _∙_, fun-ext}
+use mathlib.Core.Path.{_≡_, refl, ap, sym, _∙_, fun-ext}
 use mathlib.Core.Logic.{inl, inr, _≢_, ⊎-elim}
 use mathlib.Core.Bool.{Bool, true, false, not}
 use mathlib.Core.List.{List, [], _∷_}
@@ -20,7 +20,8 @@ use Rattle.grid.proofs.Geometry.{borderCount-le}
 use Rattle.parts.specs.Parts.{parts, roots, begunIn}
 use Rattle.groups.specs.Groups.{passes, edgesOver, groupIds, groupCount}
 use Rattle.groups.specs.Floods.{Fits}
-use Rattle.groups.specs.Lent.{Grouped}
+use Rattle.groups.specs.Lent.{Lent, Grouped}
+use Rattle.groups.proofs.Theorems.{Between, between}
 use Rattle.rooms.specs.Rooms.{isGiven, roomIds, roomCount}
 use Rattle.rooms.specs.Lent.{unmarked, puts, Below, Given, Roomed}
 
@@ -127,3 +128,19 @@ module _ (g : Grid) (given : List ℕ) (len : ℕ) (w : Given g given len) where
         starts-are = o .starts-are ∙ cc (ids-same, count-same);
         flat-is = o .flat-is ∙ cc (ids-same, count-same);
       }
+
+  -- and back: the groups of a board with the given walls alone
+  grouped : (ids starts flat ids' starts' flat' : List ℕ) (count : ℕ) → Roomed g (take len given) ids starts flat ids' starts' flat' count
+      → Grouped g (puts (take len given) 2 unmarked) true ids starts flat ids' starts' flat' count
+  grouped ids starts flat ids' starts' flat' count o =
+      record {
+        count-is = o .count-is ∙ sym count-same;
+        ids-are = o .ids-are ∙ ap (sets ids 0) (sym ids-same);
+        starts-are = o .starts-are ∙ cc (ids-same, count-same);
+        flat-is = o .flat-is ∙ cc (ids-same, count-same);
+      }
+
+  -- a room's cells are the part of `flat` between its start and its end
+  pub room-between : (ids starts flat ids' starts' flat' : List ℕ) (count : ℕ) → Lent (cells g) ids starts flat → Roomed g (take len given) ids starts flat ids' starts' flat' count
+      → (k : ℕ) → k < count → Between g (roomIds g (take len given)) starts' flat' count k
+  room-between ids starts flat ids' starts' flat' count l o k h = rw ids-same at (between l (grouped ids starts flat ids' starts' flat' count o) k h)

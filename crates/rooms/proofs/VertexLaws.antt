@@ -1,14 +1,13 @@
 -- Each cell's vertex: as many cells of its room come before it. One law a turn of the loop that counts them.
 -- Assumes nothing.
 use Prim.Native.Nat.{ℕ, _+_, _≤_, _<_}
-use mathlib.Core.Path.{_≡_, refl, ap, sym, _∙_}
+use mathlib.Core.Path.{_≡_, refl, sym, _∙_}
 use mathlib.Core.Logic.{_≢_, ⊎-elim}
 use mathlib.Core.List.{List}
 use native.Mathlib.Omega.{arith}
 use lib.Dec.{eqb}
 use lib.ListN.{length, getD, set, length-set}
 use lib.Seq.{getD-set-same, getD-set-other}
-use Rattle.lists.specs.Lists.{range, keep}
 use Rattle.lists.proofs.Cases.{eq-or-ne}
 use Rattle.groups.specs.Turn.{cellsIn, Keys}
 use Rattle.groups.proofs.TurnLaws.{rank, kept, kept-at}

@@ -17,6 +17,10 @@ use Rattle.rooms.specs.RoomGraph.{Spot, place, fromOf, intoOf, borderOf}
 unfoldable pub unmarked : List ℕ
 unmarked = replicate 1984 0
 
+-- an array of edges with nothing written
+unfoldable pub blank : List ℕ
+blank = replicate 2048 0
+
 -- v at each of the places
 unfoldable pub puts : List ℕ → ℕ → List ℕ → List ℕ
 puts [] v xs = xs

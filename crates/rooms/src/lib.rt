@@ -4,7 +4,7 @@ ghost use Prim.Native.Nat.{ℕ, _+_, _*_, _<_, _≤_};
 ghost use mathlib.Core.List.{map};
 ghost use lib.ListN.{length, getD, take};
 ghost use lib.Seq.{sets};
-ghost use Rattle.grid.specs.Grid.{grid};
+ghost use Rattle.grid.specs.Grid.{grid, borderCount};
 ghost use Rattle.groups.specs.Groups.{cellsOf};
 ghost use Rattle.groups.specs.Lent.{Lent};
 ghost use Rattle.groups.specs.Turn.{Keys};
@@ -189,4 +189,49 @@ fn on_board(borders: &[u16], k: usize, buf: &mut [u16])
         buf[i] = (2 * wide(borders[l / 2]) + l % 2) as u16;
         i += 1;
     }
+}
+
+// The count of a room: the list of a fault, in board border numbers, goes to the buffer's front; a clear room leaves the buffer.
+pub fn find_inconsistency<'a>(
+    height: usize,
+    width: usize,
+    marks: &'a [u8],
+    states: &'a [u8],
+    ids: &'a [u16],
+    vertex: &'a [u16],
+    cells: &'a [u16],
+    room: usize,
+    count: usize,
+    buf: &mut [u16],
+) -> Inconsistency
+    requires { ⌜ Housed (grid height width) (now marks) (now ids) (now vertex) ⌝ }
+    requires { ⌜ now cells ≡ cellsOf (grid height width) (now ids) room ⌝ }
+    requires { ⌜ (borderCount (grid height width) ≤ length (now states)) × (borderCount (grid height width) ≤ length (now buf)) ⌝ }
+    ensures { λ r. ⌜ r ≡ foundOf (roomList (grid height width) (markedIn (now (marks .entry))) (now (ids .entry)) room count (stateOf (now (states .entry)))) ⌝ }
+    ensures { λ r.
+        ⌜ now (buf .exit) ≡ sets (now (buf .entry)) 0 (listOf (roomList (grid height width) (markedIn (now (marks .entry))) (now (ids .entry)) room count (stateOf (now (states .entry))))) ⌝ }
+{
+    let mut us = [0u16; 2048];
+    let mut vs = [0u16; 2048];
+    let mut borders = [0u16; 2048];
+    let m = edges(
+        height,
+        width,
+        marks,
+        ids,
+        vertex,
+        cells,
+        room,
+        &mut us,
+        &mut vs,
+        &mut borders,
+    );
+    let mut here = [0u8; 2048];
+    edge_states(&borders, m, states, &mut here);
+    let found = city_count::find_inconsistency(cells.len(), m, &us, &vs, &here, count, buf);
+    let Inconsistency::Listed(k) = found else {
+        return Inconsistency::Nothing;
+    };
+    on_board(&borders, k, buf);
+    Inconsistency::Listed(k)
 }

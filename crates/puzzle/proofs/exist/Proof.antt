@@ -1,0 +1,70 @@
+-- `puzzle::exist` meets its contract: the invariant says what is left to test. Assumes nothing.
+use Prim.Native.Nat.{_-_, _≤_}
+use mathlib.Core.Path.{_≡_, refl, sym, _∙_}
+use native.Mathlib.Omega.{arith}
+use borrow.Author.Needs.{needs}
+use denote.Ref.{now}
+use lib.Dec.{ltb}
+use lib.ListN.{take, drop}
+use Rattle.lists.specs.Lists.{all}
+use Rattle.puzzle.proofs.Loops.{exist-end, exist-stop, exist-turn}
+use Rattle.puzzle.proofs.exist.Statement.{statement}
+use Rattle.puzzle.proofs.exist.Tie as tie
+
+abbrev Inv-loop : tie.InvT-loop
+Inv-loop given len n i₀ i = (i ≤ len) × (all (λ e. ltb e n) (drop i (take len given)) ≡ all (λ e. ltb e n) (take len given))
+
+abbrev μ-loop : tie.MeasureT-loop
+μ-loop given len n i₀ i = len - i
+
+loop-holds : tie.Need-loop-holds Inv-loop μ-loop
+loop-holds c = (omega arith, refl)
+
+mul-wide : tie.Need-mul-wide Inv-loop μ-loop
+mul-wide c = search needs
+
+shared-slice-read-wide : tie.Need-shared-slice-read-wide Inv-loop μ-loop
+shared-slice-read-wide c = search needs
+
+wide-requires : tie.Need-wide-requires Inv-loop μ-loop
+wide-requires c κs = search needs
+
+returns : tie.Need-returns Inv-loop μ-loop
+returns c =
+    let s = c .before .before .before .before .before .before in
+    let a = c .before .before .before .before in
+    sym (exist-stop (now (s .args .given)) (s .args .len) (s .pre) (s .args .n) (a .loop .i) (c .before .before .before .loop-test .taken) (rw (c .before .wide .ensures) at (c .if1 .taken))) ∙ a .loop .inv .1
+
+add-i : tie.Need-add-i Inv-loop μ-loop
+add-i c = search needs
+
+loop-less : tie.Need-loop-less Inv-loop μ-loop
+loop-less c = search needs
+
+loop-again : tie.Need-loop-again Inv-loop μ-loop
+loop-again c =
+    let s = c .before .before .before .before .before .before in
+    let a = c .before .before .before .before in
+    (omega arith, sym (exist-turn (now (s .args .given)) (s .args .len) (s .pre) (s .args .n) (a .loop .i) (c .before .before .before .loop-test .taken) (rw (c .before .wide .ensures) at (c .if1 .left))) ∙ a .loop .inv .1)
+
+returns-2 : tie.Need-returns-2 Inv-loop μ-loop
+returns-2 c =
+    let s = c .before .before .before in
+    let a = c .before in
+    sym (exist-end (now (s .args .given)) (s .args .len) (s .pre) (s .args .n) (a .loop .i) (c .loop-test .left)) ∙ a .loop .inv .1
+
+pub exist-spec : {M : Type 1} → statement M
+exist-spec =
+    tie.close
+    (tie.spec
+    Inv-loop
+    μ-loop
+    loop-holds
+    mul-wide
+    shared-slice-read-wide
+    wide-requires
+    returns
+    add-i
+    loop-less
+    loop-again
+    returns-2)

@@ -1,0 +1,61 @@
+-- `puzzle::find` meets its contract: a fault of the shape check decides, and else the rooms. Assumes nothing.
+use native.Mathlib.Omega.{arith}
+use denote.Ref.{now}
+use lib.ListN.{take}
+use Rattle.grid.specs.Grid.{grid}
+use Rattle.puzzle.proofs.Finding.{borders-fit, shape-fault, shape-clear, rooms-answer}
+use borrow.Author.Needs.{needs}
+use Rattle.puzzle.proofs.find.Statement.{statement}
+use Rattle.puzzle.proofs.find.Tie as tie
+
+shape-fault-requires : tie.Need-shape-fault-requires
+shape-fault-requires c κs = search needs
+
+enum-known-shape : tie.Need-enum-known-shape
+enum-known-shape c = search needs
+
+same-length : tie.Need-same-length
+same-length c = search needs
+
+returns : tie.Need-returns
+returns c =
+    let s = c .before .before .before .before .before .before .before .before .before .before .before in
+    let k = c .before .before .before .before .before in
+    shape-fault (grid (s .args .height) (s .args .width)) (take (s .args .len) (now (s .args .given))) (now (s .args .clues)) (now (s .args .states)) (s .pre .one-each) (now (s .args .buf)) _ (k .shape-fault .result) (k .shape-fault .ensures) (c .before .shape .given .0 .0) (c .before .shape .given .1)
+
+enum-told : tie.Need-enum-told
+enum-told c = search needs
+
+rooms-fault-requires : tie.Need-rooms-fault-requires
+rooms-fault-requires c κs =
+    let s = c .before .before .before .before .before .before .before .before .before .before .before in
+    let k = c .before .before .before .before .before in (
+      s .pre .walls,
+      record {
+        states-long = s .pre .states-long;
+        clues-long = omega (arith, s .pre .one-each);
+        buf-long = rw (shape-clear (grid (s .args .height) (s .args .width)) (take (s .args .len) (now (s .args .given))) (now (s .args .clues)) (now (s .args .states)) (s .pre .one-each) (now (s .args .buf)) _ (k .shape-fault .result) (k .shape-fault .ensures) (c .before .enum-told .given .1)) (omega (arith, s .pre .buf-long, borders-fit (grid (s .args .height) (s .args .width))));
+      },
+    )
+
+same-length-2 : tie.Need-same-length-2
+same-length-2 c = search needs
+
+returns-2 : tie.Need-returns-2
+returns-2 c =
+    let s = c .before .before .before .before .before .before .before .before .before .before .before .before .before .before in
+    let k = c .before .before .before .before .before .before .before .before in
+    rooms-answer (grid (s .args .height) (s .args .width)) (take (s .args .len) (now (s .args .given))) (now (s .args .clues)) (now (s .args .states)) (s .pre .one-each) (now (s .args .buf)) _ (k .shape-fault .result) (k .shape-fault .ensures) (c .before .before .before .before .enum-told .given .1) (c .before .before .rooms-fault .result) _ (c .before .before .rooms-fault .ensures)
+
+pub find-spec : {M : Type 1} → statement M
+find-spec =
+    tie.close
+    (tie.spec
+    shape-fault-requires
+    enum-known-shape
+    same-length
+    returns
+    enum-told
+    rooms-fault-requires
+    same-length-2
+    returns-2)

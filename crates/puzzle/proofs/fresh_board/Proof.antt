@@ -1,0 +1,24 @@
+-- `puzzle::fresh_board` meets its contract: Wall at each given wall, and nothing else. Assumes nothing.
+use mathlib.Core.Path.{_∙_}
+use denote.Ref.{now}
+use Rattle.board.specs.Board.{zeros}
+use Rattle.rooms.specs.Lent.{unmarked}
+use Rattle.puzzle.proofs.Making.{fresh-states, board-is}
+use borrow.Author.Needs.{needs}
+use Rattle.puzzle.proofs.fresh_board.Statement.{statement}
+use Rattle.puzzle.proofs.fresh_board.Tie as tie
+
+slice-aggregate-put : tie.Need-slice-aggregate-put
+slice-aggregate-put c = search needs
+
+put-requires : tie.Need-put-requires
+put-requires c κs = search needs
+
+returns : tie.Need-returns
+unfolding zeros unmarked
+returns c =
+    let s = c .before .before .before .before in
+    board-is (s .args .height) (s .args .width) (now (s .args .given)) _ (c .before .put .ensures ∙ fresh-states (now (s .args .given)) (s .pre))
+
+pub fresh-board-spec : {M : Type 1} → statement M
+fresh-board-spec = tie.close (tie.spec slice-aggregate-put put-requires returns)

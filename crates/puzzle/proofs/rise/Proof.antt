@@ -1,0 +1,77 @@
+-- `puzzle::rise` meets its contract: the invariant says what is left to test, the last tested wall with it. Assumes nothing.
+use Prim.Native.Nat.{_-_, _≤_}
+use mathlib.Core.Path.{_≡_, refl, sym, _∙_}
+use native.Mathlib.Omega.{arith}
+use borrow.Author.Needs.{needs}
+use denote.Ref.{now}
+use lib.ListN.{take, drop}
+use Rattle.puzzle.specs.Puzzle.{rises}
+use Rattle.puzzle.proofs.Loops.{rise-stop, rise-turn, rise-end}
+use Rattle.puzzle.proofs.rise.Statement.{statement}
+use Rattle.puzzle.proofs.rise.Tie as tie
+
+abbrev Inv-loop : tie.InvT-loop
+Inv-loop given len i₀ i = (1 ≤ i) × (rises (drop (i - 1) (take len given)) ≡ rises (take len given))
+
+abbrev μ-loop : tie.MeasureT-loop
+μ-loop given len i₀ i = len - i
+
+loop-holds : tie.Need-loop-holds Inv-loop μ-loop
+loop-holds c = (omega arith, refl)
+
+mul-if1 : tie.Need-mul-if1 Inv-loop μ-loop
+mul-if1 c = search needs
+
+shared-slice-read-if1 : tie.Need-shared-slice-read-if1 Inv-loop μ-loop
+shared-slice-read-if1 c = search needs
+
+sub-if1 : tie.Need-sub-if1 Inv-loop μ-loop
+sub-if1 c = search needs
+
+mul-if1-2 : tie.Need-mul-if1-2 Inv-loop μ-loop
+mul-if1-2 c = search needs
+
+shared-slice-read-if1-2 : tie.Need-shared-slice-read-if1-2 Inv-loop μ-loop
+shared-slice-read-if1-2 c = search needs
+
+returns : tie.Need-returns Inv-loop μ-loop
+returns c =
+    let s = c .before .before .before .before .before in
+    let a = c .before .before .before .before in
+    sym (rise-stop (now (s .args .given)) (s .args .len) (s .pre) (a .loop .i) (a .loop .inv .0) (c .before .before .before .loop-test .taken) (c .if1 .taken)) ∙ a .loop .inv .1
+
+add-i : tie.Need-add-i Inv-loop μ-loop
+add-i c = search needs
+
+loop-less : tie.Need-loop-less Inv-loop μ-loop
+loop-less c = search needs
+
+loop-again : tie.Need-loop-again Inv-loop μ-loop
+loop-again c =
+    let s = c .before .before .before .before .before in
+    let a = c .before .before .before .before in
+    (omega arith, sym (rise-turn (now (s .args .given)) (s .args .len) (s .pre) (a .loop .i) (a .loop .inv .0) (c .before .before .before .loop-test .taken) (c .if1 .left)) ∙ a .loop .inv .1)
+
+returns-2 : tie.Need-returns-2 Inv-loop μ-loop
+returns-2 c =
+    let s = c .before .before in
+    let a = c .before in
+    sym (rise-end (now (s .args .given)) (s .args .len) (s .pre) (a .loop .i) (a .loop .inv .0) (c .loop-test .left)) ∙ a .loop .inv .1
+
+pub rise-spec : {M : Type 1} → statement M
+rise-spec =
+    tie.close
+    (tie.spec
+    Inv-loop
+    μ-loop
+    loop-holds
+    mul-if1
+    shared-slice-read-if1
+    sub-if1
+    mul-if1-2
+    shared-slice-read-if1-2
+    returns
+    add-i
+    loop-less
+    loop-again
+    returns-2)
