@@ -2,7 +2,7 @@
 use crate::boards::{Standing, CONNECTED, UNDECIDED, WALL};
 use crate::port;
 use crate::random::Random;
-use crate::reference::Board;
+use crate::reference::{self, Board};
 use std::hint::black_box;
 use std::time::Instant;
 
@@ -82,6 +82,35 @@ fn ask(side: usize, name: &str, board: &Standing) {
     line(&format!("ask, {side} by {side}, {name}"), theirs, port);
 }
 
+/// The largest room, 32 by 32 cells, whose edges all have one state, with a count; each side makes its own list.
+fn room_ask(name: &str, state: u8, count: u32) {
+    let side = 32;
+    let mut edges = vec![];
+    for cell in 0..side * side {
+        if cell / side + 1 < side {
+            edges.push((cell, cell + side));
+        }
+        if cell % side + 1 < side {
+            edges.push((cell, cell + 1));
+        }
+    }
+    let mut rust = reference::City::new(side * side, &edges, count).expect("made");
+    let mut ours = port::City::make(side * side, &edges, count).expect("made");
+    if state != UNDECIDED {
+        for edge in 0..edges.len() {
+            rust.decide(edge, state == WALL).expect("decided");
+            ours.decide(edge, state == WALL).expect("decided");
+        }
+    }
+    let theirs = time(|| {
+        black_box(rust.ask());
+    });
+    let port = time(|| {
+        black_box(ours.ask().expect("asked"));
+    });
+    line(&format!("room ask, 32 by 32, {name}"), theirs, port);
+}
+
 pub fn run() {
     println!("{:<44} {:>12} {:>12} {:>8}", "nanoseconds a turn", "the Rust", "the port", "ratio");
     for (height, width) in [(4, 4), (10, 10), (32, 32)] {
@@ -89,6 +118,11 @@ pub fn run() {
         let states: Vec<u8> = (0..borders).map(|b| [0, 1, 0, 2][b % 4]).collect();
         decide_and_undo(height, width, &states);
     }
+    room_ask("all Connected, clear", CONNECTED, 1);
+    room_ask("all Connected, a fault", CONNECTED, 2);
+    room_ask("all Walls, clear", WALL, 1024);
+    room_ask("all Walls, a fault", WALL, 1023);
+    room_ask("all undecided, clear", UNDECIDED, 500);
     for side in [10, 32] {
         for (name, board) in boards(side) {
             ask(side, name, &board);
