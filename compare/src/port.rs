@@ -1,9 +1,11 @@
 //! The port: safe wrappers of the functions that crate `exports` hands out.
 //! The declarations must agree with crates/exports; nothing but these comparisons checks that.
 
+mod lent;
 mod puzzle;
 
 use crate::answers::Groups;
+pub use lent::hand_over_in;
 pub use puzzle::{Puzzle, PuzzleRecord};
 
 /// The exported functions and records, as crates/exports declares them.
@@ -371,11 +373,6 @@ impl Board {
     /// The shape check.
     pub fn ask(&self) -> Result<Option<Vec<u16>>, u8> {
         judged(self.room(), |buffer, room| unsafe { c::sendai_board_ask(self.0, buffer, room) })
-    }
-
-    /// Whether the shape check finds a fault, with a buffer that is lent again and again: for the benchmark.
-    pub fn faulty(&self, buffer: &mut [u16]) -> bool {
-        unsafe { c::sendai_board_ask(self.0, buffer.as_mut_ptr(), buffer.len()) }.fault
     }
 
     pub fn unit_boundary(&self, unit: usize) -> Result<Vec<u16>, u8> {

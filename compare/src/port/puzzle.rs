@@ -89,9 +89,4 @@ impl Puzzle {
             numbers => panic!("{numbers:?} are no answer"),
         }
     }
-
-    /// With a buffer that is lent again and again: for the benchmark.
-    pub fn faulty(&self, buffer: &mut [u16]) -> u8 {
-        unsafe { c::sendai_puzzle_ask(self.0, buffer.as_mut_ptr(), buffer.len()) }.kind
-    }
 }

@@ -91,6 +91,11 @@ impl Board {
         Info(self.0.board.compute_board_info())
     }
 
+    /// One kind of groups, for the benchmark.
+    pub fn group_kind(&self, potential: bool) {
+        std::hint::black_box(self.0.board.compute_connected_components(potential));
+    }
+
     pub fn path(&self, from: usize, to: usize) -> Result<Vec<u16>, u8> {
         let width = self.0.board.width;
         quietly(|| {
@@ -147,6 +152,12 @@ impl Info {
 }
 
 pub struct Union(UnionFind);
+
+impl Clone for Union {
+    fn clone(&self) -> Union {
+        Union(UnionFind { parent: self.0.parent.clone() })
+    }
+}
 
 impl Union {
     pub fn new(vertices: usize) -> Union {
@@ -315,6 +326,16 @@ impl Puzzle {
             self.rooms[room].check.undo();
         }
         Ok(())
+    }
+
+    /// Without the net under a panic and the board that is read, for the benchmark.
+    pub fn decide_and_undo(&mut self, border: usize, wall: bool) {
+        self.shape.notify(border, wall);
+        for &(room, edge) in &self.uses[border] {
+            self.rooms[room].check.notify(edge, wall);
+            self.rooms[room].check.undo();
+        }
+        self.shape.undo();
     }
 
     pub fn states(&self) -> Vec<u8> {
