@@ -14,6 +14,6 @@ firsts es = map (λ (e : Edge). e .u) es
 abbrev pub seconds : List Edge → List ℕ
 seconds es = map (λ (e : Edge). e .v) es
 
--- of n edges, those that have a place: a list longer than a graph's limit stays so
+-- of n edges, how many are copied: of a list that is longer than a graph's limit enough to stay so
 abbrev pub heldOf : ℕ → ℕ
 heldOf n = pick (leb n 1985) n 1985

@@ -13,7 +13,8 @@ pub struct Edge {
     pub v: u16,
 }
 
-// How many edges of a list of this length have a place.
+// How many edges of a list of this length are copied: up to one more than a graph may have, so that the making itself refuses
+// a longer list.
 fn held(len: usize) -> usize
     ensures { λ r. ⌜ r ≡ heldOf len ⌝ }
 {
@@ -23,7 +24,7 @@ fn held(len: usize) -> usize
     len
 }
 
-// The graph of the first `m` ends.
+// The graph of the edges whose ends are the first `m` numbers of each array.
 fn made(n: usize, us: [u16; 1985], vs: [u16; 1985], m: usize, count: u32) -> Decided
     requires { ⌜ m ≤ 1985 ⌝ }
     ensures { λ r. ⌜ r ≡ makeOf n (take m us) (take m vs) count ⌝ }
@@ -31,7 +32,7 @@ fn made(n: usize, us: [u16; 1985], vs: [u16; 1985], m: usize, count: u32) -> Dec
     city_count::make(n, &us[..m], &vs[..m], count)
 }
 
-// A room graph of `n` vertices with these edges, all undecided.
+// A room graph of `n` vertices with these edges, all undecided, or refused as the making from two slices is.
 pub fn make(n: usize, edges: &[Edge], count: u32) -> Decided
     ensures { λ r. ⌜ r ≡ makeOf n (firsts (now (edges .entry))) (seconds (now (edges .entry))) count ⌝ }
 {

@@ -28,7 +28,7 @@ use denote.Plain.{uint-vals, uint-tells, uint-makes, bool-vals, bool-tells, bool
 use denote.Builtin.{u8, usize, bool}
 use denote.Ref.{RefT, MutRef, ptr-vals, mut-tells}
 use denote.Signature.{plain}
-use denote.Steps.{opens, closes, owned, peeks, heard, nothing}
+use denote.Steps.{only, opens, closes, owned, peeks, heard, nothing}
 use denote.Struct.Steps.{spelt}
 use denote.Struct.Laws as LL
 use denote.Triple.Statement.{Contract, Triple}
@@ -50,7 +50,6 @@ use Rattle.board.proofs.decide as core
 use Rattle.board.proofs.decide.Symbol as core-def
 use Rattle.board.proofs.decide.Symbol.{name as #board·decide}
 use Rattle.board.proofs.decide.Met as core-thm
-use Rattle.board_in_place.proofs.Values.{one, board-val}
 use Rattle.board_in_place.proofs.decide.Key.{name as #board-in-place·decide}
 use Rattle.board_in_place.proofs.decide as decide
 use Rattle.board_in_place.proofs.decide.Statement as stated
@@ -61,6 +60,10 @@ Arg = RefT Board × (ℕ × (Bool × Unit {0}))
 
 abbrev stayed : Stays (decide.ended .signature .params) (decide.ended .kept)
 stayed = (stay-ref (0 ∷ []) tt (plain (λ _. T.the-row)), (stay-none (λ _. usize) yes, (stay-none (λ _. bool) yes, tt)))
+
+-- a board's one machine value
+abbrev board-val : Board → Val
+board-val h = only (LL.vals T.the-type T′.the-laws h)
 
 -- the contract that the proof cites
 abbrev Core : {M : Type 1} (𝓤 : URA M) (H : Heap 𝓤) (A : Atoms 𝓤) (mem : Memory → SProp 𝓤) (run : Routine → Fun 𝓤) → Contract 𝓤
@@ -118,7 +121,7 @@ module _ {M : Type 1} (𝓤 : URA M) (H : Heap 𝓤) (A : Atoms 𝓤) (W : Given
         peeks ! D.the-row (Is D.the-row) (shows 𝓤 H A D.the-row) r (v ∷ []) (λ is.
         land ! (from ! (stop !)) (init ! 7 refl (LL.lawful D.the-type D′.the-laws 𝓤 H A W .typed r _ is .0)) $
         -- what _4 holds is spelt out
-        rewrite ! 7 (λ (u : Val). ‵ (fat fullShare D′.mir l₄ 0 u)) (ap one (LL.tells D.the-type D′.the-laws r (v ∷ []) is)) refl $
+        rewrite ! 7 (λ (u : Val). ‵ (fat fullShare D′.mir l₄ 0 u)) (ap only (LL.tells D.the-type D′.the-laws r (v ∷ []) is)) refl $
         assigns ! (of-opd ! (load ! (from ! (fld ! refl (stop !))) (look-in ! 7 (sub ! 1 refl (whole !))))) (from ! (hop ! (look ! 13 refl) (stop !))) (store-raw ! 1 refl (LL.lawful T.the-type T′.the-laws 𝓤 H A W .typed (r .board) _ (LL.owed D.the-type D′.the-laws r _ is .1 .0) .0)) $
         assigns ! (of-opd ! (load ! (from ! (fld ! refl (stop !))) (look-in ! 7 (sub ! 0 refl (whole !))))) (from ! (stop !)) (init ! 15 refl (tt, record { fits = LL.owed D.the-type D′.the-laws r _ is .0 .1 })) $
         drop ! $ owned ! T.the-row (Is T.the-row) ((LL.makes T.the-type T′.the-plain) 𝓤 H A) (r .board) _ (LL.owed D.the-type D′.the-laws r _ is .1 .0) $ move ! (1 ∷ 0 ∷ []) $ closes ! tt T.the-row (r .board) (board-val (r .board) ∷ []) b o $

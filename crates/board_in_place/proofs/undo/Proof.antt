@@ -27,7 +27,7 @@ use denote.Plain.{uint-makes}
 use denote.Builtin.{u8}
 use denote.Ref.{RefT, MutRef, ptr-vals, mut-tells}
 use denote.Signature.{plain}
-use denote.Steps.{opens, closes, owned, peeks, heard, nothing}
+use denote.Steps.{only, opens, closes, owned, peeks, heard, nothing}
 use denote.Struct.Steps.{spelt}
 use denote.Struct.Laws as LL
 use denote.Triple.Statement.{Contract, Triple}
@@ -48,7 +48,6 @@ use Rattle.board.proofs.undo as core
 use Rattle.board.proofs.undo.Symbol as core-def
 use Rattle.board.proofs.undo.Symbol.{name as #board·undo}
 use Rattle.board.proofs.undo.Met as core-thm
-use Rattle.board_in_place.proofs.Values.{one, board-val}
 use Rattle.board_in_place.proofs.undo.Key.{name as #board-in-place·undo}
 use Rattle.board_in_place.proofs.undo as undo
 use Rattle.board_in_place.proofs.undo.Statement as stated
@@ -59,6 +58,10 @@ Arg = RefT Board × Unit {0}
 
 abbrev stayed : Stays (undo.ended .signature .params) (undo.ended .kept)
 stayed = (stay-ref (0 ∷ []) tt (plain (λ _. T.the-row)), tt)
+
+-- a board's one machine value
+abbrev board-val : Board → Val
+board-val h = only (LL.vals T.the-type T′.the-laws h)
 
 -- the contract that the proof cites
 abbrev Core : {M : Type 1} (𝓤 : URA M) (H : Heap 𝓤) (A : Atoms 𝓤) (mem : Memory → SProp 𝓤) (run : Routine → Fun 𝓤) → Contract 𝓤
@@ -111,7 +114,7 @@ module _ {M : Type 1} (𝓤 : URA M) (H : Heap 𝓤) (A : Atoms 𝓤) (W : Given
         peeks ! D.the-row (Is D.the-row) (shows 𝓤 H A D.the-row) r (v ∷ []) (λ is.
         land ! (from ! (stop !)) (init ! 7 refl (LL.lawful D.the-type D′.the-laws 𝓤 H A W .typed r _ is .0)) $
         -- what _2 holds is spelt out
-        rewrite ! 7 (λ (u : Val). ‵ (fat fullShare D′.mir l₂ 0 u)) (ap one (LL.tells D.the-type D′.the-laws r (v ∷ []) is)) refl $
+        rewrite ! 7 (λ (u : Val). ‵ (fat fullShare D′.mir l₂ 0 u)) (ap only (LL.tells D.the-type D′.the-laws r (v ∷ []) is)) refl $
         assigns ! (of-opd ! (load ! (from ! (fld ! refl (stop !))) (look-in ! 7 (sub ! 1 refl (whole !))))) (from ! (hop ! (look ! 9 refl) (stop !)))
         (store-raw ! 1 refl (LL.lawful T.the-type T′.the-laws 𝓤 H A W .typed (r .board) _ (LL.owed D.the-type D′.the-laws r _ is .1 .0) .0)) $
         assigns ! (of-opd ! (load ! (from ! (fld ! refl (stop !))) (look-in ! 7 (sub ! 0 refl (whole !))))) (from ! (stop !)) (init ! 11 refl (tt, record { fits = LL.owed D.the-type D′.the-laws r _ is .0 .1 })) $
