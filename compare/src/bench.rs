@@ -1,50 +1,54 @@
-//! Times of both sides from one driver. A ratio above 1 says that the port is faster.
+//! Times of both sides from one driver, and docs/PERFORMANCE.md, which it writes. A ratio above 1 says that the port is faster.
+mod calls;
+mod paper;
+mod stack;
+
 use crate::boards::{Standing, CONNECTED, UNDECIDED, WALL};
-use crate::port;
 use crate::random::Random;
-use crate::reference::{self, Board};
+use calls::{Asked, Laid};
+use paper::{micros, number, Pair, Row};
 use std::hint::black_box;
+use std::process::Command;
 use std::time::Instant;
 
-/// Nanoseconds a turn: the best of some rounds, each long enough to be measured.
-fn time(mut turn: impl FnMut()) -> f64 {
-    let mut turns = 1u32;
-    let mut best = f64::MAX;
-    let mut rounds = 0;
-    while rounds < 7 {
-        let began = Instant::now();
-        for _ in 0..turns {
-            turn();
-        }
-        let took = began.elapsed().as_nanos() as f64;
-        if took < 20e6 {
-            turns *= 2;
-            continue;
-        }
-        best = best.min(took / turns as f64);
-        rounds += 1;
+/// How many turns make a round that is long enough to be measured.
+fn turns<T>(turn: &mut impl FnMut() -> T) -> u32 {
+    let mut turns = 1;
+    while round(turn, turns) < ROUND {
+        turns *= 2;
+    }
+    turns
+}
+
+/// Nanoseconds of so many turns.
+fn round<T>(turn: &mut impl FnMut() -> T, turns: u32) -> f64 {
+    let began = Instant::now();
+    for _ in 0..turns {
+        black_box(turn());
+    }
+    began.elapsed().as_nanos() as f64
+}
+
+/// Nanoseconds of the shortest round that counts, and how many rounds each side gets.
+const ROUND: f64 = 4e6;
+const ROUNDS: u32 = 21;
+
+/// Nanoseconds a turn of both sides: the best of the rounds, which take turns.
+fn both<R, P>(mut rust: impl FnMut() -> R, mut port: impl FnMut() -> P) -> Pair {
+    let (theirs, ours) = (turns(&mut rust), turns(&mut port));
+    let mut best = Pair { rust: f64::MAX, port: f64::MAX };
+    for _ in 0..ROUNDS {
+        best.rust = best.rust.min(round(&mut rust, theirs) / theirs as f64);
+        best.port = best.port.min(round(&mut port, ours) / ours as f64);
     }
     best
 }
 
-fn line(what: &str, rust: f64, port: f64) {
-    println!("{what:<44} {rust:>12.0} {port:>12.0} {:>8.3}", rust / port);
+fn row<T>(name: impl Into<String>, times: T) -> Row<T> {
+    Row { name: name.into(), times }
 }
 
-/// A decide and an undo on a board of which half of the borders are decided.
-fn decide_and_undo(height: usize, width: usize, states: &[u8]) {
-    let border = states.iter().position(|&s| s == 0).expect("an undecided border");
-    let mut rust = Board::standing(height, width, states);
-    let theirs = time(|| rust.decide_and_undo(black_box(border), true));
-    let mut ours = port::Board::standing(height, width, states);
-    let port = time(|| {
-        ours.decide(black_box(border), true).expect("decided");
-        ours.undo().expect("undone");
-    });
-    line(&format!("decide and undo, {height} by {width}"), theirs, port);
-}
-
-/// The boards of a side's shape asks.
+/// The shape check's eight boards, of any side.
 fn boards(side: usize) -> Vec<(&'static str, Standing)> {
     let all = |state| Standing::all(side, side, state);
     let tiled = |a: usize, b: usize, inside| Standing::parted(side, side, inside, |y, x| y / a * 64 + x / b);
@@ -69,63 +73,138 @@ fn boards(side: usize) -> Vec<(&'static str, Standing)> {
     ]
 }
 
-fn ask(side: usize, name: &str, board: &Standing) {
-    let mut rust = Board::standing(side, side, &board.states);
-    let theirs = time(|| {
-        black_box(rust.ask());
-    });
-    let ours = port::Board::standing(side, side, &board.states);
-    let mut buffer = vec![0; 9 * side * side];
-    let port = time(|| {
-        black_box(ours.faulty(&mut buffer));
-    });
-    line(&format!("ask, {side} by {side}, {name}"), theirs, port);
+/// Puzzles of a side: rooms of 4 by 4 cells that given walls part, all clued; and one room with a clue.
+fn puzzles(side: usize) -> Vec<(&'static str, Laid)> {
+    let squares = |inside, clue| Laid::squares(side, clue, |_, _| inside);
+    let dominoes = |a: (usize, usize), b: (usize, usize)| if a.0 == b.0 && a.1 / 2 == b.1 / 2 { CONNECTED } else { WALL };
+    vec![
+        ("puzzle, rooms of 4 by 4, open inside", squares(UNDECIDED, 8)),
+        ("puzzle, rooms of 4 by 4, Connected inside", squares(CONNECTED, 1)),
+        ("puzzle, rooms of 4 by 4, dominoes", Laid::squares(side, 8, dominoes)),
+        ("puzzle, rooms of 4 by 4, all Walls", squares(WALL, 16)),
+        ("puzzle, rooms of 4 by 4, all Walls, the last count wrong", squares(WALL, 16).with_last_clue(15)),
+        ("puzzle, one room, all undecided", Laid::one_room(side, UNDECIDED, side * side / 2)),
+        ("puzzle, one room, all Walls", Laid::one_room(side, WALL, side * side)),
+    ]
 }
 
-/// The largest room, 32 by 32 cells, whose edges all have one state, with a count; each side makes its own list.
-fn room_ask(name: &str, state: u8, count: u32) {
-    let side = 32;
-    let mut edges = vec![];
-    for cell in 0..side * side {
-        if cell / side + 1 < side {
-            edges.push((cell, cell + side));
-        }
-        if cell % side + 1 < side {
-            edges.push((cell, cell + 1));
-        }
-    }
-    let mut rust = reference::City::new(side * side, &edges, count).expect("made");
-    let mut ours = port::City::make(side * side, &edges, count).expect("made");
-    if state != UNDECIDED {
-        for edge in 0..edges.len() {
-            rust.decide(edge, state == WALL).expect("decided");
-            ours.decide(edge, state == WALL).expect("decided");
+/// Asks of boards and puzzles of four sides, by name.
+fn asks() -> Vec<Row<Vec<Pair>>> {
+    let mut rows: Vec<Row<Vec<Pair>>> = vec![];
+    for side in SIDES {
+        let shapes = boards(side).into_iter().map(|(name, board)| (name, calls::ask(&board)));
+        let rooms = puzzles(side).into_iter().map(|(name, laid)| (name, calls::puzzle_ask(&laid)));
+        for (name, Asked { times, kind }) in shapes.chain(rooms) {
+            println!("{side} by {side}, {name}, {kind}: {} µs, ratio {}", micros(times.port), number(times.ratio()));
+            match rows.iter_mut().find(|row| row.name == name) {
+                Some(found) => found.times.push(times),
+                None => rows.push(row(name, vec![times])),
+            }
         }
     }
-    let theirs = time(|| {
-        black_box(rust.ask());
-    });
-    let port = time(|| {
-        black_box(ours.ask().expect("asked"));
-    });
-    line(&format!("room ask, 32 by 32, {name}"), theirs, port);
+    rows
 }
+
+const SIDES: [usize; 4] = [4, 8, 16, 32];
+
+/// What the archive of the port takes from elsewhere, where `nm` is at hand.
+fn foreign() -> Option<Vec<String>> {
+    let archive = concat!(env!("CARGO_MANIFEST_DIR"), "/../target/staticlib/libexports.a");
+    let told = Command::new("nm").args(["-u", archive]).output().ok()?;
+    let text = String::from_utf8(told.stdout).ok()?;
+    let mut names: Vec<String> = text.lines().filter_map(|line| Some(line.trim().strip_prefix("U ")?.to_string())).collect();
+    names.sort();
+    names.dedup();
+    Some(names)
+}
+
+fn met(yes: bool) -> &'static str {
+    if yes { "yes" } else { "no" }
+}
+
+/// Each goal, what was found, and whether it is met.
+fn goals(asks: &[(String, Pair)], walls: Pair, turns: &[(String, Pair, f64)], stacks: &[(String, usize)]) -> String {
+    let slowest = asks.iter().min_by(|a, b| a.1.ratio().total_cmp(&b.1.ratio())).expect("asks");
+    let part = |t: &&(String, Pair, f64)| t.1.port / t.2;
+    let dearest = turns.iter().max_by(|a, b| part(a).total_cmp(&part(b))).expect("boards");
+    let deepest = stacks.iter().max_by_key(|stack| stack.1).expect("calls");
+    let mut text = String::from("| goal | found | met |\n|---|---|---|\n");
+    let mut line = |goal: &str, found: String, yes| text += &format!("| {goal} | {found} | {} |\n", met(yes));
+    let least = slowest.1.ratio();
+    line("an ask is never slower than the Rust", format!("least ratio {} ({})", number(least), slowest.0), least >= 1.0);
+    line("10 times as fast where every border is a Wall", format!("ratio {}", number(walls.ratio())), walls.ratio() >= 10.0);
+    let (turn, ask) = (dearest.1.port, dearest.2);
+    line(
+        "a decide and an undo together take below a twentieth of an ask on the same board",
+        format!("up to {} of it ({}: {} µs, the ask {} µs)", number(turn / ask), dearest.0, micros(turn), micros(ask)),
+        turn * 20.0 < ask,
+    );
+    if let Some(names) = foreign() {
+        let heap = names.iter().any(|name| name.contains("alloc"));
+        line("no heap", format!("the archive takes {} from elsewhere, and nothing more", names.join(" and ")), !heap);
+    }
+    let kilobytes = deepest.1.div_ceil(1024);
+    line("under 512 KB of stack for any call", format!("at most {kilobytes} KB ({})", deepest.0), kilobytes < 512);
+    text
+}
+
+const PAPER: &str = concat!(env!("CARGO_MANIFEST_DIR"), "/../docs/PERFORMANCE.md");
 
 pub fn run() {
-    println!("{:<44} {:>12} {:>12} {:>8}", "nanoseconds a turn", "the Rust", "the port", "ratio");
-    for (height, width) in [(4, 4), (10, 10), (32, 32)] {
-        let borders = crate::boards::border_count(height, width);
-        let states: Vec<u8> = (0..borders).map(|b| [0, 1, 0, 2][b % 4]).collect();
-        decide_and_undo(height, width, &states);
-    }
-    room_ask("all Connected, clear", CONNECTED, 1);
-    room_ask("all Connected, a fault", CONNECTED, 2);
-    room_ask("all Walls, clear", WALL, 1024);
-    room_ask("all Walls, a fault", WALL, 1023);
-    room_ask("all undecided, clear", UNDECIDED, 500);
-    for side in [10, 32] {
-        for (name, board) in boards(side) {
-            ask(side, name, &board);
-        }
-    }
+    let grown = asks();
+    let at_32 = |row: &Row<Vec<Pair>>| (row.name.clone(), *row.times.last().expect("four sides"));
+    let eight: Vec<(String, Pair)> = grown.iter().map(at_32).collect();
+    let rooms = calls::room_asks();
+    let others = calls::others();
+    let (columns, on_boards) = calls::on_boards(&boards(32));
+    let turns = calls::decide_and_undo(&boards(32), &eight);
+    let stacks = calls::stacks(&boards(32), &puzzles(32));
+    let asked = rooms.iter().map(|row| (format!("room check, {}", row.name), row.times));
+    let mut all: Vec<(String, Pair)> = grown
+        .iter()
+        .flat_map(|row| row.times.iter().zip(SIDES).map(|(&times, side)| (format!("{side} by {side}, {}", row.name), times)))
+        .collect();
+    all.extend(asked);
+    let sides = SIDES.map(|side| format!("{side} by {side}"));
+    let shape: Vec<Row<Pair>> = eight.iter().map(|(name, times)| row(name.clone(), *times)).collect();
+    let turned: Vec<Row<Pair>> = turns.iter().map(|(name, times, _)| row(name.clone(), *times)).collect();
+    let stack_lines: String = stacks.iter().map(|(name, n)| format!("| {name} | {} |\n", n.div_ceil(1024))).collect();
+    let text = format!(
+        "{HEAD}\n## Goals\n\n{}\n## Asks at 32 by 32\n\n{}\n## How an ask grows\n\nThe port's µs, and the ratio in brackets.\n\n{}\n\
+         ## The other calls on the eight boards, 32 by 32\n\n{OTHER_CALLS}\n{}\n## Decide and undo\n\n{DECIDES}\n{}\n\
+         ## Rooms, unions, hand-over\n\n{ROOMS}\n{}\n{}\n## Stack\n\n{STACK}\n| call | KB |\n|---|---|\n{stack_lines}",
+        goals(&all, eight[0].1, &turns, &stacks),
+        paper::pairs("shape check and puzzles", &shape),
+        paper::grid("ask", &sides, &grown),
+        paper::grid("board", &columns, &on_boards),
+        paper::pairs("a decide and an undo", &turned),
+        paper::pairs("room check, 1,024 vertices and 1,984 edges", &rooms),
+        paper::pairs("call", &others),
+    );
+    std::fs::write(PAPER, &text).expect("docs/PERFORMANCE.md");
+    println!("{text}");
 }
+
+const HEAD: &str = "# Speed beside the Rust
+
+Written by `compare/run bench`: both sides from one driver, in one run, built for release, on a machine that was not idle; only the
+ratios mean something. Above 1 the port is faster. A time is the best of 21 rounds, in which the two sides take turns. The port's
+time includes the record's way over the C interface by value, and question 2 of the whole record; it writes into one buffer, which
+is lent again and again and not cleared between calls. The Rust makes each list anew.
+";
+
+const OTHER_CALLS: &str = "The port's µs, and the ratio in brackets. A path leads from the first to the last cell of the largest unit; a boundary is that of
+the largest unit or potential unit. A boundary call of the port groups the board itself: the Rust's time has its grouping too.
+";
+
+const DECIDES: &str = "Each call of the port puts question 2 to the whole record and moves it by value (6 KB for a board, 12 KB for a puzzle), where the Rust
+changes one place. On a full board the first border is left open.
+";
+
+const ROOMS: &str = "The port's room check lists the arcs anew for each ask and puts question 2 to the record, which the Rust does not. Hand-over stands
+beside `sort` and `dedup`.
+";
+
+const STACK: &str = "How far a call reached down a painted stack, its arguments and its caller's copies of them included: the most on the boards,
+puzzles and graphs above, and on a chain and a walk 1,024 deep.
+";

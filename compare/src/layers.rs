@@ -6,6 +6,7 @@ pub mod groups;
 pub mod hand_over;
 pub mod numbering;
 pub mod path;
+pub mod puzzle;
 pub mod shape;
 pub mod union_find;
 
@@ -34,7 +35,7 @@ pub struct Layer {
     pub sample: fn(&mut Sample),
 }
 
-pub const LAYERS: [Layer; 9] = [
+pub const LAYERS: [Layer; 10] = [
     Layer { name: "numbering", kind: 1, run: numbering::run, sample: numbering::sample },
     Layer { name: "board", kind: 2, run: board::run, sample: board::sample },
     Layer { name: "groups", kind: 3, run: groups::run, sample: groups::sample },
@@ -43,6 +44,7 @@ pub const LAYERS: [Layer; 9] = [
     Layer { name: "shape", kind: 6, run: shape::run, sample: shape::sample },
     Layer { name: "union_find", kind: 7, run: union_find::run, sample: union_find::sample },
     Layer { name: "city_count", kind: 8, run: city_count::run, sample: city_count::sample },
+    Layer { name: "puzzle", kind: 9, run: puzzle::run, sample: puzzle::sample },
     Layer { name: "hand_over", kind: 10, run: hand_over::run, sample: hand_over::sample },
 ];
 

@@ -7,6 +7,7 @@ mod boards;
 mod findings;
 mod layers;
 mod port;
+mod puzzles;
 mod random;
 mod reference;
 mod runs;

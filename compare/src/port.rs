@@ -1,7 +1,12 @@
 //! The port: safe wrappers of the functions that crate `exports` hands out.
 //! The declarations must agree with crates/exports; nothing but these comparisons checks that.
 
+mod lent;
+mod puzzle;
+
 use crate::answers::Groups;
+pub use lent::hand_over_in;
+pub use puzzle::{Puzzle, PuzzleRecord};
 
 /// The exported functions and records, as crates/exports declares them.
 mod c {
@@ -14,7 +19,7 @@ mod c {
     }
 
     #[repr(C)]
-    #[derive(Clone, Copy)]
+    #[derive(Clone, Copy, PartialEq, Eq)]
     pub struct Board {
         pub height: usize,
         pub width: usize,
@@ -92,6 +97,30 @@ mod c {
     }
 
     #[repr(C)]
+    #[derive(Clone, Copy, PartialEq, Eq)]
+    pub struct Puzzle {
+        pub board: Board,
+        pub given: [u16; 1984],
+        pub given_len: usize,
+        pub clues: [u16; 1024],
+        pub clues_len: usize,
+    }
+
+    #[repr(C)]
+    pub struct PuzzleMade {
+        pub code: u8,
+        pub puzzle: Puzzle,
+    }
+
+    #[repr(C)]
+    pub struct Outcome {
+        pub kind: u8,
+        pub code: u8,
+        pub room: usize,
+        pub length: usize,
+    }
+
+    #[repr(C)]
     pub struct Verdict {
         pub code: u8,
         pub fault: bool,
@@ -118,6 +147,18 @@ mod c {
         pub safe fn sendai_room_check(room: CityCountConstraint) -> u8;
         pub safe fn sendai_room_decide(room: CityCountConstraint, edge: usize, wall: bool) -> RoomDecided;
         pub safe fn sendai_room_undo(room: CityCountConstraint) -> RoomDecided;
+        pub safe fn sendai_puzzle_check(puzzle: Puzzle) -> u8;
+        pub safe fn sendai_puzzle_decide(puzzle: Puzzle, border: usize, wall: bool) -> PuzzleMade;
+        pub safe fn sendai_puzzle_undo(puzzle: Puzzle) -> PuzzleMade;
+        pub fn sendai_puzzle_make(
+            height: usize,
+            width: usize,
+            given: *const u16,
+            given_length: usize,
+            clues: *const u16,
+            clues_length: usize,
+        ) -> PuzzleMade;
+        pub fn sendai_puzzle_ask(puzzle: Puzzle, buffer: *mut u16, room: usize) -> Outcome;
         pub fn sendai_room_make(
             vertices: usize,
             us: *const u16,
@@ -332,11 +373,6 @@ impl Board {
     /// The shape check.
     pub fn ask(&self) -> Result<Option<Vec<u16>>, u8> {
         judged(self.room(), |buffer, room| unsafe { c::sendai_board_ask(self.0, buffer, room) })
-    }
-
-    /// Whether the shape check finds a fault, with a buffer that is lent again and again: for the benchmark.
-    pub fn faulty(&self, buffer: &mut [u16]) -> bool {
-        unsafe { c::sendai_board_ask(self.0, buffer.as_mut_ptr(), buffer.len()) }.fault
     }
 
     pub fn unit_boundary(&self, unit: usize) -> Result<Vec<u16>, u8> {

@@ -13,4 +13,4 @@ mod sendai {
 }
 
 pub use panics::{heard, silence};
-pub use sendai::{numbering, Board, City, Numbering, Puzzle, Union};
+pub use sendai::{numbering, rooms, Board, City, Info, Numbering, Puzzle, Union, NO_CLUE};

@@ -91,6 +91,11 @@ impl Board {
         Info(self.0.board.compute_board_info())
     }
 
+    /// One kind of groups, for the benchmark.
+    pub fn group_kind(&self, potential: bool) {
+        std::hint::black_box(self.0.board.compute_connected_components(potential));
+    }
+
     pub fn path(&self, from: usize, to: usize) -> Result<Vec<u16>, u8> {
         let width = self.0.board.width;
         quietly(|| {
@@ -147,6 +152,12 @@ impl Info {
 }
 
 pub struct Union(UnionFind);
+
+impl Clone for Union {
+    fn clone(&self) -> Union {
+        Union(UnionFind { parent: self.0.parent.clone() })
+    }
+}
 
 impl Union {
     pub fn new(vertices: usize) -> Union {
@@ -215,6 +226,8 @@ pub struct Puzzle {
     uses: Vec<Vec<(usize, usize)>>,
     /// The borders decided since the puzzle was made.
     ledger: Vec<usize>,
+    /// The same calls on a board of its own, whose states can be read.
+    board: Board,
 }
 
 struct Room {
@@ -224,21 +237,33 @@ struct Room {
 }
 
 /// Document 01's mark for a room without a clue.
-const NO_CLUE: u16 = 65535;
+pub const NO_CLUE: u16 = 65535;
+
+/// Given walls as `solve_sendai` takes them.
+fn wall_grid(height: usize, width: usize, given: &[usize]) -> graph::InnerGridEdges<Vec<Vec<bool>>> {
+    let at = Numbering(BoardManager::new(height, width));
+    let mut wall = vec![false; height * (width - 1) + (height - 1) * width];
+    given.iter().for_each(|&border| wall[border] = true);
+    let rows = |n: usize, m: usize, border: &dyn Fn(usize, usize) -> usize| -> Vec<Vec<bool>> {
+        (0..n).map(|y| (0..m).map(|x| wall[border(y, x)]).collect()).collect()
+    };
+    graph::InnerGridEdges {
+        horizontal: rows(height - 1, width, &|y, x| at.under(y, x)),
+        vertical: rows(height, width - 1, &|y, x| at.right_of(y, x)),
+    }
+}
+
+/// The cells of each room.
+pub fn rooms(height: usize, width: usize, given: &[usize]) -> Vec<Vec<usize>> {
+    let rooms = graph::borders_to_room_partition(&wall_grid(height, width, given)).rooms;
+    rooms.iter().map(|room| room.iter().map(|&(y, x)| y * width + x).collect()).collect()
+}
 
 impl Puzzle {
     /// `solve_sendai` itself lays out the checks; the stub of the solver keeps them. A room without a clue is `Some(-1)`
     /// or, by `absent`, `None`.
     pub fn new(height: usize, width: usize, given: &[usize], clues: &[u16], absent: bool) -> Result<Puzzle, u8> {
-        let at = Numbering(BoardManager::new(height, width));
-        let wall = |border: usize| given.contains(&border);
-        let rows = |n: usize, m: usize, border: &dyn Fn(usize, usize) -> usize| -> Vec<Vec<bool>> {
-            (0..n).map(|y| (0..m).map(|x| wall(border(y, x))).collect()).collect()
-        };
-        let borders = graph::InnerGridEdges {
-            horizontal: rows(height - 1, width, &|y, x| at.under(y, x)),
-            vertical: rows(height, width - 1, &|y, x| at.right_of(y, x)),
-        };
+        let borders = wall_grid(height, width, given);
         let none = if absent { None } else { Some(-1) };
         let counts: Vec<Option<i32>> =
             clues.iter().map(|&c| if c == NO_CLUE { none } else { Some(c as i32) }).collect();
@@ -250,11 +275,11 @@ impl Puzzle {
         }
         let rooms = graph::borders_to_room_partition(&borders).rooms.len();
         let clued = (0..rooms).filter(|&room| clues[room] != NO_CLUE);
-        Ok(Puzzle::laid_out(record, clued.collect(), given))
+        Ok(Puzzle::laid_out(record, clued.collect(), given, Board::new(height, width)))
     }
 
     /// The first constraint is the shape check, and its inputs are the borders in order.
-    fn laid_out(record: cspuz_rs::solver::Record, clued: Vec<usize>, given: &[usize]) -> Puzzle {
+    fn laid_out(record: cspuz_rs::solver::Record, clued: Vec<usize>, given: &[usize], mut board: Board) -> Puzzle {
         let mut constraints = record.constraints.into_iter();
         let (mut shape, inputs) = constraints.next().expect("the shape check");
         let mut number_of = vec![0; inputs.len()];
@@ -277,12 +302,14 @@ impl Puzzle {
         assert_eq!(rooms.len(), clued.len(), "a check for each clued room");
         for &border in given {
             shape.notify(border, true);
+            board.0.board.decide(border, true);
         }
-        Puzzle { shape, rooms, uses, ledger: vec![] }
+        Puzzle { shape, rooms, uses, ledger: vec![], board }
     }
 
     pub fn decide(&mut self, border: usize, wall: bool) -> Result<(), u8> {
         quietly(|| self.shape.notify(border, wall))?;
+        self.board.0.board.decide(border, wall);
         for &(room, edge) in &self.uses[border] {
             self.rooms[room].check.notify(edge, wall);
         }
@@ -294,10 +321,31 @@ impl Puzzle {
     pub fn undo(&mut self) -> Result<(), u8> {
         let border = self.ledger.pop().ok_or(5)?;
         self.shape.undo();
+        self.board.0.board.undo();
         for &(room, _) in &self.uses[border] {
             self.rooms[room].check.undo();
         }
         Ok(())
+    }
+
+    /// Without the net under a panic and the board that is read, for the benchmark.
+    pub fn decide_and_undo(&mut self, border: usize, wall: bool) {
+        self.shape.notify(border, wall);
+        for &(room, edge) in &self.uses[border] {
+            self.rooms[room].check.notify(edge, wall);
+            self.rooms[room].check.undo();
+        }
+        self.shape.undo();
+    }
+
+    pub fn states(&self) -> Vec<u8> {
+        self.board.states()
+    }
+
+    /// The borders decided since the puzzle was made: the board's own stack has the given walls in front.
+    pub fn ledger(&self) -> Vec<u16> {
+        let all = self.board.ledger();
+        all[all.len() - self.ledger.len()..].to_vec()
     }
 
     pub fn ask(&mut self) -> Answer {

@@ -8,6 +8,7 @@ mod group_runs;
 mod hand_runs;
 mod numbering;
 mod path_runs;
+mod puzzle_runs;
 mod room_runs;
 mod sample;
 mod shape_runs;
@@ -36,6 +37,7 @@ fn replay_case(s: &[u8], at: usize) -> Counts {
         6 => shape_runs::replay(s, at),
         7 => union_runs::replay(s, at),
         8 => room_runs::replay(s, at),
+        9 => puzzle_runs::replay(s, at),
         10 => hand_runs::replay(s, at),
         _ => case::unknown(),
     }
@@ -99,5 +101,6 @@ fn main() {
     check_file(b"shape.bin");
     check_file(b"union_find.bin");
     check_file(b"city_count.bin");
+    check_file(b"puzzle.bin");
     check_file(b"hand_over.bin");
 }

@@ -1,0 +1,92 @@
+//! The puzzle's calls.
+use super::{accepted, c, UNTOUCHED};
+use crate::answers::Answer;
+use std::fmt::{Debug, Formatter, Result as Formatted};
+
+pub use c::Puzzle as PuzzleRecord;
+
+impl PuzzleRecord {
+    /// A record with these fronts of its arrays, and 0 behind them.
+    pub fn of(size: (usize, usize), states: &[u8], ledger: &[u16], given: &[u16], clues: &[u16]) -> PuzzleRecord {
+        let mut record = PuzzleRecord::zero();
+        let board = &mut record.board;
+        (board.height, board.width) = size;
+        board.states[..states.len()].copy_from_slice(states);
+        board.ledger[..ledger.len()].copy_from_slice(ledger);
+        board.len = ledger.len();
+        record.given[..given.len()].copy_from_slice(given);
+        record.given_len = given.len();
+        record.clues[..clues.len()].copy_from_slice(clues);
+        record.clues_len = clues.len();
+        record
+    }
+
+    fn zero() -> PuzzleRecord {
+        let board = c::Board { height: 0, width: 0, states: [0; 1984], ledger: [0; 1984], len: 0 };
+        PuzzleRecord { board, given: [0; 1984], given_len: 0, clues: [0; 1024], clues_len: 0 }
+    }
+}
+
+/// A list up to the last number that is not 0.
+fn front<T: PartialEq + Default>(list: &[T]) -> &[T] {
+    let used = list.iter().rposition(|n| *n != T::default()).map_or(0, |last| last + 1);
+    &list[..used]
+}
+
+impl Debug for PuzzleRecord {
+    fn fmt(&self, f: &mut Formatter) -> Formatted {
+        let b = &self.board;
+        let (states, ledger) = (front(&b.states), front(&b.ledger));
+        write!(f, "{} by {}, states {states:?}, {} of ledger {ledger:?}, ", b.height, b.width, b.len)?;
+        let (given, clues) = (front(&self.given), front(&self.clues));
+        write!(f, "{} given of {given:?}, {} clues of {clues:?}", self.given_len, self.clues_len)
+    }
+}
+
+/// A puzzle's record. A call puts what it returned in its place, refused or not.
+#[derive(Clone, Copy)]
+pub struct Puzzle(pub PuzzleRecord);
+
+impl Puzzle {
+    pub fn make(height: usize, width: usize, given: &[u16], clues: &[u16]) -> Result<Puzzle, u8> {
+        let (walls, counts) = (given.as_ptr(), clues.as_ptr());
+        // both slices live through the call
+        let made = unsafe { c::sendai_puzzle_make(height, width, walls, given.len(), counts, clues.len()) };
+        assert!(made.code == 0 || made.puzzle == PuzzleRecord::zero(), "a refused making returns zeros");
+        accepted(made.code).map(|()| Puzzle(made.puzzle))
+    }
+
+    fn put(&mut self, made: c::PuzzleMade) -> Result<(), u8> {
+        self.0 = made.puzzle;
+        accepted(made.code)
+    }
+
+    pub fn decide(&mut self, border: usize, wall: bool) -> Result<(), u8> {
+        self.put(c::sendai_puzzle_decide(self.0, border, wall))
+    }
+
+    pub fn undo(&mut self) -> Result<(), u8> {
+        self.put(c::sendai_puzzle_undo(self.0))
+    }
+
+    /// Questions 1 and 2.
+    pub fn check(&self) -> Result<(), u8> {
+        accepted(c::sendai_puzzle_check(self.0))
+    }
+
+    /// With a buffer of so many places; those behind the list must be untouched.
+    pub fn ask(&self, places: usize) -> Result<Answer, u8> {
+        let mut buffer = vec![UNTOUCHED; places];
+        // the buffer lives through the call
+        let told = unsafe { c::sendai_puzzle_ask(self.0, buffer.as_mut_ptr(), places) };
+        assert!(buffer[told.length..].iter().all(|&place| place == UNTOUCHED), "places behind the list were written");
+        buffer.truncate(told.length);
+        match (told.kind, told.code, told.room, told.length) {
+            (0, 0, 0, 0) => Ok(Answer::Clear),
+            (1, 0, 0, _) => Ok(Answer::Shape(buffer)),
+            (2, 0, room, _) => Ok(Answer::Room(room, buffer)),
+            (3, code @ 1.., 0, 0) => Err(code),
+            numbers => panic!("{numbers:?} are no answer"),
+        }
+    }
+}

@@ -1,0 +1,37 @@
+-- `exports::puzzles::outcome_of` meets its contract: each arm knows which case it took apart. Assumes nothing.
+use borrow.Author.Needs.{needs}
+use Rattle.exports.proofs.puzzles.outcome_of.Statement.{statement}
+use Rattle.exports.proofs.puzzles.outcome_of.Tie as tie
+
+enum-told : tie.Need-enum-told
+enum-told c = search needs
+
+enum-known-answer : tie.Need-enum-known-answer
+enum-known-answer c = search needs
+
+fault-of-requires : tie.Need-fault-of-requires
+fault-of-requires c κs = search needs
+
+enum-known-answer-2 : tie.Need-enum-known-answer-2
+enum-known-answer-2 c = search needs
+
+returns : tie.Need-returns
+returns c = rw (c .enum-told .given .1)
+
+returns-2 : tie.Need-returns-2
+returns-2 c = rw (c .before .before .answer .given .1, c .fault-of .ensures)
+
+returns-3 : tie.Need-returns-3
+returns-3 c = rw (c .before .answer2 .given .1)
+
+pub outcome-of-spec : {M : Type 1} → statement M
+outcome-of-spec =
+    tie.close
+    (tie.spec
+    enum-told
+    enum-known-answer
+    fault-of-requires
+    enum-known-answer-2
+    returns
+    returns-2
+    returns-3)
