@@ -1,0 +1,102 @@
+-- `case_run::ask_line` meets its contract: a line for each answer. Assumes nothing.
+use Rattle.case_run.specs.CaseRun.{blank}
+use Rattle.case_run.proofs.LineLaws.{by-line}
+use Rattle.case_run.proofs.AskLaws.{Filled, fault-part, clear-line, fault-line, refused-line}
+use borrow.Author.Needs.{needs}
+use Rattle.case_run.proofs.ask_line.Statement.{statement}
+use Rattle.case_run.proofs.ask_line.Tie as tie
+
+slice-aggregate-ask : tie.Need-slice-aggregate-ask
+slice-aggregate-ask c = search needs
+
+ask-requires : tie.Need-ask-requires
+ask-requires c κs = search needs
+
+enum-told : tie.Need-enum-told
+enum-told c = search needs
+
+bare-line-requires : tie.Need-bare-line-requires
+bare-line-requires c κs = search needs
+
+enum-known-check : tie.Need-enum-known-check
+enum-known-check c = search needs
+
+-- the part of the buffer that a fault filled
+part : (c : tie.After-known-told) → Filled (c .before .check .given .0 .1 .0) (c .before .before .before .before .ask .last .1 .0)
+unfolding blank
+part c =
+    let l = c .before .before .before .before in
+    let a = l .before .before .before .args in
+    fault-part (a .p) (c .before .check .given .0 .0) (c .before .check .given .0 .1 .0) (l .ask .result) (l .ask .last .1 .0) (c .before .check .given .1) (l .ask .ensures .0) (l .ask .kept .1 .0)
+
+array-share-prefix-list : tie.Need-array-share-prefix-list
+array-share-prefix-list c = part c .within
+
+slice-aggregate-fault-line : tie.Need-slice-aggregate-fault-line
+slice-aggregate-fault-line c = part (c .before) .long
+
+fault-line-requires : tie.Need-fault-line-requires
+fault-line-requires c κs = (part (c .before .before) .few, c .before .before .before .before .before .before .before .before .before .pre)
+
+enum-known-code : tie.Need-enum-known-code
+enum-known-code c = search needs
+
+bare-line-requires-2 : tie.Need-bare-line-requires-2
+bare-line-requires-2 c κs = search needs
+
+same-length : tie.Need-same-length
+same-length c = search needs
+
+returns : tie.Need-returns
+unfolding blank
+returns c =
+    let k = c .before .before in
+    let t = k .before .before in
+    let l = t .before .before .before in
+    let a = l .before .before .before .args in
+    by-line _ _ (a .out .now) (clear-line (a .p) (l .ask .result) (l .ask .last .1 .0) (l .ask .ensures .0) (l .ask .ensures .1) (t .enum-told .given .1)) (k .bare-line .ensures)
+
+same-length-2 : tie.Need-same-length-2
+same-length-2 c = search needs
+
+returns-2 : tie.Need-returns-2
+unfolding blank
+returns-2 c =
+    let k = c .before .before in
+    let t = k .before .before .before .before in
+    let l = t .before .before .before in
+    let a = l .before .before .before .args in
+    by-line _ _ (a .out .now) (fault-line (a .p) (l .ask .result) (l .ask .last .1 .0) (l .ask .ensures .0) (l .ask .ensures .1) _ _ (t .check .given .1)) (k .fault-line .ensures)
+
+same-length-3 : tie.Need-same-length-3
+same-length-3 c = search needs
+
+returns-3 : tie.Need-returns-3
+unfolding blank
+returns-3 c =
+    let k = c .before .before in
+    let t = k .before .before .before in
+    let l = t .before .before .before in
+    let a = l .before .before .before .args in
+    by-line _ _ (a .out .now) (refused-line (a .p) (l .ask .result) (l .ask .last .1 .0) (l .ask .ensures .0) (l .ask .ensures .1) _ (t .code .given .1)) (k .bare-line2 .ensures)
+
+pub ask-line-spec : {M : Type 1} → statement M
+ask-line-spec =
+    tie.close
+    (tie.spec
+    slice-aggregate-ask
+    ask-requires
+    enum-told
+    bare-line-requires
+    enum-known-check
+    array-share-prefix-list
+    slice-aggregate-fault-line
+    fault-line-requires
+    enum-known-code
+    bare-line-requires-2
+    same-length
+    returns
+    same-length-2
+    returns-2
+    same-length-3
+    returns-3)

@@ -1,0 +1,73 @@
+-- `case_run::fault_line` meets its contract: hand-over has the room that it asks, and so has the line. Assumes nothing.
+use Rattle.case_run.specs.CaseRun.{blank}
+use Rattle.case_run.proofs.LineLaws.{fault-written, Listed, listed, never-refused}
+use borrow.Author.Needs.{needs}
+use Rattle.case_run.proofs.fault_line.Statement.{statement}
+use Rattle.case_run.proofs.fault_line.Tie as tie
+
+slice-aggregate-hand-over : tie.Need-slice-aggregate-hand-over
+slice-aggregate-hand-over c = search needs
+
+hand-over-requires : tie.Need-hand-over-requires
+hand-over-requires c κs = search needs
+
+enum-known-n : tie.Need-enum-known-n
+enum-known-n c = search needs
+
+enum-told : tie.Need-enum-told
+enum-told c = search needs
+
+returns : tie.Need-returns
+unfolding blank
+returns c =
+    let h = c .before .before .before in
+    let s = h .before .before .before .before in
+    absurd (never-refused (s .args .list .now) (s .pre .0) (h .hand-over .result) (c .enum-told .given .0 .0) (c .enum-told .given .1) (h .hand-over .ensures .0))
+
+-- what hand-over wrote
+handed : (c : tie.After-known-told) → Listed (c .before .before .before .before .before .before .before .before .args .list .now) (c .before .n .given .0 .0) (c .before .before .before .before .hand-over .last .1 .0)
+unfolding blank
+handed c =
+    let h = c .before .before .before .before in
+    let s = h .before .before .before .before in
+    listed (s .args .list .now) (s .pre .0) (h .hand-over .result) (c .before .n .given .0 .0) (h .hand-over .last .1 .0) (c .before .n .given .1) (h .hand-over .ensures .0) (h .hand-over .ensures .1)
+
+check-line-requires : tie.Need-check-line-requires
+check-line-requires c κs = search needs
+
+array-share-prefix-entries : tie.Need-array-share-prefix-entries
+array-share-prefix-entries c = handed (c .before) .within
+
+slice-aggregate-write-line : tie.Need-slice-aggregate-write-line
+slice-aggregate-write-line c = handed (c .before .before) .long
+
+write-line-requires : tie.Need-write-line-requires
+write-line-requires c κs = search needs
+
+same-length : tie.Need-same-length
+same-length c = search needs
+
+returns-2 : tie.Need-returns-2
+returns-2 c =
+    let k = c .before .before in
+    let l = k .before .before .before in
+    let t = l .before in
+    let s = t .before .before .before .before .before .before .before .before in
+    let f = s .args .list .now in
+    fault-written f (t .before .before .before .before .before .before .before .shared-slice-known .given) (s .pre .0) (s .args .check) (l .check-line .result) _ (s .args .out .now) (s .pre .1) (l .check-line .ensures) (handed t .is) (k .write-line .ensures)
+
+pub fault-line-spec : {M : Type 1} → statement M
+fault-line-spec =
+    tie.close
+    (tie.spec
+    slice-aggregate-hand-over
+    hand-over-requires
+    enum-known-n
+    enum-told
+    returns
+    check-line-requires
+    array-share-prefix-entries
+    slice-aggregate-write-line
+    write-line-requires
+    same-length
+    returns-2)

@@ -1,0 +1,103 @@
+-- `case_run::open` meets its contract: an unsound file is refused, and a sound one's lists are read whole. Assumes nothing.
+use Prim.Native.Nat.{ℕ}
+use mathlib.Core.Path.{_≡_}
+use mathlib.Core.List.{List}
+use Rattle.case_file.specs.declared.Layout.{Layout}
+use Rattle.case_file.specs.declared.File.the-variants as file
+use Rattle.case_run.proofs.OpenLaws.{refused-file, places, Read, sound, walls-read, clues-read, made-file}
+use borrow.Author.Needs.{needs}
+use Rattle.case_run.proofs.open.Statement.{statement}
+use Rattle.case_run.proofs.open.Tie as tie
+
+decode-requires : tie.Need-decode-requires
+decode-requires c κs = search needs
+
+enum-known-layout : tie.Need-enum-known-layout
+enum-known-layout c = search needs
+
+enum-told : tie.Need-enum-told
+enum-told c = search needs
+
+unsound-requires : tie.Need-unsound-requires
+unsound-requires c κs = search needs
+
+returns : tie.Need-returns
+returns c =
+    let d = c .before .before .before in
+    let a = d .before .before .args in
+    refused-file (a .file .now) (d .decode .result) (c .unsound .result) (c .before .enum-told .given .1) (d .decode .ensures .0) (c .unsound .ensures)
+
+slice-aggregate-numbers : tie.Need-slice-aggregate-numbers
+slice-aggregate-numbers c = search needs
+
+numbers-requires : tie.Need-numbers-requires
+numbers-requires c κs = search needs
+
+slice-aggregate-numbers-2 : tie.Need-slice-aggregate-numbers-2
+slice-aggregate-numbers-2 c = search needs
+
+numbers-requires-2 : tie.Need-numbers-requires-2
+numbers-requires-2 c κs = search needs
+
+-- what was read into the places
+module _ (c : tie.After-clues2) where
+  abbrev decoded : tie.After-decode
+  decoded = c .before .before .before .before .before .before .before .before .before
+
+  abbrev bytes : List ℕ
+  bytes = decoded .before .before .args .file .now
+
+  abbrev layout : Layout
+  layout = c .before .before .before .before .before .before .before .layout .given .0 .0
+
+  abbrev is-sound : decoded .decode .result ≡ file.Sound layout
+  is-sound = c .before .before .before .before .before .before .before .layout .given .1
+
+  walls : Read (layout .walls .count) (c .before .before .before .before .numbers .last .1 .1 .0) (sound bytes (decoded .decode .result) layout is-sound (decoded .decode .ensures .0) .0 .walls)
+  unfolding places
+  walls = walls-read bytes (decoded .decode .result) layout is-sound (decoded .decode .ensures .0) (c .before .before .before .before .numbers .last .1 .1 .0) (c .before .before .before .before .numbers .ensures)
+
+  clues : Read (layout .clues .count) (c .before .numbers2 .last .1 .1 .0) (sound bytes (decoded .decode .result) layout is-sound (decoded .decode .ensures .0) .0 .clues)
+  unfolding places
+  clues = clues-read bytes (decoded .decode .result) layout is-sound (decoded .decode .ensures .0) (c .before .numbers2 .last .1 .1 .0) (c .before .numbers2 .ensures)
+
+array-share-prefix-walls : tie.Need-array-share-prefix-walls
+array-share-prefix-walls c = walls c .within
+
+slice-aggregate-make : tie.Need-slice-aggregate-make
+slice-aggregate-make c = walls (c .before) .long
+
+array-share-prefix-clues : tie.Need-array-share-prefix-clues
+array-share-prefix-clues c = clues (c .before) .within
+
+slice-aggregate-make-2 : tie.Need-slice-aggregate-make-2
+slice-aggregate-make-2 c = clues (c .before .before) .long
+
+make-requires : tie.Need-make-requires
+make-requires c κs = search needs
+
+returns-2 : tie.Need-returns-2
+returns-2 c =
+    let m = c .before in
+    let t = m .before .before .before in
+    made-file (bytes t) (decoded t .decode .result) (layout t) (is-sound t) (decoded t .decode .ensures .0) (m .make .result) _ _ (walls t .is) (clues t .is) (m .make .ensures)
+
+pub open-spec : {M : Type 1} → statement M
+open-spec =
+    tie.close
+    (tie.spec
+    decode-requires
+    enum-known-layout
+    enum-told
+    unsound-requires
+    returns
+    slice-aggregate-numbers
+    numbers-requires
+    slice-aggregate-numbers-2
+    numbers-requires-2
+    array-share-prefix-walls
+    slice-aggregate-make
+    array-share-prefix-clues
+    slice-aggregate-make-2
+    make-requires
+    returns-2)

@@ -1,0 +1,100 @@
+-- `case_run::run_calls` meets its contract: the invariant `Running` says what is left of the run; one law a call. Assumes nothing.
+use Prim.Native.Nat.{_-_}
+use mathlib.Core.Path.{sym, _∙_}
+use native.Mathlib.Omega.{arith}
+use Rattle.case_run.specs.CaseRun.{lineBy}
+use Rattle.case_run.proofs.RunLaws.{Running, running, no-room, part-room, part-long, part-back, counted, stopped, running-next}
+use borrow.Author.Needs.{needs}
+use Rattle.case_run.proofs.run_calls.Statement.{statement}
+use Rattle.case_run.proofs.run_calls.Tie as tie
+
+abbrev Inv-loop : tie.InvT-loop
+Inv-loop file at count out₀ puzzle₀ next₀ done₀ len₀ out puzzle next done len = Running puzzle₀ file at count out₀ puzzle next done len out
+
+abbrev μ-loop : tie.MeasureT-loop
+μ-loop file at count out₀ puzzle₀ next₀ done₀ len₀ out puzzle next done len = count - done
+
+returns : tie.Need-returns Inv-loop μ-loop
+returns c = let a = c .before .before .before .args in no-room (a .p) (a .file .now) (a .at) (a .count) (a .out .now) (c .if1 .taken)
+
+loop-holds : tie.Need-loop-holds Inv-loop μ-loop
+loop-holds c = let a = c .before .before .before .args in running (a .p) (a .file .now) (a .at) (a .count) (a .out .now) (c .if1 .left)
+
+call-at-requires : tie.Need-call-at-requires Inv-loop μ-loop
+call-at-requires c κs = search needs
+
+enum-known-call : tie.Need-enum-known-call Inv-loop μ-loop
+enum-known-call c = search needs
+
+enum-told : tie.Need-enum-told Inv-loop μ-loop
+enum-told c = search needs
+
+sub-do-call : tie.Need-sub-do-call Inv-loop μ-loop
+sub-do-call c = let i = c .before .before .before .before in omega (arith, part-room (i .before .loop .inv) (i .loop-test .taken))
+
+part-do-call-start : tie.Need-part-do-call-start Inv-loop μ-loop
+part-do-call-start c = let i = c .before .before .before .before in omega (arith, part-room (i .before .loop .inv) (i .loop-test .taken))
+
+part-do-call-end : tie.Need-part-do-call-end Inv-loop μ-loop
+part-do-call-end c = search needs
+
+do-call-requires : tie.Need-do-call-requires Inv-loop μ-loop
+do-call-requires c κs = let i = c .before .before .before .before .before in part-long (i .before .loop .inv) (i .loop-test .taken)
+
+add-done : tie.Need-add-done Inv-loop μ-loop
+add-done c = omega arith
+
+add-len : tie.Need-add-len Inv-loop μ-loop
+add-len c =
+    let k = c .before .before .before .before in
+    let i = k .before .before .before .before .before .before in
+    omega (arith, part-room (i .before .loop .inv) (i .loop-test .taken), i .before .loop .inv .long, k .do-call .ensures .0 .fits, i .before .before .before .before .before .good .1 .1 .1 .1 .0)
+
+loop-less : tie.Need-loop-less Inv-loop μ-loop
+loop-less c = let i = c .before .before .before .before .before .before .before .before .before .before in omega (arith, i .loop-test .taken)
+
+loop-again : tie.Need-loop-again Inv-loop μ-loop
+loop-again c =
+    let k = c .before .before .before .before in
+    let t = k .before .before in
+    let i = k .before .before .before .before .before .before in
+    let r = i .before .loop .inv in
+    running-next r _ _ (k .do-call .result) (i .loop-test .taken) (sym (t .before .call .given .1) ∙ t .before .before .before .call-at .ensures) (k .do-call .ensures .0) (part-back r (lineBy (i .before .loop .puzzle) (t .before .call .given .0 .0)) _ (i .loop-test .taken) (k .do-call .ensures .1))
+
+same-length : tie.Need-same-length Inv-loop μ-loop
+same-length c = c .before .loop .inv .long
+
+returns-2 : tie.Need-returns-2 Inv-loop μ-loop
+returns-2 c = counted (c .before .loop .inv) (c .loop-test .left)
+
+same-length-2 : tie.Need-same-length-2 Inv-loop μ-loop
+same-length-2 c = c .before .before .before .before .loop .inv .long
+
+returns-3 : tie.Need-returns-3 Inv-loop μ-loop
+returns-3 c =
+    let s = c .before .before in
+    stopped (s .before .before .loop .inv) (sym (c .enum-told .given .1) ∙ s .call-at .ensures)
+
+pub run-calls-spec : {M : Type 1} → statement M
+run-calls-spec =
+    tie.close
+    (tie.spec
+    Inv-loop
+    μ-loop
+    returns
+    loop-holds
+    call-at-requires
+    enum-known-call
+    enum-told
+    sub-do-call
+    part-do-call-start
+    part-do-call-end
+    do-call-requires
+    add-done
+    add-len
+    loop-less
+    loop-again
+    same-length
+    returns-2
+    same-length-2
+    returns-3)
