@@ -205,7 +205,7 @@ the largest unit or potential unit. A boundary call of the port groups the board
 ";
 
 const DECIDES: &str = "Each call of the port puts question 2 to the whole record and moves it by value (6 KB for a board, 12 KB for a puzzle), where the Rust
-changes one place. On a full board the first border is left open.
+changes one place. The calls in place are thin ones over those by value. On a full board the first border is left open.
 ";
 
 const ROOMS: &str = "The port's room check lists the arcs anew for each ask and puts question 2 to the record, which the Rust does not. Hand-over stands
