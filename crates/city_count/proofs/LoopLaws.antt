@@ -13,14 +13,10 @@ use lib.ListN.{length, getD, set, drop, drop-of-length-le}
 use lib.Seq.{sets, drop-cons}
 use Rattle.lists.specs.Choice.{both}
 use Rattle.lists.specs.Lists.{In, range, all}
-use Rattle.lists.proofs.Cases.{le-or-lt, true-or-false, not-both}
+use Rattle.lists.proofs.Cases.{le-or-lt}
 use Rattle.lists.proofs.ChoiceLaws.{both-true, true-both}
-use Rattle.lists.proofs.ListLaws.{all-true, true-all, range-in, in-range}
+use Rattle.lists.proofs.ListLaws.{all-not, all-true, true-all, range-in, in-range}
 use Rattle.city_count.specs.Room.{endsExist}
-
--- a test of all fails where it fails at one
-all-not : {A : Type 0} (t : A → Bool) (xs : List A) (x : A) → In x xs → t x ≡ false → all t xs ≡ false
-all-not t xs x m f = ⊎-elim (λ e. absurd (not-both (t x) (all-true t xs e x m) f)) (λ e. e) (true-or-false (all t xs))
 
 module _ (n : ℕ) (us vs : List ℕ) where
   -- the ends of the edges before i exist

@@ -23,7 +23,7 @@ use Rattle.puzzle.specs.declared.Answer.{Answer}
 use Rattle.puzzle.specs.Fault.{Found}
 use Rattle.puzzle.specs.Lists.{roomsFault, roomsIn, Housing, Asking}
 use Rattle.puzzle.specs.Puzzle.{noClues, says, writes}
-use Rattle.puzzle.proofs.Basics.{sets-length}
+use Rattle.lists.proofs.SetsLaws.{front}
 use Rattle.puzzle.proofs.Making.{rooms-few}
 use Rattle.puzzle.proofs.ListsCode.{no-clues-length, rooms-lent}
 
@@ -46,7 +46,7 @@ module _ (g : Grid) (given : List ℕ) (len : ℕ) (w : Given g given len) (ids 
 
   -- each cell's room stands in front
   pub ids-front : take (cells g) ids ≡ roomIds g G
-  ids-front = rw (o .ids-are, ← ids-length) (sets-length noClues (roomIds g G) (omega (arith, few, ids-length, no-clues-length)))
+  ids-front = rw (o .ids-are, ← ids-length) (front noClues (roomIds g G) (omega (arith, few, ids-length, no-clues-length)))
 
   pub ids-keys : (next : List ℕ) → length next ≡ 1024 → Keys (cells g) (take (cells g) ids) (length next)
   ids-keys next l =
