@@ -4,13 +4,22 @@ use Prim.Native.Nat.{ℕ, _≤_}
 use mathlib.Core.Path.{_≡_}
 use mathlib.Core.Bool.{Bool, true, false}
 use mathlib.Core.List.{List, [], _∷_}
-use lib.Dec.{eqb, leb}
+use lib.Dec.{eqb, ltb, leb}
 use lib.ListN.{length, getD, set}
 use Rattle.lists.specs.Choice.{pick, either}
 use Rattle.lists.specs.Lists.{range, all}
 
 abbrev pub givenIn : List ℕ → ℕ → Bool
 givenIn m e = eqb (getD m e 0) 1
+
+-- the greater of two numbers
+abbrev pub greaterOf : ℕ → ℕ → ℕ
+greaterOf a b = pick (ltb a b) b a
+
+-- each of the names is a border
+unfoldable pub allBelow : ℕ → List ℕ → Bool
+unfolding all
+allBelow n l = all (λ e. ltb e n) l
 
 -- a state goes with a mark
 abbrev pub fitsOf : ℕ → ℕ → Bool

@@ -1,22 +1,33 @@
 -- `ledger::mark_names` meets its contract: the loop's invariant is `Walk`, the measure is what is left of the names. Assumes nothing.
-use Prim.Native.Nat.{_-_}
-use mathlib.Core.Path.{refl}
+use Prim.Native.Nat.{_-_, _<_}
+use mathlib.Core.Path.{_≡_, refl, sym, _∙_}
 use native.Mathlib.Omega.{arith}
 use borrow.Author.Needs.{needs}
+use borrow.Author.Tests.{not-true, not-false}
 use denote.Ref.{now}
 use lib.ListN.{length-set}
-use Rattle.ledger.proofs.Loops.{Walk, walk-out, walk-twice, walk-on, walk-end}
+use Rattle.ledger.proofs.Loops.{Walk, name-below, walk-out, walk-on, walk-end}
 use Rattle.ledger.proofs.mark_names.Statement.{statement}
 use Rattle.ledger.proofs.mark_names.Tie as tie
 
 abbrev Inv-loop : tie.InvT-loop
-Inv-loop names len n marks₀ i₀ marks i = Walk names len n marks₀ marks i
+Inv-loop names len n marks₀ new₀ i₀ marks new i = Walk names len n marks₀ marks i new
 
 abbrev μ-loop : tie.MeasureT-loop
-μ-loop names len n marks₀ i₀ marks i = len - i
+μ-loop names len n marks₀ new₀ i₀ marks new i = len - i
+
+inside-requires : tie.Need-inside-requires Inv-loop μ-loop
+inside-requires c κs = search needs
+
+returns : tie.Need-returns Inv-loop μ-loop
+returns c =
+    let k = c .before in
+    let s = k .before .before .before in
+    let o = sym (k .inside .ensures) ∙ not-true (k .inside .result) (c .if1 .taken) in
+    walk-out (now (s .args .names)) (s .args .len) (s .pre .0) (s .args .n) (now (s .args .marks)) (s .pre .1) o
 
 loop-holds : tie.Need-loop-holds Inv-loop μ-loop
-loop-holds c = record { within = omega arith; same = refl; new = refl; marks = refl }
+loop-holds c = record { within = omega arith; same = refl; answer = refl; marks = refl }
 
 mul-wide : tie.Need-mul-wide Inv-loop μ-loop
 mul-wide c = omega arith
@@ -27,31 +38,21 @@ shared-slice-read-wide c = omega arith
 wide-requires : tie.Need-wide-requires Inv-loop μ-loop
 wide-requires c κs = search needs
 
-same-length : tie.Need-same-length Inv-loop μ-loop
-same-length c = c .before .before .before .before .loop .inv .same
-
-returns : tie.Need-returns Inv-loop μ-loop
-returns c =
+slice-read-free : tie.Need-slice-read-free Inv-loop μ-loop
+slice-read-free c =
     let v = c .before in
     let a = v .before .before .before in
-    let s = a .before .before .before in
-    walk-out (now (s .args .names)) (s .args .len) (s .pre .0) (s .args .n) (now (s .args .marks)) (a .loop .marks) (a .loop .i) (v .wide .result) (a .loop .inv) (v .before .before .loop-test .taken) (v .wide .ensures) (c .if1 .taken)
+    let k = a .before .before in
+    let s = k .before .before .before in
+    let b = sym (k .inside .ensures) ∙ not-false (k .inside .result) (a .before .if1 .left) in
+    let e : v .wide .result < s .args .n = name-below (now (s .args .names)) (s .args .len) (s .pre .0) (s .args .n) (a .loop .i) (v .wide .result) (v .before .before .loop-test .taken) (v .wide .ensures) b in
+    omega (arith, a .loop .inv .same, s .pre .1)
 
-slice-read-if2 : tie.Need-slice-read-if2 Inv-loop μ-loop
-slice-read-if2 c = omega arith
-
-same-length-2 : tie.Need-same-length-2 Inv-loop μ-loop
-same-length-2 c = c .before .before .before .before .before .before .loop .inv .same
-
-returns-2 : tie.Need-returns-2 Inv-loop μ-loop
-returns-2 c =
-    let v = c .before .before .before in
-    let a = v .before .before .before in
-    let s = a .before .before .before in
-    walk-twice (now (s .args .names)) (s .args .len) (s .pre .0) (s .args .n) (now (s .args .marks)) (a .loop .marks) (a .loop .i) (v .wide .result) (a .loop .inv) (v .before .before .loop-test .taken) (v .wide .ensures) (c .before .before .if1 .left) (c .if2 .taken)
+free-requires : tie.Need-free-requires Inv-loop μ-loop
+free-requires c κs = search needs
 
 slice-write-marks : tie.Need-slice-write-marks Inv-loop μ-loop
-slice-write-marks c = omega arith
+slice-write-marks c = slice-read-free (c .before)
 
 add-i : tie.Need-add-i Inv-loop μ-loop
 add-i c = omega arith
@@ -61,19 +62,24 @@ loop-less c = omega arith
 
 loop-again : tie.Need-loop-again Inv-loop μ-loop
 loop-again c =
-    let v = c .before .before .before in
+    let v = c .before .before in
     let a = v .before .before .before in
-    let s = a .before .before .before in
-    walk-on (now (s .args .names)) (s .args .len) (s .pre .0) (s .args .n) (now (s .args .marks)) (a .loop .marks) (a .loop .i) (v .wide .result) (a .loop .inv) (v .before .before .loop-test .taken) (v .wide .ensures) (c .before .before .if1 .left) (c .if2 .left) (simp length-set (a .loop .inv .same))
+    let k = a .before .before in
+    let s = k .before .before .before in
+    let b = sym (k .inside .ensures) ∙ not-false (k .inside .result) (a .before .if1 .left) in
+    let names = now (s .args .names) in
+    let e = name-below names (s .args .len) (s .pre .0) (s .args .n) (a .loop .i) (v .wide .result) (v .before .before .loop-test .taken) (v .wide .ensures) b in
+    walk-on names (s .args .len) (s .pre .0) (s .args .n) (now (s .args .marks)) (a .loop .marks) (a .loop .i) (v .wide .result) (a .loop .new) (c .free .result) (a .loop .inv) (v .before .before .loop-test .taken) (v .wide .ensures) e (c .free .ensures) (simp length-set (a .loop .inv .same))
 
-same-length-3 : tie.Need-same-length-3 Inv-loop μ-loop
-same-length-3 c = c .before .loop .inv .same
+same-length : tie.Need-same-length Inv-loop μ-loop
+same-length c = c .before .loop .inv .same
 
-returns-3 : tie.Need-returns-3 Inv-loop μ-loop
-returns-3 c =
+returns-2 : tie.Need-returns-2 Inv-loop μ-loop
+returns-2 c =
     let a = c .before in
-    let s = a .before .before .before in
-    walk-end (now (s .args .names)) (s .args .len) (s .pre .0) (s .args .n) (now (s .args .marks)) (a .loop .marks) (a .loop .i) (a .loop .inv) (c .loop-test .left)
+    let k = a .before .before in
+    let s = k .before .before .before in
+    walk-end (now (s .args .names)) (s .args .len) (s .pre .0) (s .args .n) (now (s .args .marks)) (a .loop .marks) (a .loop .i) (a .loop .new) (a .loop .inv) (c .loop-test .left)
 
 pub mark-names-spec : {M : Type 1} → statement M
 mark-names-spec =
@@ -81,18 +87,17 @@ mark-names-spec =
     (tie.spec
     Inv-loop
     μ-loop
+    inside-requires
+    returns
     loop-holds
     mul-wide
     shared-slice-read-wide
     wide-requires
-    same-length
-    returns
-    slice-read-if2
-    same-length-2
-    returns-2
+    slice-read-free
+    free-requires
     slice-write-marks
     add-i
     loop-less
     loop-again
-    same-length-3
-    returns-3)
+    same-length
+    returns-2)
