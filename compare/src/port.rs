@@ -1,6 +1,7 @@
 //! The port: safe wrappers of the functions that crate `exports` hands out.
 //! The declarations must agree with crates/exports; nothing but these comparisons checks that.
 
+pub mod file;
 mod lent;
 mod puzzle;
 
@@ -127,6 +128,44 @@ mod c {
     }
 
     #[repr(C)]
+    pub struct Opened {
+        pub code: u8,
+        pub puzzle: Puzzle,
+        pub at: usize,
+        pub count: usize,
+    }
+
+    #[repr(C)]
+    pub struct Ran {
+        pub puzzle: Puzzle,
+        pub at: usize,
+        pub done: usize,
+        pub len: usize,
+    }
+
+    #[repr(C)]
+    #[derive(Clone, Copy, Debug, Default, PartialEq, Eq)]
+    pub struct Parts {
+        pub code: u8,
+        pub height: usize,
+        pub width: usize,
+        pub walls_at: usize,
+        pub walls_count: usize,
+        pub clues_at: usize,
+        pub clues_count: usize,
+        pub calls_at: usize,
+        pub calls_count: usize,
+    }
+
+    #[repr(C)]
+    pub struct CallFields {
+        pub code: u8,
+        pub kind: u8,
+        pub border: usize,
+        pub behind: usize,
+    }
+
+    #[repr(C)]
     pub struct Verdict {
         pub code: u8,
         pub fault: bool,
@@ -191,6 +230,35 @@ mod c {
         pub fn sendai_potential_unit_boundary(board: Board, unit: usize, buffer: *mut u16, room: usize) -> Listing;
         pub fn sendai_board_ask(board: Board, buffer: *mut u16, room: usize) -> Verdict;
         pub fn sendai_hand_over(entries: *const u16, length: usize, buffer: *mut u16, room: usize) -> Listing;
+        pub fn sendai_case_open(file: *const u8, length: usize) -> Opened;
+        pub fn sendai_case_run(
+            file: *const u8,
+            length: usize,
+            at: usize,
+            count: usize,
+            puzzle: Puzzle,
+            out: *mut u8,
+            room: usize,
+        ) -> Ran;
+        pub fn sendai_file_decode(file: *const u8, length: usize) -> Parts;
+        pub fn sendai_file_call(file: *const u8, length: usize, at: usize) -> CallFields;
+        pub fn sendai_file_number(file: *const u8, length: usize, at: usize, count: usize, k: usize) -> usize;
+        pub fn sendai_file_numbers(
+            file: *const u8,
+            length: usize,
+            at: usize,
+            count: usize,
+            out: *mut u16,
+            room: usize,
+        );
+        pub fn sendai_line(
+            kind: u8,
+            number: usize,
+            entries: *const u16,
+            length: usize,
+            buffer: *mut u8,
+            room: usize,
+        ) -> usize;
     }
 }
 

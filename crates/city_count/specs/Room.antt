@@ -34,9 +34,13 @@ zeroRoom = freshRoom 0 0 zeros zeros 0
 abbrev pub answer : ℕ → CityCountConstraint → Decided
 answer k r = record { code = k; room = r }
 
+-- number i of a list is below n
+abbrev pub below : ℕ → List ℕ → ℕ → Bool
+below n xs i = ltb (getD xs i 0) n
+
 -- "Does every vertex named exist?"
 unfoldable pub endsExist : ℕ → ℕ → List ℕ → List ℕ → Bool
-endsExist n m us vs = all (λ i. both (ltb (getD us i 0) n) (ltb (getD vs i 0) n)) (range m)
+endsExist n m us vs = all (λ i. both (below n us i) (below n vs i)) (range m)
 
 -- no edge of a lone graph is given
 abbrev pub noneGiven : ℕ → Bool
