@@ -10,7 +10,7 @@ use lib.ListN.{length, getD, set, take, replicate}
 use lib.Seq.{sets}
 use Rattle.lists.specs.Choice.{both, pick}
 use Rattle.lists.specs.Lists.{range, all}
-use Rattle.ledger.specs.Ledger.{stateOf, holdsOf}
+use Rattle.ledger.specs.Ledger.{stateFor, holdsOf}
 use Rattle.room_parts.specs.Graph.{Graph, graph, statesIn}
 use Rattle.city_count.specs.Fault.{roomFault, listOf}
 use Rattle.city_count.specs.declared.CityCountConstraint.{CityCountConstraint}
@@ -81,7 +81,7 @@ placed r e wall =
       us = r .us;
       vs = r .vs;
       count = r .count;
-      states = set (r .states) e (stateOf wall);
+      states = set (r .states) e (stateFor wall);
       ledger = set (r .ledger) (r .len) e;
       len = r .len + 1;
     }

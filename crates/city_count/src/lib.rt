@@ -6,7 +6,7 @@ ghost use lib.ListN.{length, getD};
 ghost use lib.Seq.{sets};
 ghost use lib.Dec.{eqb};
 ghost use Rattle.lists.specs.Lists.{range, all};
-ghost use Rattle.ledger.specs.Ledger.{stateOf};
+ghost use Rattle.ledger.specs.Ledger.{stateFor};
 ghost use Rattle.room_parts.specs.Graph.{graph, statesIn, Lent};
 ghost use Rattle.city_count.specs.Fault.{entryOf, entriesOf, roomFault, listOf};
 ghost use Rattle.city_count.specs.Room.{foundOf, below, endsExist, checkOf, roomCode, zeroRoom, answer, makeOf, placed, taken, decideOf, undoOf, askOf, askedIn, Sized};
@@ -65,7 +65,7 @@ fn entry(edge: usize, wall: bool) -> u16
 
 // Whether an edge of this state is Wall, or Connected.
 fn stands(state: u8, wall: bool) -> bool
-    ensures { λ r. ⌜ r ≡ eqb state (stateOf wall) ⌝ }
+    ensures { λ r. ⌜ r ≡ eqb state (stateFor wall) ⌝ }
 {
     if wall {
         return state == 2;
@@ -76,8 +76,8 @@ fn stands(state: u8, wall: bool) -> bool
 // Writes the entries of all Walls, or of all Connected edges, to the buffer's front, and returns how many there are.
 fn list(m: usize, states: &[u8], wall: bool, buf: &mut [u16]) -> usize
     requires { ⌜ (m ≤ 1984) × (m ≤ length (now states)) × (m ≤ length (now buf)) ⌝ }
-    ensures { λ r. ⌜ r ≡ length (entriesOf (entryOf wall) (stateOf wall) m (statesIn (now (states .entry)))) ⌝ }
-    ensures { λ r. ⌜ now (buf .exit) ≡ sets (now (buf .entry)) 0 (entriesOf (entryOf wall) (stateOf wall) m (statesIn (now (states .entry)))) ⌝ }
+    ensures { λ r. ⌜ r ≡ length (entriesOf (entryOf wall) (stateFor wall) m (statesIn (now (states .entry)))) ⌝ }
+    ensures { λ r. ⌜ now (buf .exit) ≡ sets (now (buf .entry)) 0 (entriesOf (entryOf wall) (stateFor wall) m (statesIn (now (states .entry)))) ⌝ }
 {
     let mut n = 0;
     let mut i = 0;
