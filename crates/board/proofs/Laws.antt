@@ -6,8 +6,8 @@ use mathlib.Core.Logic.{_⊎_, inl, inr, _≢_, ⊎-elim}
 use mathlib.Core.Bool.{Bool, true, false, true≢false}
 use mathlib.Core.List.{List}
 use native.Mathlib.Omega.{arith}
-use borrow.Author.Tests.{eq-eqb, ne-eqb, lt-ltb, le-ltb, le-leb, leb-true, lt-leb}
-use lib.Dec.{eqb, leb}
+use borrow.Author.Tests.{eqb-true, eqb-false, eq-eqb, ne-eqb, ltb-true, lt-ltb, le-ltb, le-leb, leb-true, lt-leb}
+use lib.Dec.{eqb, ltb, leb}
 use lib.ListN.{length, getD, take, replicate, getD-replicate, length-replicate, List·getD-eq-default}
 use lib.Seq.{getD-take, length-take-le}
 use Rattle.lists.specs.Choice.{both, pick}
@@ -21,8 +21,7 @@ use Rattle.ledger.specs.Ledger.{holdsOf}
 use Rattle.ledger.specs.Marks.{givenIn, Lent}
 use Rattle.ledger.proofs.Question.{Question, holds-question, room-left}
 use Rattle.board.specs.declared.Board.{Board}
-use Rattle.board.specs.declared.Decided.{Decided}
-use Rattle.board.specs.Board.{zeros, answer, sizeOf, bordersOf, noneGiven, together, checkOf, boardCode, asked, placed, decideOf, taken, undoOf}
+use Rattle.board.specs.Board.{zeros, answer, sizeOf, bordersOf, noneGiven, together, checkOf, boardCode, decideCode, undoCode, placed, decideOf, taken, undoOf}
 
 pub zero-at : (e : ℕ) → getD zeros e 0 ≡ 0
 unfolding zeros
@@ -103,13 +102,7 @@ module _ (h w : ℕ) (s l : List ℕ) (len : ℕ) (r : Ready h w s l len) (long 
       rw (getD-take len l (len - 1) 0 b) at (question .inside (getD (take len l) (len - 1) 0) (getD-in 0 (take len l) (len - 1) i))
 
 module _ (b : Board) (code : ℕ) (q : code ≡ boardCode b) where
-  pub refused : (d : Decided) → code ≢ 0 → answer code b ≡ asked b d
-  refused d z = rw (← q, ne-eqb code 0 z)
-
   module _ (z : code ≡ 0) where
-    passed : (d : Decided) → d ≡ asked b d
-    passed d = rw (← q, z)
-
     pub board-ready : Ready (b .height) (b .width) (b .states) (b .ledger) (b .len)
     board-ready = ready (b .height) (b .width) (b .states) (b .ledger) (b .len) (sym q ∙ z)
 
@@ -127,3 +120,80 @@ module _ (b : Board) (code : ℕ) (q : code ≡ boardCode b) where
 
     pub undone : b .len ≢ 0 → answer 0 (taken b) ≡ undoOf b
     undone h = rw (← q, z, ne-eqb (b .len) 0 h)
+
+-- the number of a decide and of an undo, by what the code tests
+module _ (h w : ℕ) (s l : List ℕ) (len code : ℕ) (q : code ≡ checkOf h w s l len) where
+  pub decide-refused : (e : ℕ) → code ≢ 0 → code ≡ decideCode h w s l len e
+  decide-refused e z = rw (← q, ne-eqb code 0 z)
+
+  pub undo-refused : code ≢ 0 → code ≡ undoCode h w s l len
+  undo-refused z = rw (← q, ne-eqb code 0 z)
+
+  module _ (z : code ≡ 0) where
+    pub parts-ready : Ready h w s l len
+    parts-ready = ready h w s l len (sym q ∙ z)
+
+    pub decide-outside : (e : ℕ) → borderCount (grid h w) ≤ e → 3 ≡ decideCode h w s l len e
+    decide-outside e k = rw (← q, z, le-ltb e (borderCount (grid h w)) k)
+
+    pub decide-again : (e : ℕ) → e < borderCount (grid h w) → getD s e 0 ≢ 0 → 4 ≡ decideCode h w s l len e
+    decide-again e k f = rw (← q, z, lt-ltb e (borderCount (grid h w)) k, ne-eqb (getD s e 0) 0 f)
+
+    pub decide-clear : (e : ℕ) → e < borderCount (grid h w) → getD s e 0 ≡ 0 → 0 ≡ decideCode h w s l len e
+    decide-clear e k f = rw (← q, z, lt-ltb e (borderCount (grid h w)) k, f)
+
+    pub undo-empty : len ≡ 0 → 5 ≡ undoCode h w s l len
+    undo-empty k = rw (← q, z, k)
+
+    pub undo-clear : len ≢ 0 → 0 ≡ undoCode h w s l len
+    undo-clear k = rw (← q, z, ne-eqb len 0 k)
+
+-- a decide that no question refuses
+pub record Undecided (h w : ℕ) (s l : List ℕ) (len e : ℕ) : Type 0 where
+  pub code : checkOf h w s l len ≡ 0
+  pub below : e < borderCount (grid h w)
+  pub free : getD s e 0 ≡ 0
+
+-- an undo that no question refuses
+pub record Undoable (h w : ℕ) (s l : List ℕ) (len : ℕ) : Type 0 where
+  pub code : checkOf h w s l len ≡ 0
+  pub some : len ≢ 0
+
+module _ (h w : ℕ) (s l : List ℕ) (len : ℕ) where
+  pub undecided : (e code : ℕ) → code ≡ decideCode h w s l len e → code ≡ 0 → Undecided h w s l len e
+  undecided e code k n = go (eqb (checkOf h w s l len) 0) (ltb e (borderCount (grid h w))) (eqb (getD s e 0) 0) refl refl refl (sym k ∙ n)
+    where
+      go : (t u v : Bool) → eqb (checkOf h w s l len) 0 ≡ t → ltb e (borderCount (grid h w)) ≡ u → eqb (getD s e 0) 0 ≡ v
+          → _≡_ {A = ℕ} (pick t (pick u (pick v 0 4) 3) (checkOf h w s l len)) 0 → Undecided h w s l len e
+      go true true true p q r z = record { code = eqb-true _ _ p; below = ltb-true _ _ q; free = eqb-true _ _ r }
+      go true true false p q r z = absurd (omega arith)
+      go true false v p q r z = absurd (omega arith)
+      go false u v p q r z = absurd (eqb-false _ _ p z)
+
+  pub undoable : (code : ℕ) → code ≡ undoCode h w s l len → code ≡ 0 → Undoable h w s l len
+  undoable code k n = go (eqb (checkOf h w s l len) 0) (eqb len 0) refl refl (sym k ∙ n)
+    where
+      go : (t u : Bool) → eqb (checkOf h w s l len) 0 ≡ t → eqb len 0 ≡ u → _≡_ {A = ℕ} (pick t (pick u 5 0) (checkOf h w s l len)) 0 → Undoable h w s l len
+      go true true p q z = absurd (omega arith)
+      go true false p q z = record { code = eqb-true _ _ p; some = eqb-false _ _ q }
+      go false u p q z = absurd (eqb-false _ _ p z)
+
+-- the answers, by the number
+module _ (b : Board) (code : ℕ) where
+  pub decide-answer : (e : ℕ) (wall : Bool) → code ≡ decideCode (b .height) (b .width) (b .states) (b .ledger) (b .len) e → code ≢ 0 → answer code b ≡ decideOf b e wall
+  decide-answer e wall q z = go (eqb (boardCode b) 0) (ltb e (bordersOf b)) (eqb (getD (b .states) e 0) 0) q
+    where
+      go : (t u v : Bool) → code ≡ pick t (pick u (pick v 0 4) 3) (boardCode b)
+          → answer code b ≡ pick t (pick u (pick v (answer 0 (placed b e wall)) (answer 4 b)) (answer 3 b)) (answer (boardCode b) b)
+      go true true true p = absurd (z p)
+      go true true false p = ap (λ n. answer n b) p
+      go true false v p = ap (λ n. answer n b) p
+      go false u v p = ap (λ n. answer n b) p
+
+  pub undo-answer : code ≡ undoCode (b .height) (b .width) (b .states) (b .ledger) (b .len) → code ≢ 0 → answer code b ≡ undoOf b
+  undo-answer q z = go (eqb (boardCode b) 0) (eqb (b .len) 0) q
+    where
+      go : (t u : Bool) → code ≡ pick t (pick u 5 0) (boardCode b) → answer code b ≡ pick t (pick u (answer 5 b) (answer 0 (taken b))) (answer (boardCode b) b)
+      go true true p = ap (λ n. answer n b) p
+      go true false p = absurd (z p)
+      go false u p = ap (λ n. answer n b) p

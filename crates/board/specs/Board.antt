@@ -49,6 +49,15 @@ checkOf h w s l len = pick (sizesOk (grid h w)) (pick (together (borderCount (gr
 abbrev pub boardCode : Board → ℕ
 boardCode b = checkOf (b .height) (b .width) (b .states) (b .ledger) (b .len)
 
+-- the number for a decide of a border, or 0
+abbrev pub decideCode : ℕ → ℕ → List ℕ → List ℕ → ℕ → ℕ → ℕ
+decideCode h w s l len e =
+    pick (eqb (checkOf h w s l len) 0) (pick (ltb e (borderCount (grid h w))) (pick (eqb (getD s e 0) 0) 0 4) 3) (checkOf h w s l len)
+
+-- the number for an undo, or 0
+abbrev pub undoCode : ℕ → ℕ → List ℕ → List ℕ → ℕ → ℕ
+undoCode h w s l len = pick (eqb (checkOf h w s l len) 0) (pick (eqb len 0) 5 0) (checkOf h w s l len)
+
 -- a refused making returns zeros
 abbrev pub makeOf : ℕ → ℕ → Decided
 makeOf h w = pick (sizesOk (grid h w)) (answer 0 (freshBoard h w)) (answer 1 zeroBoard)

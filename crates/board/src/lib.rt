@@ -1,8 +1,9 @@
 // The board (`BoardManager`): making, decide and undo on a record by value, and whether a record holds together.
 ghost use mathlib.Core.Path.{_≡_};
 ghost use Prim.Native.Nat.{_-_, _≤_, _<_};
-ghost use lib.ListN.{length, getD};
-ghost use Rattle.board.specs.Board.{freshBoard, makeOf, checkOf, boardCode, placed, taken, decideOf, undoOf};
+ghost use lib.ListN.{length, getD, set};
+ghost use Rattle.ledger.specs.Ledger.{stateOf};
+ghost use Rattle.board.specs.Board.{freshBoard, makeOf, checkOf, boardCode, placed, taken, decideOf, undoOf, decideCode, undoCode};
 
 // States stand at their border's number; the ledger's first `len` places name the decided borders in order.
 #[repr(C)]
@@ -113,45 +114,127 @@ pub fn take_back(b: Board) -> Board
     next
 }
 
-// Decides a border as Wall or Connected.
+// 01's number for a decide of the border on a board of these parts, or 0.
+fn decide_code<'a>(
+    height: usize,
+    width: usize,
+    states: &'a [u8],
+    names: &'a [u16],
+    len: usize,
+    border: usize,
+) -> u8
+    requires { ⌜ (length (now states) ≡ 1984) × (length (now names) ≡ 1984) ⌝ }
+    ensures { λ r. ⌜ r ≡ decideCode height width (now (states .entry)) (now (names .entry)) len border ⌝ }
+{
+    let code = check_parts(height, width, states, names, len);
+    if code != 0 {
+        return code;
+    }
+    if grid::border_count(height, width) <= border {
+        return 3;
+    }
+    if states[border] != 0 {
+        return 4;
+    }
+    0
+}
+
+// 01's number for an undo on a board of these parts, or 0.
+fn undo_code<'a>(height: usize, width: usize, states: &'a [u8], names: &'a [u16], len: usize) -> u8
+    requires { ⌜ (length (now states) ≡ 1984) × (length (now names) ≡ 1984) ⌝ }
+    ensures { λ r. ⌜ r ≡ undoCode height width (now (states .entry)) (now (names .entry)) len ⌝ }
+{
+    let code = check_parts(height, width, states, names, len);
+    if code != 0 {
+        return code;
+    }
+    if len == 0 {
+        return 5;
+    }
+    0
+}
+
+// The state of a decided border.
+fn state_of(wall: bool) -> u8
+    ensures { λ r. ⌜ r ≡ stateOf wall ⌝ }
+{
+    if wall {
+        return 2;
+    }
+    1
+}
+
+// Puts a state at its border.
+fn set_state(states: &mut [u8; 1984], border: usize, state: u8)
+    requires { ⌜ border < 1984 ⌝ }
+    ensures { λ r. ⌜ now (states .exit) ≡ set (now (states .entry)) border state ⌝ }
+{
+    states[border] = state;
+}
+
+// The border that a place of the ledger names.
+fn name_at(names: &[u16], at: usize) -> u16
+    requires { ⌜ at < length (now names) ⌝ }
+    ensures { λ r. ⌜ r ≡ getD (now (names .entry)) at 0 ⌝ }
+{
+    names[at]
+}
+
+// Puts a border's number at a place of the ledger.
+fn set_name(names: &mut [u16; 1984], at: usize, border: u16)
+    requires { ⌜ at < 1984 ⌝ }
+    ensures { λ r. ⌜ now (names .exit) ≡ set (now (names .entry)) at border ⌝ }
+{
+    names[at] = border;
+}
+
+// Decides a border as Wall or Connected. The answer is made first and changed where it stands: the record's 6 KB are
+// copied in and out, and not once more.
 pub fn decide(b: Board, border: usize, wall: bool) -> Decided
     ensures { λ r. ⌜ r ≡ decideOf b border wall ⌝ }
 {
-    let code = check_parts(b.height, b.width, &b.states, &b.ledger, b.len);
+    let at = b.len;
+    let mut out = Decided { code: 0, board: b };
+    let code = decide_code(
+        b.height,
+        b.width,
+        &out.board.states,
+        &out.board.ledger,
+        at,
+        border,
+    );
     if code != 0 {
-        return Decided {
-            code: code,
-            board: b,
-        };
+        out.code = code;
+        return out;
     }
-    if grid::border_count(b.height, b.width) <= border {
-        return Decided { code: 3, board: b };
-    }
-    if b.states[border] != 0 {
-        return Decided { code: 4, board: b };
-    }
-    Decided {
-        code: 0,
-        board: place(b, border, wall),
-    }
+    let state = state_of(wall);
+    set_state(&mut out.board.states, border, state);
+    let name = border as u16;
+    set_name(&mut out.board.ledger, at, name);
+    out.board.len = at + 1;
+    out
 }
 
 // Takes the last decision back.
 pub fn undo(b: Board) -> Decided
     ensures { λ r. ⌜ r ≡ undoOf b ⌝ }
 {
-    let code = check_parts(b.height, b.width, &b.states, &b.ledger, b.len);
+    let mut out = Decided { code: 0, board: b };
+    let code = undo_code(
+        b.height,
+        b.width,
+        &out.board.states,
+        &out.board.ledger,
+        b.len,
+    );
     if code != 0 {
-        return Decided {
-            code: code,
-            board: b,
-        };
+        out.code = code;
+        return out;
     }
-    if b.len == 0 {
-        return Decided { code: 5, board: b };
-    }
-    Decided {
-        code: 0,
-        board: take_back(b),
-    }
+    let at = b.len - 1;
+    let border = name_at(&out.board.ledger, at) as usize;
+    set_state(&mut out.board.states, border, 0);
+    set_name(&mut out.board.ledger, at, 0);
+    out.board.len = at;
+    out
 }

@@ -1,102 +1,86 @@
--- `board::decide` meets its contract: a law for each answer, and a free place in the ledger for an undecided border. Assumes nothing.
-use Prim.Native.Nat.{_<_}
-use mathlib.Core.Path.{_≡_}
+-- `board::decide` meets its contract: a refusal's number, or a free place in the ledger for an undecided border. Assumes nothing.
+use mathlib.Core.Path.{_≡_, refl}
 use native.Mathlib.Omega.{arith}
+use borrow.Author.Needs.{needs}
 use lib.ListN.{length}
 use Rattle.grid.proofs.Geometry.{borderCount-le}
-use Rattle.board.specs.Board.{bordersOf, sizeOf}
-use Rattle.board.proofs.Laws.{refused, board-ready, no-border, not-free, decided, place-free}
-use borrow.Author.Needs.{needs}
+use Rattle.board.specs.Board.{sizeOf}
+use Rattle.board.proofs.Laws.{ready, undecided, decide-answer, decided, place-free}
 use Rattle.board.proofs.decide.Statement.{statement}
 use Rattle.board.proofs.decide.Tie as tie
 
-check-parts-requires : tie.Need-check-parts-requires
-check-parts-requires c κs = search needs
+decide-code-requires : tie.Need-decide-code-requires
+decide-code-requires c κs = search needs
 
 returns : tie.Need-returns
 returns c =
     let k = c .before in
     let s = k .before .before .before .before .before .before in
-    let b = s .args .t1 in
-    let code = k .check-parts .result in
-    let q = k .check-parts .ensures in
-    refused b code q _ (c .if1 .taken)
+    decide-answer (s .args .b) (k .decide-code .result) (s .args .border) (s .args .wall) (k .decide-code .ensures) (c .if1 .taken)
 
-border-count-requires : tie.Need-border-count-requires
-border-count-requires c κs =
-    let k = c .before in
+state-of-requires : tie.Need-state-of-requires
+state-of-requires c κs = search needs
+
+set-state-requires : tie.Need-set-state-requires
+set-state-requires c κs =
+    let e = c .before .before in
+    let k = e .before in
     let s = k .before .before .before .before .before .before in
-    let b = s .args .t1 in
-    let code = k .check-parts .result in
-    let q = k .check-parts .ensures in
-    let z = c .if1 .left in
-    board-ready b code q z .limits
+    let b = s .args .b in
+    let u = undecided (b .height) (b .width) (b .states) (b .ledger) (b .len) (s .args .border) (k .decide-code .result) (k .decide-code .ensures) (e .if1 .left) in
+    let r = ready (b .height) (b .width) (b .states) (b .ledger) (b .len) (u .code) in
+    omega (arith, borderCount-le (sizeOf b) (r .limits), u .below)
+
+cast-name : tie.Need-cast-name
+cast-name c =
+    let e = c .before .before .before in
+    let k = e .before in
+    let s = k .before .before .before .before .before .before in
+    let b = s .args .b in
+    let u = undecided (b .height) (b .width) (b .states) (b .ledger) (b .len) (s .args .border) (k .decide-code .result) (k .decide-code .ensures) (e .if1 .left) in
+    let r = ready (b .height) (b .width) (b .states) (b .ledger) (b .len) (u .code) in
+    omega (arith, borderCount-le (sizeOf b) (r .limits), u .below)
+
+set-name-requires : tie.Need-set-name-requires
+set-name-requires c κs =
+    let e = c .before .before .before .before in
+    let k = e .before in
+    let s = k .before .before .before .before .before .before in
+    let b = s .args .b in
+    let u = undecided (b .height) (b .width) (b .states) (b .ledger) (b .len) (s .args .border) (k .decide-code .result) (k .decide-code .ensures) (e .if1 .left) in
+    let r = ready (b .height) (b .width) (b .states) (b .ledger) (b .len) (u .code) in
+    let long : length (b .ledger) ≡ 1984 = search needs in
+    place-free (b .height) (b .width) (b .states) (b .ledger) (b .len) r long (s .args .border) (u .below) (u .free)
+
+add-out : tie.Need-add-out
+add-out c =
+    let e = c .before .before .before .before .before in
+    let k = e .before in
+    let s = k .before .before .before .before .before .before in
+    let b = s .args .b in
+    let u = undecided (b .height) (b .width) (b .states) (b .ledger) (b .len) (s .args .border) (k .decide-code .result) (k .decide-code .ensures) (e .if1 .left) in
+    let r = ready (b .height) (b .width) (b .states) (b .ledger) (b .len) (u .code) in
+    omega (arith, borderCount-le (sizeOf b) (r .limits), r .short)
 
 returns-2 : tie.Need-returns-2
 returns-2 c =
-    let k = c .before .before .before in
+    let e = c .before .before .before .before .before .before in
+    let k = e .before in
     let s = k .before .before .before .before .before .before in
-    let b = s .args .t1 in
-    let code = k .check-parts .result in
-    let q = k .check-parts .ensures in
-    let z = c .before .before .if1 .left in
-    no-border b code q z (s .args .border) (s .args .wall) (rw (c .before .border-count .ensures) at (c .if2 .taken))
-
-element-copy-out-if3 : tie.Need-element-copy-out-if3
-element-copy-out-if3 c =
-    let k = c .before .before .before in
-    let s = k .before .before .before .before .before .before in
-    let b = s .args .t1 in
-    let code = k .check-parts .result in
-    let q = k .check-parts .ensures in
-    let z = c .before .before .if1 .left in
-    let h : s .args .border < bordersOf b = rw (c .before .border-count .ensures) at (c .if2 .left) in
-    omega (arith, borderCount-le (sizeOf b) (board-ready b code q z .limits))
-
-returns-3 : tie.Need-returns-3
-returns-3 c =
-    let k = c .before .before .before .before .before in
-    let s = k .before .before .before .before .before .before in
-    let b = s .args .t1 in
-    let code = k .check-parts .result in
-    let q = k .check-parts .ensures in
-    let z = c .before .before .before .before .if1 .left in
-    let h : s .args .border < bordersOf b = rw (c .before .before .before .border-count .ensures) at (c .before .before .if2 .left) in
-    not-free b code q z (s .args .border) (s .args .wall) h (c .if3 .taken)
-
-place-requires : tie.Need-place-requires
-place-requires c κs =
-    let k = c .before .before .before .before .before in
-    let s = k .before .before .before .before .before .before in
-    let b = s .args .t1 in
-    let code = k .check-parts .result in
-    let q = k .check-parts .ensures in
-    let z = c .before .before .before .before .if1 .left in
-    let h : s .args .border < bordersOf b = rw (c .before .before .before .border-count .ensures) at (c .before .before .if2 .left) in
-    let r = board-ready b code q z in
-    let long : length (b .ledger) ≡ 1984 = search needs in
-    (omega (arith, borderCount-le (sizeOf b) (r .limits)), place-free (b .height) (b .width) (b .states) (b .ledger) (b .len) r long (s .args .border) h (c .if3 .left))
-
-returns-4 : tie.Need-returns-4
-returns-4 c =
-    let k = c .before .before .before .before .before .before in
-    let s = k .before .before .before .before .before .before in
-    let b = s .args .t1 in
-    let code = k .check-parts .result in
-    let q = k .check-parts .ensures in
-    let z = c .before .before .before .before .before .if1 .left in
-    let h : s .args .border < bordersOf b = rw (c .before .before .before .before .border-count .ensures) at (c .before .before .before .if2 .left) in
-    rw (c .place .ensures) (decided b code q z (s .args .border) (s .args .wall) h (c .before .if3 .left))
+    let b = s .args .b in
+    let u = undecided (b .height) (b .width) (b .states) (b .ledger) (b .len) (s .args .border) (k .decide-code .result) (k .decide-code .ensures) (e .if1 .left) in
+    let r = ready (b .height) (b .width) (b .states) (b .ledger) (b .len) (u .code) in
+    rw (c .before .set-name .ensures, c .before .before .before .set-state .ensures, c .before .before .before .before .before .state-of .ensures) (decided b _ refl (u .code) (s .args .border) (s .args .wall) (u .below) (u .free))
 
 pub decide-spec : {M : Type 1} → statement M
 decide-spec =
     tie.close
     (tie.spec
-    check-parts-requires
+    decide-code-requires
     returns
-    border-count-requires
-    returns-2
-    element-copy-out-if3
-    returns-3
-    place-requires
-    returns-4)
+    state-of-requires
+    set-state-requires
+    cast-name
+    set-name-requires
+    add-out
+    returns-2)
