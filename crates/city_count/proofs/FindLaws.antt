@@ -1,11 +1,11 @@
 -- The three ways through the check: what is found and what the buffer then holds.
 -- Assumes nothing.
-use Prim.Native.Nat.{ℕ, _≤_, _<_}
+use Prim.Native.Nat.{ℕ}
 use mathlib.Core.Path.{_≡_, refl}
 use mathlib.Core.Bool.{true, false}
 use mathlib.Core.List.{List}
 use mathlib.Core.Option.{Option, none, some}
-use borrow.Author.Tests.{lt-ltb, le-ltb}
+use lib.Dec.{ltb}
 use lib.ListN.{length}
 use lib.Seq.{sets}
 use Rattle.lists.specs.Choice.{give, orElse}
@@ -30,14 +30,14 @@ module _ (g : Graph) (count : ℕ) (s : ℕ → ℕ) (buf : List ℕ) where
   unfolding roomFault give orElse
   find-tipped n buf' t o = found (roomFault g count s) (entriesOf connectedEntry 1 (g .edges) s) n buf' (rw t) (o .0) (o .1)
 
-  pub find-many : (n : ℕ) (buf' : List ℕ) → tippedOf g count s ≡ false → count < joinedParts g s
+  pub find-many : (n : ℕ) (buf' : List ℕ) → tippedOf g count s ≡ false → ltb count (joinedParts g s) ≡ true
       → (n ≡ length (entriesOf wallEntry 2 (g .edges) s)) × (buf' ≡ sets buf 0 (entriesOf wallEntry 2 (g .edges) s)) → Finds (Listed n) buf'
   unfolding roomFault give orElse
-  find-many n buf' t h o = found (roomFault g count s) (entriesOf wallEntry 2 (g .edges) s) n buf' (rw (t, lt-ltb count (joinedParts g s) h)) (o .0) (o .1)
+  find-many n buf' t h o = found (roomFault g count s) (entriesOf wallEntry 2 (g .edges) s) n buf' (rw (t, h)) (o .0) (o .1)
 
   nothing : (f : Option (List ℕ)) → f ≡ none → (Nothing ≡ foundOf f) × (buf ≡ sets buf 0 (listOf f))
   nothing f e = rw e (refl, refl)
 
-  pub find-none : tippedOf g count s ≡ false → joinedParts g s ≤ count → Finds Nothing buf
+  pub find-none : tippedOf g count s ≡ false → ltb count (joinedParts g s) ≡ false → Finds Nothing buf
   unfolding roomFault give orElse
-  find-none t h = nothing (roomFault g count s) (rw (t, le-ltb count (joinedParts g s) h))
+  find-none t h = nothing (roomFault g count s) (rw (t, h))

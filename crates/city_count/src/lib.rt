@@ -92,7 +92,6 @@ fn list(m: usize, states: &[u8], wall: bool, buf: &mut [u16]) -> usize
 }
 
 // The check of a graph whose edges have these states: the list of a fault goes to the buffer's front, and a clear graph leaves the buffer.
-// The walk is left out where a bound of the parts is within the count.
 pub fn find_inconsistency<'a>(
     n: usize,
     m: usize,
@@ -110,10 +109,7 @@ pub fn find_inconsistency<'a>(
     if room_parts::tipped(n, m, us, vs, states, count) {
         return Inconsistency::Listed(list(m, states, false, buf));
     }
-    if room_parts::most_parts(n, m, us, vs, states) <= count {
-        return Inconsistency::Nothing;
-    }
-    if count < room_parts::joined_parts(n, m, us, vs, states) {
+    if room_parts::outnumber(n, m, us, vs, states, count) {
         return Inconsistency::Listed(list(m, states, true, buf));
     }
     Inconsistency::Nothing

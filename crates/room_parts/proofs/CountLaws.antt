@@ -116,3 +116,8 @@ module _ (g : Graph) (count : ℕ) (s : ℕ → ℕ) (p : List ℕ) (left i : �
       let k : count ≤ partsIf isConnected g s = rw q (w .above h) in
       sym (first-false (ltb (partsIf isConnected g s) (count)) (ltb (partsIf isConnected g s) (g .vertices)) (le-ltb _ _ k)))
       (le-or-lt (g .vertices) left)
+
+-- no count is gone below where no more than the parts are wanted
+pub not-tipped : (g : Graph) (count : ℕ) (s : ℕ → ℕ) → count ≤ partsIf isConnected g s → false ≡ tippedOf g count s
+unfolding tippedOf
+not-tipped g count s h = sym (first-false (ltb (partsIf isConnected g s) count) (ltb (partsIf isConnected g s) (g .vertices)) (le-ltb _ _ h))

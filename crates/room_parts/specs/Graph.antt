@@ -1,6 +1,6 @@
 -- Room graphs (01, "Room graph") and the two counts of the room check (01, "Union and room count").
 -- Assumes nothing.
-use Prim.Native.Nat.{ℕ, zero, suc, _≤_, _<_}
+use Prim.Native.Nat.{ℕ, zero, suc, _+_, _≤_, _<_}
 use mathlib.Core.Bool.{Bool, not}
 use mathlib.Core.List.{List, [], _∷_}
 use lib.Dec.{eqb, ltb}
@@ -25,6 +25,9 @@ edgeAt g i = edge (getD (g .us) i 0) (getD (g .vs) i 0)
 abbrev pub statesIn : List ℕ → ℕ → ℕ
 statesIn l i = getD l i 0
 
+abbrev pub isState : ℕ → ℕ → Bool
+isState k x = eqb x k
+
 abbrev pub isConnected : ℕ → Bool
 isConnected k = eqb k 1
 
@@ -35,6 +38,11 @@ notWall k = not (eqb k 2)
 unfoldable pub edgesIf : (ℕ → Bool) → Graph → (ℕ → ℕ) → ℕ → List Edge
 edgesIf p g s zero = []
 edgesIf p g s (suc m) = pick (p (s m)) (edgeAt g m ∷ edgesIf p g s m) (edgesIf p g s m)
+
+-- how many they are
+unfoldable pub passing : (ℕ → Bool) → (ℕ → ℕ) → ℕ → ℕ
+passing p s zero = 0
+passing p s (suc m) = passing p s m + pick (p (s m)) 1 0
 
 -- how many parts the edges whose state passes make of the vertices
 unfoldable pub partsIf : (ℕ → Bool) → Graph → (ℕ → ℕ) → ℕ

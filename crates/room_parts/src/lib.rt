@@ -1,15 +1,16 @@
 // The parts of a room graph (the two counts of `CityCountConstraint::find_inconsistency`): how many its Connected edges leave, counted down
-// by a union, and how many there are when only Walls part vertices, counted by a walk that calls itself. A bound of the latter tells where
-// that walk can be left out.
+// by a union, and how many there are when only Walls part vertices, counted by a walk that calls itself. Bounds tell where the union or the
+// walk can be left out.
 ghost use mathlib.Core.Path.{_≡_};
-ghost use Prim.Native.Nat.{_+_, _≤_, _<_};
-ghost use lib.ListN.{getD, set};
+ghost use Prim.Native.Nat.{_+_, _-_, _≤_, _<_};
+ghost use lib.Dec.{ltb};
+ghost use lib.ListN.{length, getD, set};
 ghost use Rattle.lists.specs.Choice.{both, pick};
 ghost use Rattle.parts.specs.Flood.{blank};
 ghost use Rattle.union_find.specs.Chains.{united, hung};
 ghost use Rattle.union_find.specs.Requires.{Parents};
 ghost use Rattle.room_parts.specs.Walk.{Walk, Walked, Sweep, Counted};
-ghost use Rattle.room_parts.specs.Graph.{graph, statesIn, isConnected, tippedOf, joinedParts, laterMarked, Lent};
+ghost use Rattle.room_parts.specs.Graph.{graph, statesIn, isState, isConnected, passing, tippedOf, joinedParts, laterMarked, Lent};
 
 // A 16-bit number as an index.
 fn wide(x: u16) -> usize
@@ -31,8 +32,34 @@ fn take_edge(p: &mut [u16; 1024], n: usize, state: u8, u: usize, v: usize) -> bo
     false
 }
 
+// How many of the first `m` edges have the state `k`. The counter is narrow, so that the loop is compiled to take many states at a time.
+fn in_state(m: usize, states: &[u8], k: u8) -> usize
+    requires { ⌜ (m ≤ 1984) × (m ≤ length (now states)) ⌝ }
+    ensures { λ r. ⌜ r ≡ passing (isState k) (statesIn (now (states .entry))) m ⌝ }
+{
+    let mut r = 0u16;
+    let mut i = 0;
+    while i < m {
+        if states[i] == k {
+            r += 1;
+        }
+        i += 1;
+    }
+    wide(r)
+}
+
+// What is left of the vertices where each edge takes one: edges leave no fewer parts.
+fn left_by(n: usize, edges: usize) -> usize
+    ensures { λ r. ⌜ r ≡ n - edges ⌝ }
+{
+    if n < edges {
+        return 0;
+    }
+    n - edges
+}
+
 // Counts down from the vertices, one for each uniting Connected edge: did that go below the count?
-pub fn tipped<'a>(
+fn counts_below<'a>(
     n: usize,
     m: usize,
     us: &'a [u16],
@@ -59,6 +86,24 @@ pub fn tipped<'a>(
     false
 }
 
+// The same. Where even one part less for each Connected edge would not be below the count, no edge is united.
+pub fn tipped<'a>(
+    n: usize,
+    m: usize,
+    us: &'a [u16],
+    vs: &'a [u16],
+    states: &'a [u8],
+    count: usize,
+) -> bool
+    requires { ⌜ Lent n m (now us) (now vs) (now states) ⌝ }
+    ensures { λ r. ⌜ r ≡ tippedOf (graph n m (now (us .entry)) (now (vs .entry))) count (statesIn (now (states .entry))) ⌝ }
+{
+    if count <= left_by(n, in_state(m, states, 1)) {
+        return false;
+    }
+    counts_below(n, m, us, vs, states, count)
+}
+
 // Marks the later end of an edge that is no Wall.
 fn mark_later(marks: &mut [u8; 1024], state: u8, u: usize, v: usize)
     requires { ⌜ (u < 1024) × (v < 1024) ⌝ }
@@ -81,7 +126,7 @@ fn unmarked(marks: &[u8; 1024], n: usize) -> usize
     requires { ⌜ n ≤ 1024 ⌝ }
     ensures { λ r. ⌜ r ≡ blank 0 n (now (marks .entry)) ⌝ }
 {
-    let mut k = 0;
+    let mut k = 0u16;
     let mut i = 0;
     while i < n {
         if marks[i] == 0 {
@@ -89,11 +134,11 @@ fn unmarked(marks: &[u8; 1024], n: usize) -> usize
         }
         i += 1;
     }
-    k
+    wide(k)
 }
 
 // How many vertices no edge but a Wall joins to an earlier vertex. Each part has one, its first: there are no more parts than that.
-pub fn most_parts<'a>(n: usize, m: usize, us: &'a [u16], vs: &'a [u16], states: &'a [u8]) -> usize
+fn most_parts<'a>(n: usize, m: usize, us: &'a [u16], vs: &'a [u16], states: &'a [u8]) -> usize
     requires { ⌜ Lent n m (now us) (now vs) (now states) ⌝ }
     ensures { λ r. ⌜ joinedParts (graph n m (now (us .entry)) (now (vs .entry))) (statesIn (now (states .entry))) ≤ r ⌝ }
 {
@@ -173,7 +218,7 @@ fn sweep<'a>(
 }
 
 // How many parts there are when only Walls part vertices.
-pub fn joined_parts<'a>(n: usize, m: usize, us: &'a [u16], vs: &'a [u16], states: &'a [u8]) -> usize
+fn joined_parts<'a>(n: usize, m: usize, us: &'a [u16], vs: &'a [u16], states: &'a [u8]) -> usize
     requires { ⌜ Lent n m (now us) (now vs) (now states) ⌝ }
     ensures { λ r. ⌜ r ≡ joinedParts (graph n m (now (us .entry)) (now (vs .entry))) (statesIn (now (states .entry))) ⌝ }
 {
@@ -194,4 +239,26 @@ pub fn joined_parts<'a>(n: usize, m: usize, us: &'a [u16], vs: &'a [u16], states
     }
     let mut seen = [0u8; 1024];
     sweep(&head, &next, &to, &mut seen, n)
+}
+
+// Do the parts joined without Walls outnumber the count? The walk counts them where bounds do not tell.
+pub fn outnumber<'a>(
+    n: usize,
+    m: usize,
+    us: &'a [u16],
+    vs: &'a [u16],
+    states: &'a [u8],
+    count: usize,
+) -> bool
+    requires { ⌜ Lent n m (now us) (now vs) (now states) ⌝ }
+    ensures { λ r. ⌜ r ≡ ltb count (joinedParts (graph n m (now (us .entry)) (now (vs .entry))) (statesIn (now (states .entry)))) ⌝ }
+{
+    let walls = in_state(m, states, 2);
+    if count < left_by(n, m - walls) {
+        return true;
+    }
+    if most_parts(n, m, us, vs, states) <= count {
+        return false;
+    }
+    count < joined_parts(n, m, us, vs, states)
 }

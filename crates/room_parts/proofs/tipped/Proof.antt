@@ -1,129 +1,33 @@
--- `room_parts::tipped` meets its contract: `Taken` of the edges so far, one law for each way through a turn.
+-- `room_parts::tipped` meets its contract: where all Connected edges could not go below the count they do not, and else the union counts.
 -- Assumes nothing.
-use Prim.Native.Nat.{ℕ, _≤_, _-_}
-use mathlib.Core.Logic.{⊎-elim}
 use native.Mathlib.Omega.{arith}
 use borrow.Author.Needs.{needs}
 use denote.Ref.{now}
-use Rattle.union_find.specs.UnionFind.{zeros}
-use Rattle.room_parts.specs.Graph.{Graph, graph, statesIn}
-use Rattle.room_parts.proofs.CountLaws.{Taken, taken-none, Turn, taken-parents, taken-turn, taken-all}
+use Rattle.room_parts.specs.Graph.{graph, statesIn}
+use Rattle.room_parts.proofs.BoundLaws.{connected-least}
+use Rattle.room_parts.proofs.CountLaws.{not-tipped}
 use Rattle.room_parts.proofs.tipped.Statement.{statement}
 use Rattle.room_parts.proofs.tipped.Tie as tie
 
-abbrev Inv-loop : tie.InvT-loop
-Inv-loop n m us vs states count p₀ left₀ i₀ p left i = (i ≤ m) × Taken (graph n m us vs) count (statesIn states) p left i
+in-state-requires : tie.Need-in-state-requires
+in-state-requires c κs = search needs
 
-abbrev μ-loop : tie.MeasureT-loop
-μ-loop n m us vs states count p₀ left₀ i₀ p left i = m - i
+left-by-requires : tie.Need-left-by-requires
+left-by-requires c κs = search needs
 
-alone-requires : tie.Need-alone-requires Inv-loop μ-loop
-alone-requires c κs = omega arith
-
-abbrev room : tie.Start Inv-loop μ-loop → Graph
-room s = graph (s .args .n) (s .args .m) (now (s .args .us)) (now (s .args .vs))
-
-abbrev standing : tie.Start Inv-loop μ-loop → ℕ → ℕ
-standing s = statesIn (now (s .args .states))
-
-loop-holds : tie.Need-loop-holds Inv-loop μ-loop
-unfolding zeros
-loop-holds c =
-    let s = c .before .before .before .before .before in
-    (omega arith, taken-none (room s) (s .args .count) (standing s) _ (s .pre .few-vertices) (c .alone .ensures))
-
-shared-slice-read-take-edge : tie.Need-shared-slice-read-take-edge Inv-loop μ-loop
-shared-slice-read-take-edge c = omega arith
-
-mul-wide : tie.Need-mul-wide Inv-loop μ-loop
-mul-wide c = omega arith
-
-shared-slice-read-wide : tie.Need-shared-slice-read-wide Inv-loop μ-loop
-shared-slice-read-wide c = omega arith
-
-wide-requires : tie.Need-wide-requires Inv-loop μ-loop
-wide-requires c κs = search needs
-
-mul-wide-2 : tie.Need-mul-wide-2 Inv-loop μ-loop
-mul-wide-2 c = omega arith
-
-shared-slice-read-wide-2 : tie.Need-shared-slice-read-wide-2 Inv-loop μ-loop
-shared-slice-read-wide-2 c = omega arith
-
-wide-requires-2 : tie.Need-wide-requires-2 Inv-loop μ-loop
-wide-requires-2 c κs = search needs
-
-take-edge-requires : tie.Need-take-edge-requires Inv-loop μ-loop
-take-edge-requires c κs =
-    let k = c .before .before .before .before .before .before in
-    let a = k .before in
-    let s = a .before .before .before .before .before .before in
-    let i = a .loop .i in (
-      taken-parents (room s) (s .args .count) (standing s) (a .loop .p) (a .loop .left) i (a .loop .inv .1) (s .pre .few-vertices),
-      (rw (c .before .before .wide .ensures) (s .pre .us-exist i (k .loop-test .taken)), rw (c .wide2 .ensures) (s .pre .vs-exist i (k .loop-test .taken))),
-    )
-
--- what the answer for edge i says
-turn : (c : tie.After-take-edge Inv-loop μ-loop)
-    → let a = c .before .before .before .before .before .before .before .before in
-    let s = a .before .before .before .before .before .before in Turn (room s) (s .args .count) (standing s) (a .loop .left) (a .loop .i) (c .take-edge .last .0) (c .take-edge .result)
-turn c =
-    let k = c .before .before .before .before .before .before .before in
-    let a = k .before in
-    let s = a .before .before .before .before .before .before in
-    let i = a .loop .i in
-    taken-turn (room s) (s .args .count) (standing s) (a .loop .p) (a .loop .left) i (a .loop .inv .1) (c .take-edge .last .0) (c .before .before .before .wide .result)
-    (c .before .wide2 .result)
-    (c .take-edge .result)
-    (s .pre .us-exist i (k .loop-test .taken))
-    (s .pre .vs-exist i (k .loop-test .taken))
-    (c .before .before .before .wide .ensures)
-    (c .before .wide2 .ensures)
-    (c .take-edge .ensures .0)
-    (c .take-edge .ensures .1)
-
-sub-left : tie.Need-sub-left Inv-loop μ-loop
-sub-left c = turn (c .before) .some (c .if1 .taken)
-
-returns : tie.Need-returns Inv-loop μ-loop
+returns : tie.Need-returns
 returns c =
-    let k = c .before .before in
-    turn k .tips (c .before .if1 .taken) (k .before .before .before .before .before .before .before .loop-test .taken) (c .if2 .taken)
+    let l = c .before in
+    let k = l .before in
+    let s = k .before .before .before .before in
+    let b = connected-least (s .args .n) (s .args .m) (now (s .args .us)) (now (s .args .vs)) (now (s .args .states)) (s .pre) (l .left-by .result) (k .in-state .result) (l .left-by .ensures) (k .in-state .ensures) in
+    not-tipped (graph (s .args .n) (s .args .m) (now (s .args .us)) (now (s .args .vs))) (s .args .count) (statesIn (now (s .args .states))) (omega (arith, c .if1 .taken, b))
 
-add-i : tie.Need-add-i Inv-loop μ-loop
-add-i c = omega arith
+counts-below-requires : tie.Need-counts-below-requires
+counts-below-requires c κs = search needs
 
-loop-less : tie.Need-loop-less Inv-loop μ-loop
-loop-less c = omega arith
-
-loop-again : tie.Need-loop-again Inv-loop μ-loop
-loop-again c = (omega arith, ⊎-elim (λ w. rw (w .2) (turn (c .before) .less (w .0 .taken) (w .1 .left))) (λ w. rw (w .1) (turn (c .before) .same (w .0 .left))) (c .if1 .came))
-
-returns-2 : tie.Need-returns-2 Inv-loop μ-loop
-returns-2 c =
-    let a = c .before in
-    let s = a .before .before .before .before .before .before in
-    taken-all (room s) (s .args .count) (standing s) (a .loop .p) (a .loop .left) (a .loop .i) (a .loop .inv .1) (omega (arith, c .loop-test .left, a .loop .inv .0))
+returns-2 : tie.Need-returns-2
+returns-2 c = c .counts-below .ensures
 
 pub tipped-spec : {M : Type 1} → statement M
-tipped-spec =
-    tie.close
-    (tie.spec
-    Inv-loop
-    μ-loop
-    alone-requires
-    loop-holds
-    shared-slice-read-take-edge
-    mul-wide
-    shared-slice-read-wide
-    wide-requires
-    mul-wide-2
-    shared-slice-read-wide-2
-    wide-requires-2
-    take-edge-requires
-    sub-left
-    returns
-    add-i
-    loop-less
-    loop-again
-    returns-2)
+tipped-spec = tie.close (tie.spec in-state-requires left-by-requires returns counts-below-requires returns-2)

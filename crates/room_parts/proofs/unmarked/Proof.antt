@@ -1,9 +1,10 @@
 -- `room_parts::unmarked` meets its contract: `k` counts the vertices before `i` without a mark.
 -- Assumes nothing.
 use Prim.Native.Nat.{_≤_, _-_}
-use mathlib.Core.Path.{_≡_, refl, sym, ap, _∙_}
+use mathlib.Core.Path.{_≡_, refl, ap, _∙_}
 use mathlib.Core.Logic.{⊎-elim}
 use native.Mathlib.Omega.{arith}
+use borrow.Author.Needs.{needs}
 use denote.Ref.{now}
 use Rattle.parts.specs.Flood.{blank}
 use Rattle.parts.proofs.FloodLaws.{blank-le}
@@ -41,11 +42,14 @@ loop-again c =
     let s = a .before in
     (omega arith, ⊎-elim (λ w. rw (w .1) (blank-one (now (s .args .marks)) (a .loop .k) (a .loop .i) (a .loop .inv .1) (w .0 .taken))) (λ w. rw (w .1) (blank-same (now (s .args .marks)) (a .loop .k) (a .loop .i) (a .loop .inv .1) (w .0 .left))) (c .if1 .came))
 
+wide-requires : tie.Need-wide-requires Inv-loop μ-loop
+wide-requires c κs = search needs
+
 returns : tie.Need-returns Inv-loop μ-loop
 returns c =
-    let a = c .before in
-    let q : a .loop .i ≡ a .before .args .n = omega (arith, a .loop .inv .0, c .loop-test .left) in
-    a .loop .inv .1 ∙ ap (λ i. blank 0 i (now (a .before .args .marks))) q
+    let a = c .before .before in
+    let q : a .loop .i ≡ a .before .args .n = omega (arith, a .loop .inv .0, c .before .loop-test .left) in
+    c .wide .ensures ∙ a .loop .inv .1 ∙ ap (λ i. blank 0 i (now (a .before .args .marks))) q
 
 pub unmarked-spec : {M : Type 1} → statement M
 unmarked-spec =
@@ -59,4 +63,5 @@ unmarked-spec =
     add-i
     loop-less
     loop-again
+    wide-requires
     returns)
