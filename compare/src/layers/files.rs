@@ -1,4 +1,5 @@
-//! Case files, sound and damaged: what is read of them and the lines that are printed, beside document 01's sentences and the Rust's answers.
+//! Case files, sound and damaged: what is read of them and what is printed for them, beside document 01's sentences and the Rust's
+//! answers.
 use super::{until, Limits};
 use crate::files::{self, Case, Line};
 use crate::port::file::{self as port, Lent, Parts, LINE_ROOM};
@@ -139,7 +140,8 @@ impl Compared {
         self.tally.same(&(bytes.len(), left), &(at, &puzzle), || hexadecimal(bytes));
     }
 
-    /// A file through the functions over slices: whether it is sound, and all of `whole` where that is asked for. It answers its lines.
+    /// A file through the functions over slices: whether it is sound, and its lines. With `whole` also what is read of it, each line
+    /// by itself, and the calls some at once.
     fn file(&mut self, bytes: &[u8], whole: bool) -> (bool, String) {
         self.tally.case();
         let on = || hexadecimal(bytes);
