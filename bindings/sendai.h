@@ -56,6 +56,22 @@ enum { SENDAI_NO_CLUE = 65535 };
 /* Directions of sendai_neighbour; any other number is read as right. */
 enum { SENDAI_UP = 0, SENDAI_DOWN = 1, SENDAI_LEFT = 2, SENDAI_RIGHT = 3 };
 
+/* Kinds of SendaiFileCall. */
+enum { SENDAI_CALL_UNDO = 0, SENDAI_CALL_CONNECTED = 1, SENDAI_CALL_WALL = 2, SENDAI_CALL_ASK = 3 };
+
+/* Kinds of sendai_line; any other number is read as refused. */
+enum {
+    SENDAI_LINE_DECIDED = 0,
+    SENDAI_LINE_UNDONE = 1,
+    SENDAI_LINE_CLEAR = 2,
+    SENDAI_LINE_SHAPE = 3,
+    SENDAI_LINE_ROOM = 4,
+    SENDAI_LINE_REFUSED = 5
+};
+
+/* The bytes that any call's line fits. */
+enum { SENDAI_MAX_LINE = 55323 };
+
 /* Kinds of SendaiOutcome. */
 enum { SENDAI_CLEAR = 0, SENDAI_SHAPE_FAULT = 1, SENDAI_ROOM_FAULT = 2, SENDAI_REFUSED = 3 };
 
@@ -219,6 +235,56 @@ SENDAI_LAYOUT(SendaiOutcome, 24, length, 16);
 SENDAI_LAYOUT(SendaiOutcome, 24, code, 1);
 SENDAI_LAYOUT(SendaiOutcome, 24, room, 8);
 
+/* A case file's puzzle, or the number that refuses the file (11) or its puzzle; the first call's byte, and how many calls there are. */
+typedef struct SendaiCase {
+    uint8_t code;
+    SendaiPuzzle puzzle;
+    size_t at;
+    size_t count;
+} SendaiCase;
+SENDAI_LAYOUT(SendaiCase, 12032, count, 12024);
+SENDAI_LAYOUT(SendaiCase, 12032, puzzle, 8);
+SENDAI_LAYOUT(SendaiCase, 12032, at, 12016);
+
+/* What calls of a case file left: the puzzle, the byte behind the last call, how many were done, and how many bytes their lines have. */
+typedef struct SendaiRan {
+    SendaiPuzzle puzzle;
+    size_t at;
+    size_t done;
+    size_t length;
+} SendaiRan;
+SENDAI_LAYOUT(SendaiRan, 12032, length, 12024);
+SENDAI_LAYOUT(SendaiRan, 12032, at, 12008);
+SENDAI_LAYOUT(SendaiRan, 12032, done, 12016);
+
+/* Where a sound file's parts stand: of each list the first byte, behind its count, and how many items it has. */
+typedef struct SendaiFileParts {
+    uint8_t code;
+    size_t height;
+    size_t width;
+    size_t walls_at;
+    size_t walls_count;
+    size_t clues_at;
+    size_t clues_count;
+    size_t calls_at;
+    size_t calls_count;
+} SendaiFileParts;
+SENDAI_LAYOUT(SendaiFileParts, 72, calls_count, 64);
+SENDAI_LAYOUT(SendaiFileParts, 72, height, 8);
+SENDAI_LAYOUT(SendaiFileParts, 72, walls_at, 24);
+SENDAI_LAYOUT(SendaiFileParts, 72, clues_at, 40);
+
+/* A call of a file: its kind, a decide's border, and the byte behind the call. */
+typedef struct SendaiFileCall {
+    uint8_t code;
+    uint8_t kind;
+    size_t border;
+    size_t behind;
+} SendaiFileCall;
+SENDAI_LAYOUT(SendaiFileCall, 24, behind, 16);
+SENDAI_LAYOUT(SendaiFileCall, 24, kind, 1);
+SENDAI_LAYOUT(SendaiFileCall, 24, border, 8);
+
 /* ---- Cells and borders ---- */
 
 /* What lies beyond a cell. Refused: 1, 3. */
@@ -320,6 +386,33 @@ SendaiUnited sendai_union_unite(SendaiUnion parts, size_t x, size_t y);
 
 /* The entries, rising, each once: what a clause learner reads. Refused: 6 (as many entries as the input has). */
 SendaiListing sendai_hand_over(const uint16_t *entries, size_t entries_length, uint16_t *buffer, size_t buffer_length);
+
+/* ---- Case files, in the format of the README ---- */
+
+/* A case file's puzzle and where its calls stand. Refused: 11, or as sendai_puzzle_make refuses the file's puzzle; `at` and `count` then
+ * still tell of the calls. */
+SendaiCase sendai_case_open(const uint8_t *file, size_t file_length);
+
+/* Does `count` calls that stand in the file from a byte on, up to the first that is unsound, and writes a line for each to the front of
+ * `out`. None is done, and nothing is written, where `out` has fewer than SENDAI_MAX_LINE places for each of them. */
+SendaiRan sendai_case_run(const uint8_t *file, size_t file_length, size_t at, size_t count, SendaiPuzzle puzzle, uint8_t *out,
+                          size_t out_length);
+
+/* Where the parts of a file stand. Refused: 11. */
+SendaiFileParts sendai_file_decode(const uint8_t *file, size_t file_length);
+
+/* The call at a byte. Refused: 11, where no sound call stands there. */
+SendaiFileCall sendai_file_call(const uint8_t *file, size_t file_length, size_t at);
+
+/* The k-th number, counted from 0, of the list that has `count` numbers from a byte on; 0 where there is none. */
+size_t sendai_file_number(const uint8_t *file, size_t file_length, size_t at, size_t count, size_t k);
+
+/* The numbers of such a list, written to the front of `out`, as far as there is room. */
+void sendai_file_numbers(const uint8_t *file, size_t file_length, size_t at, size_t count, uint16_t *out, size_t out_length);
+
+/* Writes a line as the program prints it: by its kind, with the room's or refusal's number and a fault's entries; returned is how many
+ * bytes it has. 0, and nothing is written, where the buffer has fewer than 27 places and 6 for each entry. */
+size_t sendai_line(uint8_t kind, size_t number, const uint16_t *entries, size_t entries_length, uint8_t *buffer, size_t buffer_length);
 
 #undef SENDAI_LAYOUT
 

@@ -32,6 +32,7 @@
 //! were. A list goes to the front of a buffer that the caller lends; the other places stay. No call allocates.
 
 mod board;
+mod case;
 mod groups;
 mod puzzle;
 mod refusal;
@@ -43,6 +44,7 @@ mod union;
 mod tests;
 
 pub use board::Board;
+pub use case::Case;
 pub use groups::Groups;
 pub use puzzle::Puzzle;
 pub use refusal::Refusal;
@@ -60,6 +62,8 @@ pub const MAX_CELLS: usize = 1024;
 pub const MAX_BORDERS: usize = 1984;
 /// A buffer of so many places is long enough for every list of every board and puzzle.
 pub const MAX_LIST: usize = 9216;
+/// The bytes that any line of a case's call fits.
+pub const MAX_LINE: usize = 55323;
 /// No clue for a room.
 pub const NO_CLUE: u16 = 65535;
 
@@ -106,6 +110,12 @@ impl<'b> Fault<'b> {
 }
 
 /// The entry that lists a border as Wall or Connected. `None` where the border is none of any board's or graph's.
+///
+/// ```
+/// assert_eq!(sendai::entry(3, true), Some(7));
+/// assert_eq!(sendai::entry(1984, true), None);
+/// assert!(sendai::entries(&[7, 6]).eq([(3, true), (3, false)]));
+/// ```
 pub fn entry(border: usize, wall: bool) -> Option<u16> {
     (border < MAX_BORDERS).then(|| 2 * border as u16 + u16::from(wall))
 }

@@ -106,6 +106,35 @@ records! {
         room: usize = 8,
         length: usize = 16,
     }
+    Case, 12032 {
+        code: u8 = 0,
+        puzzle: Puzzle = 8,
+        at: usize = 12016,
+        count: usize = 12024,
+    }
+    Ran, 12032 {
+        puzzle: Puzzle = 0,
+        at: usize = 12008,
+        done: usize = 12016,
+        length: usize = 12024,
+    }
+    FileParts, 72 {
+        code: u8 = 0,
+        height: usize = 8,
+        width: usize = 16,
+        walls_at: usize = 24,
+        walls_count: usize = 32,
+        clues_at: usize = 40,
+        clues_count: usize = 48,
+        calls_at: usize = 56,
+        calls_count: usize = 64,
+    }
+    FileCall, 24 {
+        code: u8 = 0,
+        kind: u8 = 1,
+        border: usize = 8,
+        behind: usize = 16,
+    }
 }
 
 // Every number and every record is answered, so a call over numbers, records and a lent record is safe. A slice is a pointer and a
@@ -165,4 +194,27 @@ unsafe extern "C" {
     pub safe fn sendai_union_unite(parts: Union, x: usize, y: usize) -> United;
 
     pub fn sendai_hand_over(entries: *const u16, length: usize, buffer: *mut u16, buffer_length: usize) -> Listing;
+
+    pub fn sendai_case_open(file: *const u8, length: usize) -> Case;
+    pub fn sendai_case_run(
+        file: *const u8,
+        length: usize,
+        at: usize,
+        count: usize,
+        puzzle: Puzzle,
+        out: *mut u8,
+        out_length: usize,
+    ) -> Ran;
+    pub fn sendai_file_decode(file: *const u8, length: usize) -> FileParts;
+    pub fn sendai_file_call(file: *const u8, length: usize, at: usize) -> FileCall;
+    pub fn sendai_file_number(file: *const u8, length: usize, at: usize, count: usize, k: usize) -> usize;
+    pub fn sendai_file_numbers(file: *const u8, length: usize, at: usize, count: usize, out: *mut u16, out_length: usize);
+    pub fn sendai_line(
+        kind: u8,
+        number: usize,
+        entries: *const u16,
+        length: usize,
+        buffer: *mut u8,
+        buffer_length: usize,
+    ) -> usize;
 }

@@ -1,6 +1,7 @@
 //! The archive's promises, as far as calls show them.
 
 mod buffers;
+mod cases;
 mod forms;
 mod paper;
 mod refusals;

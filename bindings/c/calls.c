@@ -1,0 +1,149 @@
+/* Every call of sendai.h once or twice, with arguments that tell their places apart: the header declares the calls as they are. */
+#include "sendai.h"
+
+#include <stdio.h>
+#include <string.h>
+
+static int failed = 0;
+
+#define CHECK(truth) \
+    do { \
+        if (!(truth)) { \
+            printf("line %d: not so: %s\n", __LINE__, #truth); \
+            failed = 1; \
+        } \
+    } while (0)
+
+static uint16_t list[SENDAI_MAX_LIST];
+
+/* Whether the list's front is these entries. */
+static bool is(size_t length, const uint16_t *entries, size_t count) {
+    return length == count && memcmp(list, entries, count * sizeof *entries) == 0;
+}
+
+static void places(void) {
+    SendaiPlace down = sendai_neighbour(2, 3, 1, SENDAI_DOWN);
+    CHECK(down.code == SENDAI_ACCEPTED && !down.ends && down.cell == 4 && down.border == 5);
+    CHECK(sendai_neighbour(2, 3, 2, SENDAI_RIGHT).ends);
+    CHECK(sendai_neighbour(2, 3, 6, SENDAI_UP).code == SENDAI_MISSING);
+}
+
+static void boards(void) {
+    SendaiBoard board = sendai_board_make(1, 3).board;
+    CHECK(board.height == 1 && board.width == 3);
+    CHECK(sendai_board_make(33, 1).code == SENDAI_SIZES);
+    SendaiBoardAnswer decided = sendai_board_decide(board, 0, true);
+    CHECK(decided.code == SENDAI_ACCEPTED && decided.board.states[0] == SENDAI_WALL && decided.board.len == 1);
+    SendaiBoardAnswer undone = sendai_board_undo(decided.board);
+    CHECK(undone.code == SENDAI_ACCEPTED && memcmp(&undone.board, &board, sizeof board) == 0);
+    CHECK(sendai_board_undo(board).code == SENDAI_EMPTY_LEDGER);
+
+    CHECK(sendai_board_decide_in_place(&board, 0, true) == SENDAI_ACCEPTED);
+    CHECK(memcmp(&decided.board, &board, sizeof board) == 0);
+    CHECK(sendai_board_undo_in_place(&board) == SENDAI_ACCEPTED && board.len == 0);
+    CHECK(sendai_board_check(board) == SENDAI_ACCEPTED);
+    board.states[1] = SENDAI_CONNECTED;
+    CHECK(sendai_board_check(board) == SENDAI_RECORD);
+}
+
+static void lists(void) {
+    const uint16_t fault[] = {2, 2, 1, 1, 1}, path[] = {2}, unit[] = {2, 1}, potential[] = {1};
+    SendaiBoard board = sendai_board_make(1, 3).board;
+    sendai_board_decide_in_place(&board, 0, true);
+    sendai_board_decide_in_place(&board, 1, false);
+    SendaiVerdict verdict = sendai_board_ask(board, list, 27);
+    CHECK(verdict.code == SENDAI_ACCEPTED && verdict.fault && is(verdict.length, fault, 5));
+    CHECK(is(sendai_path(board, 2, 1, list, 27).length, path, 1));
+    CHECK(sendai_path(board, 0, 1, list, 27).code == SENDAI_NOT_JOINED);
+    CHECK(is(sendai_unit_boundary(board, 1, list, 27).length, unit, 2));
+    CHECK(is(sendai_potential_unit_boundary(board, 0, list, 27).length, potential, 1));
+    CHECK(sendai_potential_unit_boundary(board, 2, list, 27).code == SENDAI_MISSING);
+    CHECK(sendai_unit_boundary(board, 0, list, 26).code == SENDAI_SHORT_BUFFER);
+
+    uint16_t out[3] = {9, 9, 9};
+    SendaiGrouping units = sendai_groups(board, false, list, 3);
+    CHECK(units.code == SENDAI_ACCEPTED && units.info.count == 2 && units.info.ids[2] == 1 && units.info.starts[1] == 1);
+    CHECK(sendai_group(units.info, list, 3, 1, out, 3) == 2 && out[0] == 1 && out[1] == 2 && out[2] == 9);
+    CHECK(sendai_group(units.info, list, 3, 2, out, 3) == 0);
+}
+
+static void puzzles(void) {
+    const uint16_t given[] = {1}, clues[] = {1, SENDAI_NO_CLUE}, fault[] = {1};
+    SendaiPuzzleAnswer made = sendai_puzzle_make(1, 4, given, 1, clues, 2);
+    CHECK(made.code == SENDAI_ACCEPTED && made.puzzle.given_len == 1 && made.puzzle.clues[0] == 1);
+    CHECK(sendai_puzzle_make(1, 4, given, 1, clues, 1).code == SENDAI_CLUE_COUNT);
+    SendaiPuzzle puzzle = sendai_puzzle_decide(made.puzzle, 0, true).puzzle;
+    SendaiOutcome outcome = sendai_puzzle_ask(puzzle, list, 36);
+    CHECK(outcome.kind == SENDAI_ROOM_FAULT && outcome.room == 0 && is(outcome.length, fault, 1));
+    SendaiPuzzleAnswer undone = sendai_puzzle_undo(puzzle);
+    CHECK(undone.code == SENDAI_ACCEPTED && memcmp(&made.puzzle, &undone.puzzle, sizeof puzzle) == 0);
+    outcome = sendai_puzzle_ask(puzzle, list, 35);
+    CHECK(outcome.kind == SENDAI_REFUSED && outcome.code == SENDAI_SHORT_BUFFER);
+    puzzle.given[0] = 3;
+    CHECK(sendai_puzzle_check(puzzle) == SENDAI_RECORD);
+}
+
+static void rooms(void) {
+    const uint16_t us[] = {0, 1}, vs[] = {1, 2}, fault[] = {1};
+    const SendaiEdge edges[] = {{0, 1}, {1, 2}};
+    SendaiRoom room = sendai_room_make(3, us, 2, vs, 2, 1).room;
+    CHECK(room.vertices == 3 && room.edges == 2 && room.vs[1] == 2 && room.count == 1);
+    SendaiRoom same = sendai_room_make_of_edges(3, edges, 2, 1).room;
+    CHECK(same.vertices == 3 && same.edges == 2 && same.us[1] == 1 && same.vs[1] == 2 && same.count == 1);
+    room = sendai_room_decide(room, 0, true).room;
+    SendaiVerdict verdict = sendai_room_ask(room, list, 2);
+    CHECK(verdict.code == SENDAI_ACCEPTED && verdict.fault && is(verdict.length, fault, 1));
+    CHECK(sendai_room_ask(room, list, 1).code == SENDAI_SHORT_BUFFER);
+    CHECK(sendai_room_undo(room).room.len == 0);
+    CHECK(sendai_room_check(room) == SENDAI_ACCEPTED);
+}
+
+static void unions(void) {
+    SendaiUnion parts = sendai_union_new(3).parts;
+    CHECK(parts.n == 3 && parts.parent[2] == 2);
+    SendaiUnited united = sendai_union_unite(parts, 0, 1);
+    CHECK(united.code == SENDAI_ACCEPTED && united.united && united.parts.parent[0] == 1);
+    SendaiFound found = sendai_union_find(united.parts, 0);
+    CHECK(found.code == SENDAI_ACCEPTED && found.root == 1 && found.parts.n == 3);
+    CHECK(sendai_union_find(parts, 3).code == SENDAI_MISSING);
+}
+
+static void files(void) {
+    const uint8_t file[] = {1, 0, 0x12, 1, 3, 0, 0, 0, 1, 0xff, 0xff, 0, 4, 2, 0, 0, 1, 0, 1, 3, 0};
+    const char lines[] = "decided\ndecided\nshape: 1 2\nundone\n";
+    static uint8_t out[4 * SENDAI_MAX_LINE];
+    SendaiCase opened = sendai_case_open(file, 21);
+    CHECK(opened.code == SENDAI_ACCEPTED && opened.puzzle.board.width == 3 && opened.at == 13 && opened.count == 4);
+    CHECK(sendai_case_open(file, 20).code == SENDAI_FILE);
+    SendaiRan ran = sendai_case_run(file, 21, opened.at, opened.count, opened.puzzle, out, sizeof out);
+    CHECK(ran.done == 4 && ran.at == 21 && ran.puzzle.board.len == 1);
+    CHECK(ran.length == sizeof lines - 1 && memcmp(out, lines, ran.length) == 0);
+    CHECK(sendai_case_run(file, 21, opened.at, opened.count, opened.puzzle, out, sizeof out - 1).done == 0);
+
+    SendaiFileParts parts = sendai_file_decode(file, 21);
+    CHECK(parts.code == SENDAI_ACCEPTED && parts.height == 1 && parts.width == 3 && parts.walls_at == 7 && parts.walls_count == 0);
+    CHECK(parts.clues_at == 9 && parts.clues_count == 1 && parts.calls_at == 13 && parts.calls_count == 4);
+    SendaiFileCall call = sendai_file_call(file, 21, 16);
+    CHECK(call.code == SENDAI_ACCEPTED && call.kind == SENDAI_CALL_CONNECTED && call.border == 1 && call.behind == 19);
+    CHECK(sendai_file_number(file, 21, 9, 1, 0) == SENDAI_NO_CLUE);
+    sendai_file_numbers(file, 21, 13, 2, list, 2);
+    CHECK(list[0] == 0x0200 && list[1] == 1);
+
+    const uint16_t entries[] = {1, 2};
+    CHECK(sendai_line(SENDAI_LINE_ROOM, 4, entries, 2, out, 39) == 12 && memcmp(out, "room 4: 1 2\n", 12) == 0);
+    CHECK(sendai_line(SENDAI_LINE_ROOM, 4, entries, 2, out, 38) == 0);
+}
+
+int main(void) {
+    const uint16_t entries[] = {7, 2, 7}, handed[] = {2, 7};
+    CHECK(is(sendai_hand_over(entries, 3, list, 3).length, handed, 2));
+    CHECK(sendai_hand_over(entries, 3, list, 2).code == SENDAI_SHORT_BUFFER);
+    places();
+    boards();
+    lists();
+    puzzles();
+    rooms();
+    unions();
+    files();
+    return failed;
+}
