@@ -170,7 +170,7 @@ pub fn run() {
     let turned: Vec<Row<Pair>> = turns.iter().map(|(name, times, _)| row(name.clone(), *times)).collect();
     let stack_lines: String = stacks.iter().map(|(name, n)| format!("| {name} | {} |\n", n.div_ceil(1024))).collect();
     let text = format!(
-        "{HEAD}\n## Goals\n\n{}\n## Asks at 32 by 32\n\n{}\n## How an ask grows\n\nThe port's µs, and the ratio in brackets.\n\n{}\n\
+        "{HEAD}\n## Goals\n\n{}\n{WHY}\n## Asks at 32 by 32\n\n{}\n## How an ask grows\n\nThe port's µs, and the ratio in brackets.\n\n{}\n\
          ## The other calls on the eight boards, 32 by 32\n\n{OTHER_CALLS}\n{}\n## Decide and undo\n\n{DECIDES}\n{}\n\
          ## Rooms, unions, hand-over\n\n{ROOMS}\n{}\n{}\n## Stack\n\n{STACK}\n| call | KB |\n|---|---|\n{stack_lines}",
         goals(&all, eight[0].1, &turns, &stacks),
@@ -190,7 +190,14 @@ const HEAD: &str = "# Speed beside the Rust
 Written by `compare/run bench`: both sides from one driver, in one run, built for release, on a machine that was not idle; only the
 ratios mean something. Above 1 the port is faster. A time is the best of 21 rounds, in which the two sides take turns. The port's
 time includes the record's way over the C interface by value, and question 2 of the whole record; it writes into one buffer, which
-is lent again and again and not cleared between calls. The Rust makes each list anew.
+is lent again and again and not cleared between calls. The Rust makes each list anew; in a puzzle it also verifies each list of the
+shape check, as `solve_sendai` has it (here at 4 by 4, Connected inside, alone).
+";
+
+const WHY: &str = "Where an ask is slower, two costs of the port show, which the Rust does not have. Its arrays have the length of the largest board:
+of the instructions of a puzzle's ask at 4 by 4, 62 in 100 clear them and 24 copy records (callgrind, one room, all undecided). And
+question 2 of a puzzle groups the rooms, which the counts then group again: at 32 by 32 the four groupings of such an ask are 35 in
+100 of its instructions.
 ";
 
 const OTHER_CALLS: &str = "The port's µs, and the ratio in brackets. A path leads from the first to the last cell of the largest unit; a boundary is that of
@@ -198,7 +205,7 @@ the largest unit or potential unit. A boundary call of the port groups the board
 ";
 
 const DECIDES: &str = "Each call of the port puts question 2 to the whole record and moves it by value (6 KB for a board, 12 KB for a puzzle), where the Rust
-changes one place. On a full board the first border is left open.
+changes one place. The calls in place are thin ones over those by value. On a full board the first border is left open.
 ";
 
 const ROOMS: &str = "The port's room check lists the arcs anew for each ask and puts question 2 to the record, which the Rust does not. Hand-over stands

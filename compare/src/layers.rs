@@ -2,6 +2,7 @@
 pub mod board;
 pub mod boundary;
 pub mod city_count;
+pub mod files;
 pub mod groups;
 pub mod hand_over;
 pub mod numbering;
@@ -29,13 +30,13 @@ pub struct Limits {
 /// What is compared, and the part of it that is stored.
 pub struct Layer {
     pub name: &'static str,
-    /// The first byte of its sample.
+    /// The first byte of its sample; 0 where none is stored.
     pub kind: u8,
     pub run: fn(&Limits) -> Tally,
     pub sample: fn(&mut Sample),
 }
 
-pub const LAYERS: [Layer; 10] = [
+pub const LAYERS: [Layer; 11] = [
     Layer { name: "numbering", kind: 1, run: numbering::run, sample: numbering::sample },
     Layer { name: "board", kind: 2, run: board::run, sample: board::sample },
     Layer { name: "groups", kind: 3, run: groups::run, sample: groups::sample },
@@ -46,6 +47,7 @@ pub const LAYERS: [Layer; 10] = [
     Layer { name: "city_count", kind: 8, run: city_count::run, sample: city_count::sample },
     Layer { name: "puzzle", kind: 9, run: puzzle::run, sample: puzzle::sample },
     Layer { name: "hand_over", kind: 10, run: hand_over::run, sample: hand_over::sample },
+    Layer { name: "files", kind: 0, run: files::run, sample: files::sample },
 ];
 
 /// Repeats a step for so long.

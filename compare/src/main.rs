@@ -4,6 +4,7 @@
 mod answers;
 mod bench;
 mod boards;
+mod files;
 mod findings;
 mod layers;
 mod port;

@@ -1,6 +1,7 @@
 //! The port: safe wrappers of the functions that crate `exports` hands out.
 //! The declarations must agree with crates/exports; nothing but these comparisons checks that.
 
+pub mod file;
 mod lent;
 mod puzzle;
 
@@ -78,7 +79,7 @@ mod c {
     }
 
     #[repr(C)]
-    #[derive(Clone, Copy)]
+    #[derive(Clone, Copy, PartialEq, Eq)]
     pub struct CityCountConstraint {
         pub vertices: usize,
         pub edges: usize,
@@ -88,6 +89,12 @@ mod c {
         pub states: [u8; 1984],
         pub ledger: [u16; 1984],
         pub len: usize,
+    }
+
+    #[repr(C)]
+    pub struct Edge {
+        pub u: u16,
+        pub v: u16,
     }
 
     #[repr(C)]
@@ -121,6 +128,44 @@ mod c {
     }
 
     #[repr(C)]
+    pub struct Opened {
+        pub code: u8,
+        pub puzzle: Puzzle,
+        pub at: usize,
+        pub count: usize,
+    }
+
+    #[repr(C)]
+    pub struct Ran {
+        pub puzzle: Puzzle,
+        pub at: usize,
+        pub done: usize,
+        pub len: usize,
+    }
+
+    #[repr(C)]
+    #[derive(Clone, Copy, Debug, Default, PartialEq, Eq)]
+    pub struct Parts {
+        pub code: u8,
+        pub height: usize,
+        pub width: usize,
+        pub walls_at: usize,
+        pub walls_count: usize,
+        pub clues_at: usize,
+        pub clues_count: usize,
+        pub calls_at: usize,
+        pub calls_count: usize,
+    }
+
+    #[repr(C)]
+    pub struct CallFields {
+        pub code: u8,
+        pub kind: u8,
+        pub border: usize,
+        pub behind: usize,
+    }
+
+    #[repr(C)]
     pub struct Verdict {
         pub code: u8,
         pub fault: bool,
@@ -141,6 +186,8 @@ mod c {
         pub safe fn sendai_board_decide(board: Board, border: usize, wall: bool) -> Decided;
         pub safe fn sendai_board_undo(board: Board) -> Decided;
         pub safe fn sendai_board_check(board: Board) -> u8;
+        pub safe fn sendai_board_decide_in_place(board: &mut Board, border: usize, wall: bool) -> u8;
+        pub safe fn sendai_board_undo_in_place(board: &mut Board) -> u8;
         pub safe fn sendai_union_new(n: usize) -> Made;
         pub safe fn sendai_union_find(union: UnionFind, x: usize) -> Found;
         pub safe fn sendai_union_unite(union: UnionFind, x: usize, y: usize) -> United;
@@ -167,6 +214,7 @@ mod c {
             vs_length: usize,
             count: u32,
         ) -> RoomDecided;
+        pub fn sendai_room_make_of_edges(vertices: usize, edges: *const Edge, length: usize, count: u32) -> RoomDecided;
         pub fn sendai_room_ask(room: CityCountConstraint, buffer: *mut u16, room_for: usize) -> Verdict;
         pub fn sendai_groups(board: Board, potential: bool, buffer: *mut u16, room: usize) -> Grouping;
         pub fn sendai_group(
@@ -182,6 +230,35 @@ mod c {
         pub fn sendai_potential_unit_boundary(board: Board, unit: usize, buffer: *mut u16, room: usize) -> Listing;
         pub fn sendai_board_ask(board: Board, buffer: *mut u16, room: usize) -> Verdict;
         pub fn sendai_hand_over(entries: *const u16, length: usize, buffer: *mut u16, room: usize) -> Listing;
+        pub fn sendai_case_open(file: *const u8, length: usize) -> Opened;
+        pub fn sendai_case_run(
+            file: *const u8,
+            length: usize,
+            at: usize,
+            count: usize,
+            puzzle: Puzzle,
+            out: *mut u8,
+            room: usize,
+        ) -> Ran;
+        pub fn sendai_file_decode(file: *const u8, length: usize) -> Parts;
+        pub fn sendai_file_call(file: *const u8, length: usize, at: usize) -> CallFields;
+        pub fn sendai_file_number(file: *const u8, length: usize, at: usize, count: usize, k: usize) -> usize;
+        pub fn sendai_file_numbers(
+            file: *const u8,
+            length: usize,
+            at: usize,
+            count: usize,
+            out: *mut u16,
+            room: usize,
+        );
+        pub fn sendai_line(
+            kind: u8,
+            number: usize,
+            entries: *const u16,
+            length: usize,
+            buffer: *mut u8,
+            room: usize,
+        ) -> usize;
     }
 }
 
@@ -215,7 +292,7 @@ fn accepted(code: u8) -> Result<(), u8> {
 }
 
 /// A board record. A call puts what it returned in its place, refused or not.
-#[derive(Clone, Copy)]
+#[derive(Clone, Copy, PartialEq, Eq)]
 pub struct Board(c::Board);
 
 impl Board {
@@ -248,6 +325,15 @@ impl Board {
 
     pub fn undo(&mut self) -> Result<(), u8> {
         self.put(c::sendai_board_undo(self.0))
+    }
+
+    /// The board is lent, and changed where it is.
+    pub fn decide_in_place(&mut self, border: usize, wall: bool) -> Result<(), u8> {
+        accepted(c::sendai_board_decide_in_place(&mut self.0, border, wall))
+    }
+
+    pub fn undo_in_place(&mut self) -> Result<(), u8> {
+        accepted(c::sendai_board_undo_in_place(&mut self.0))
     }
 
     /// Questions 1 and 2.
@@ -385,7 +471,7 @@ impl Board {
 }
 
 /// A room graph's record.
-#[derive(Clone, Copy)]
+#[derive(Clone, Copy, PartialEq, Eq)]
 pub struct City(c::CityCountConstraint);
 
 impl City {
@@ -394,6 +480,14 @@ impl City {
         let (us, vs) = (ends(|e| e.0), ends(|e| e.1));
         // both slices live through the call
         let made = unsafe { c::sendai_room_make(vertices, us.as_ptr(), us.len(), vs.as_ptr(), vs.len(), count) };
+        accepted(made.code).map(|()| City(made.room))
+    }
+
+    /// With the edges as one list of records.
+    pub fn make_of_edges(vertices: usize, edges: &[(usize, usize)], count: u32) -> Result<City, u8> {
+        let list: Vec<c::Edge> = edges.iter().map(|&(u, v)| c::Edge { u: u as u16, v: v as u16 }).collect();
+        // the slice lives through the call
+        let made = unsafe { c::sendai_room_make_of_edges(vertices, list.as_ptr(), list.len(), count) };
         accepted(made.code).map(|()| City(made.room))
     }
 

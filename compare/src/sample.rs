@@ -79,7 +79,7 @@ pub fn few_boards(count: usize) -> Vec<Standing> {
 
 /// Writes each layer's file to the folder.
 pub fn write(folder: &Path) {
-    for layer in &LAYERS {
+    for layer in LAYERS.iter().filter(|layer| layer.kind != 0) {
         let mut sample = Sample { cases: 0, bytes: vec![] };
         (layer.sample)(&mut sample);
         sample.write(layer.kind, folder, &format!("{}.bin", layer.name));

@@ -126,27 +126,38 @@ pub fn on_boards(boards: &[(&str, Standing)]) -> (Vec<String>, Vec<Row<Vec<Pair>
     (columns.map(String::from).to_vec(), rows)
 }
 
-/// A decide and an undo on each board, beside the port's ask on it; then on boards and puzzles of other sides.
+/// A decide and an undo of a border that is undecided then, by value and in place.
+fn turn(board: &Standing) -> [Pair; 2] {
+    let mut states = board.states.clone();
+    let border = states.iter().position(|&s| s == UNDECIDED).unwrap_or(0);
+    states[border] = UNDECIDED;
+    let mut rust = Board::standing(board.height, board.width, &states);
+    let mut ours = port::Board::standing(board.height, board.width, &states);
+    let by_value = both(
+        || rust.decide_and_undo(black_box(border), true),
+        || {
+            ours.decide(black_box(border), true).expect("decided");
+            ours.undo().expect("undone");
+        },
+    );
+    let in_place = both(
+        || rust.decide_and_undo(black_box(border), true),
+        || {
+            ours.decide_in_place(black_box(border), true).expect("decided");
+            ours.undo_in_place().expect("undone");
+        },
+    );
+    [by_value, in_place]
+}
+
+/// A decide and an undo on each board and on a puzzle, beside the port's ask on it.
 pub fn decide_and_undo(boards: &[(&str, Standing)], asks: &[(String, Pair)]) -> Vec<(String, Pair, f64)> {
-    let times = |board: &Standing| {
-        let mut states = board.states.clone();
-        let border = states.iter().position(|&s| s == UNDECIDED).unwrap_or(0);
-        states[border] = UNDECIDED;
-        let mut rust = Board::standing(board.height, board.width, &states);
-        let mut ours = port::Board::standing(board.height, board.width, &states);
-        both(
-            || rust.decide_and_undo(black_box(border), true),
-            || {
-                ours.decide(black_box(border), true).expect("decided");
-                ours.undo().expect("undone");
-            },
-        )
-    };
     let on = |(name, board): &(&str, Standing)| {
-        let ask = asks.iter().find(|ask| ask.0 == *name).expect("asked");
-        (name.to_string(), times(board), ask.1.port)
+        let ask = asks.iter().find(|ask| ask.0 == *name).expect("asked").1.port;
+        let [by_value, in_place] = turn(board);
+        [(name.to_string(), by_value, ask), (format!("{name}, in place"), in_place, ask)]
     };
-    boards.iter().map(on).chain([on_puzzle(asks)]).collect()
+    boards.iter().flat_map(on).chain([on_puzzle(asks)]).collect()
 }
 
 fn on_puzzle(asks: &[(String, Pair)]) -> (String, Pair, f64) {
@@ -258,6 +269,11 @@ pub fn stacks(boards: &[(&str, Standing)], puzzles: &[(&str, Laid)]) -> Vec<(Str
             let mut board = standing[5];
             board.decide(0, true).expect("decided");
             board.undo().expect("undone");
+        })]),
+        on("the same in place", vec![stack::used(|| {
+            let mut board = standing[5];
+            board.decide_in_place(0, true).expect("decided");
+            board.undo_in_place().expect("undone");
         })]),
         on("shape check", standing.iter().map(|b| stack::used(|| b.ask_in(buffer))).collect()),
         on("room check", cities.iter().map(|c| stack::used(|| c.ask_in(buffer))).collect()),

@@ -1,4 +1,5 @@
-//! Lists of decide and undo calls: after each, the answer, the states and the ledger of `BoardManager` beside the port's.
+//! Lists of decide and undo calls, by value and in place: after each, the answer, the states and the ledger of `BoardManager`
+//! beside the port's.
 use super::{until, Limits};
 use crate::boards::border_count;
 use crate::port;
@@ -12,13 +13,18 @@ fn compare(tally: &mut Tally, height: usize, width: usize, calls: &[Call]) {
     tally.case();
     let mut rust = Board::new(height, width);
     let mut ours = port::Board::make(height, width).expect("a size within the limits");
+    let mut lent = ours;
     for (at, &call) in calls.iter().enumerate() {
-        let (theirs, answer) = match call {
-            Call::Decide { border, wall } => (rust.decide(border, wall), ours.decide(border, wall)),
-            Call::Undo => (rust.undo(), ours.undo()),
+        let (theirs, answer, in_place) = match call {
+            Call::Decide { border, wall } => {
+                (rust.decide(border, wall), ours.decide(border, wall), lent.decide_in_place(border, wall))
+            }
+            Call::Undo => (rust.undo(), ours.undo(), lent.undo_in_place()),
         };
         let on = || format!("{height} by {width}, call {at} of {calls:?}");
         tally.same(&theirs, &answer, on);
+        tally.same(&theirs, &in_place, on);
+        tally.same(&true, &(lent == ours), on);
         tally.same(&(rust.states(), rust.ledger()), &(ours.states(), ours.ledger()), on);
         tally.same(&Ok(()), &ours.check(), on);
     }

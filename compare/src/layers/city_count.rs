@@ -28,6 +28,9 @@ fn ask(tally: &mut Tally, vertices: usize, edges: &Edges, count: u32, states: &[
 /// A list of calls on a graph, with an ask after each.
 fn compare(tally: &mut Tally, vertices: usize, edges: &Edges, count: u32, calls: &[Call]) {
     tally.case();
+    let made = |city: Result<port::City, u8>| (city.err(), city.ok());
+    let whole = made(port::City::make(vertices, edges, count)) == made(port::City::make_of_edges(vertices, edges, count));
+    tally.same(&true, &whole, || format!("{vertices} vertices, {edges:?} as records, count {count}"));
     let (mut rust, mut ours) = match (City::new(vertices, edges, count), port::City::make(vertices, edges, count)) {
         (Ok(rust), Ok(ours)) => (rust, ours),
         (theirs, ours) => {
@@ -124,8 +127,9 @@ pub fn run(limits: &Limits) -> Tally {
         ask(&mut tally, vertices, &graph, random.below(vertices + 3) as u32, &states);
     });
     for (vertices, edges) in [(1025, 0), (2, 1985), (usize::MAX, 0)] {
-        let ours = port::City::make(vertices, &vec![(0, 1); edges], 1).err();
-        tally.same(&Some(1), &ours, || format!("{vertices} vertices, {edges} edges"));
+        let list = vec![(0, 1); edges];
+        let ours = [port::City::make(vertices, &list, 1).err(), port::City::make_of_edges(vertices, &list, 1).err()];
+        tally.same(&[Some(1); 2], &ours, || format!("{vertices} vertices, {edges} edges"));
     }
     tally.done()
 }

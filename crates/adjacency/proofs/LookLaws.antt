@@ -24,7 +24,7 @@ use Rattle.grid.specs.Grid.{Grid, Cell, stepOf}
 use Rattle.grid.proofs.Beyond.{the-type}
 use Rattle.grid.proofs.Geometry.{Step, goes-step, border-lt}
 use Rattle.borders.specs.Border.{stateAt, stands}
-use Rattle.groups.proofs.FloodSteps.{at-told, end-told}
+use Rattle.grid.proofs.Told.{at-told, end-told}
 use Rattle.shape.specs.Shape.{wallTo}
 use Rattle.adjacency.specs.Adjacency.{behind, parted, Looks, Noted, Looked}
 

@@ -7,6 +7,7 @@ use mathlib.Core.List.{List}
 use native.Mathlib.Omega.{arith}
 use lib.ListN.{getD, length, take, drop}
 use lib.Seq.{sets, sets-eq, length-sets, length-take-le, take-append-seam}
+use Rattle.lists.proofs.SetsLaws.{front}
 use Rattle.grid.specs.Grid.{Grid, cells, Limits}
 use Rattle.grid.proofs.Geometry.{cells-le}
 use Rattle.groups.specs.Groups.{groupIds, groupCount}
@@ -22,10 +23,6 @@ use Rattle.adjacency.specs.Turns.{InTurn}
 blank-long : length blankPlaces ≡ 1024
 unfolding blankPlaces
 blank-long = refl
-
--- the front to which a list was written
-pub taken-front : (xs l : List ℕ) → length xs ≤ length l → take (length xs) (sets l 0 xs) ≡ xs
-taken-front xs l h = let z : 0 + length xs ≤ length l = omega arith in rw (sets-eq xs l 0 z) (take-append-seam xs (drop (0 + length xs) l))
 
 module _ {g : Grid} (limits : Limits g) (states : List ℕ) (p : Bool) (flat : List ℕ) (long : cells g ≤ length flat) where
   abbrev ids : List ℕ
@@ -82,7 +79,7 @@ module _ {g : Grid} (limits : Limits g) where
     pub ids-are : take (cells g) ids ≡ groupIds g states p
     ids-are =
         let n : length (groupIds g states p) ≡ cells g = ids-length g states p in
-        rw (w .ids-are, ← n) (taken-front (groupIds g states p) blankPlaces (omega (arith, n, arrays-fit)))
+        rw (w .ids-are, ← n) (front blankPlaces (groupIds g states p) (omega (arith, n, arrays-fit)))
 
     pub front-turns : InTurn g (take (cells g) ids) count starts flat
     front-turns = rw ids-are (in-turn limits states p blankPlaces arrays-fit w)

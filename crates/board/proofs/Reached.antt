@@ -17,7 +17,7 @@ use Rattle.lists.proofs.ChoiceLaws.{both-true}
 use Rattle.lists.proofs.Cases.{le-or-lt, eq-or-ne, true-or-false}
 use Rattle.grid.specs.Grid.{Grid, grid, sizesOk, Limits, borderCount}
 use Rattle.grid.proofs.Geometry.{borderCount-le}
-use Rattle.ledger.specs.Ledger.{Decision, Call, decide, undo, ask, stateOf, stateIn, standing, accepted, ledgerAfter, ledgerOf, borders}
+use Rattle.ledger.specs.Ledger.{Decision, Call, decide, undo, ask, stateFor, stateIn, standing, accepted, ledgerAfter, ledgerOf, borders}
 use Rattle.ledger.proofs.Standing.{Sound, sound-empty, sound-length, sound-decide, sound-take, Follows, follows-decide, follows-undo, holds-together, accepted-facts}
 use Rattle.board.specs.declared.Board.{Board}
 use Rattle.board.specs.declared.Decided.{Decided}
@@ -150,8 +150,8 @@ module _ (h w : ℕ) (l : Limits (grid h w)) where
         let free = place-free h w (b .states) (b .ledger) (b .len) ready (r .ledger-long) e (f .0) (f .1) in
         let at : b .len + 1 - 1 ≡ b .len = omega arith in
         let name = getD-set-same (b .ledger) (b .len) e 0 (let i : b .len < length (b .ledger) = omega (arith, r .ledger-long) in i) in
-        let states : set (set (b .states) e (stateOf wall)) e 0 ≡ b .states =
-        set-set (b .states) e (stateOf wall) 0 ∙ ap (set (b .states) e) (sym (f .1)) ∙ set-getD (b .states) e 0 in
+        let states : set (set (b .states) e (stateFor wall)) e 0 ≡ b .states =
+        set-set (b .states) e (stateFor wall) 0 ∙ ap (set (b .states) e) (sym (f .1)) ∙ set-getD (b .states) e 0 in
         let ledger : set (set (b .ledger) (b .len) e) (b .len) 0 ≡ b .ledger =
         set-set (b .ledger) (b .len) e 0 ∙ ap (set (b .ledger) (b .len)) (sym (r .rest-free (b .len) (omega arith))) ∙ set-getD (b .ledger) (b .len) 0 in
         rw (at, name, states, ledger)

@@ -7,7 +7,7 @@ use lib.Dec.{eqb, ltb, leb}
 use lib.ListN.{getD, set, take, replicate}
 use Rattle.lists.specs.Choice.{both, pick}
 use Rattle.grid.specs.Grid.{Grid, grid, sizesOk, borderCount}
-use Rattle.ledger.specs.Ledger.{stateOf, holdsOf}
+use Rattle.ledger.specs.Ledger.{stateFor, holdsOf}
 use Rattle.board.specs.declared.Board.{Board}
 use Rattle.board.specs.declared.Decided.{Decided}
 
@@ -69,7 +69,7 @@ asked b then = pick (eqb (boardCode b) 0) then (answer (boardCode b) b)
 -- the border has its value, and stands at the ledger's end
 abbrev pub placed : Board → ℕ → Bool → Board
 placed b e wall =
-    record { height = b .height; width = b .width; states = set (b .states) e (stateOf wall); ledger = set (b .ledger) (b .len) e; len = b .len + 1 }
+    record { height = b .height; width = b .width; states = set (b .states) e (stateFor wall); ledger = set (b .ledger) (b .len) e; len = b .len + 1 }
 
 -- "Decide: is the border undecided?"
 abbrev pub decideOf : Board → ℕ → Bool → Decided

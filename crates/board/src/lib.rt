@@ -2,7 +2,7 @@
 ghost use mathlib.Core.Path.{_≡_};
 ghost use Prim.Native.Nat.{_-_, _≤_, _<_};
 ghost use lib.ListN.{length, getD, set};
-ghost use Rattle.ledger.specs.Ledger.{stateOf};
+ghost use Rattle.ledger.specs.Ledger.{stateFor};
 ghost use Rattle.board.specs.Board.{freshBoard, makeOf, checkOf, boardCode, placed, taken, decideOf, undoOf, decideCode, undoCode};
 
 // States stand at their border's number; the ledger's first `len` places name the decided borders in order.
@@ -156,7 +156,7 @@ fn undo_code<'a>(height: usize, width: usize, states: &'a [u8], names: &'a [u16]
 
 // The state of a decided border.
 fn state_of(wall: bool) -> u8
-    ensures { λ r. ⌜ r ≡ stateOf wall ⌝ }
+    ensures { λ r. ⌜ r ≡ stateFor wall ⌝ }
 {
     if wall {
         return 2;

@@ -26,7 +26,8 @@ use Rattle.groups.proofs.Theorems.{grouping-hand-out}
 use Rattle.boundary.specs.declared.BoundaryAnswer.the-variants.{Listed}
 use Rattle.boundary.specs.Listing.{boundary, Listable}
 use Rattle.boundary.specs.Appended.{Appended}
-use Rattle.boundary.specs.Answer.{Outcome, refused, listed, answerOf, written, boundaryOutcome}
+use Rattle.boundary.specs.Answer.{answerOf, boundaryOutcome}
+use Rattle.board.specs.Outcome.{Outcome, refused, listed, written}
 use Rattle.boundary.proofs.BoundaryLaws.{unit-most, potential-most, cells-most}
 
 -- answer and buffer go by the outcome

@@ -9,13 +9,8 @@ use native.Mathlib.Nat.{add-zero}
 use lib.ListN.{length, getD, set, drop, drop-of-length-le, length-append}
 use lib.Seq.{sets, length-sets, drop-cons}
 use Rattle.lists.specs.Lists.{gather}
+use Rattle.lists.proofs.SetsLaws.{sets-append}
 use Rattle.boundary.specs.Appended.{Appended}
-
-sets-append : (xs ys buf : List ℕ) (at : ℕ) → sets buf at (xs ++ ys) ≡ sets (sets buf at xs) (at + length xs) ys
-sets-append [] ys buf at = rw add-zero
-sets-append (x ∷ xs) ys buf at =
-    let q : at + suc (length xs) ≡ suc at + length xs = omega arith in
-    rw q (sets-append xs ys (set buf at x) (suc at))
 
 pub appended-long : {buf xs buf' : List ℕ} {at at' : ℕ} → Appended buf at xs buf' at' → length buf' ≡ length buf
 appended-long {buf} {xs} {at = at} a = ap length (a .stored) ∙ length-sets buf at xs

@@ -25,7 +25,7 @@ use Rattle.borders.specs.Entry.{connectedEntry, wallEntry}
 use Rattle.borders.specs.Border.{stateAt, stands}
 use Rattle.groups.specs.Groups.{cellsOf}
 use Rattle.groups.proofs.GroupLaws.{in-cells}
-use Rattle.groups.proofs.FloodSteps.{at-told, end-told}
+use Rattle.grid.proofs.Told.{at-told, end-told}
 use Rattle.boundary.specs.declared.Kind.{Kind}
 use Rattle.boundary.specs.declared.Kind.the-variants.{Connected, Wall, OuterWall}
 use Rattle.boundary.specs.declared.Member.{Member}

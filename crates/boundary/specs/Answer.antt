@@ -5,30 +5,20 @@ use mathlib.Core.Bool.{Bool}
 use mathlib.Core.List.{List}
 use lib.Dec.{eqb, ltb, leb}
 use lib.ListN.{length}
-use lib.Seq.{sets}
 use Rattle.lists.specs.Choice.{pick}
 use Rattle.grid.specs.Grid.{Grid, cells}
 use Rattle.board.specs.declared.Board.{Board}
 use Rattle.board.specs.Board.{sizeOf, boardCode}
+use Rattle.board.specs.Outcome.{Outcome, refused, listed}
 use Rattle.groups.specs.Groups.{groupIds, groupCount}
 use Rattle.boundary.specs.declared.BoundaryAnswer.{BoundaryAnswer}
 use Rattle.boundary.specs.declared.BoundaryAnswer.the-variants.{Listed, Refused}
 use Rattle.boundary.specs.Listing.{boundary}
 
--- the call is refused by the question of this number, or gives a list
-pub data Outcome : Type 0 where
-  refused : ℕ → Outcome
-  listed : List ℕ → Outcome
-
 -- the case of the answer: 01's number, or the list's length
 abbrev pub answerOf : Outcome → BoundaryAnswer
 answerOf (refused n) = Refused n
 answerOf (listed xs) = Listed (length xs)
-
--- "no buffer byte changes"; "An accepted list fills the first n places, and the others stay"
-abbrev pub written : Outcome → List ℕ → List ℕ
-written (refused n) buffer = buffer
-written (listed xs) buffer = sets buffer 0 xs
 
 -- questions 3 and 6, for a buffer of `room` places: is there such a group, and has the buffer 9·h·w entries?
 abbrev pub groupOutcome : Grid → List ℕ → Bool → ℕ → ℕ → Outcome

@@ -11,7 +11,8 @@ use Rattle.board.specs.declared.Board.{Board}
 use Rattle.board.specs.Board.{together}
 use Rattle.groups.specs.Groups.{groupIds, groupCount}
 use Rattle.boundary.specs.Boundary.{unitBoundary, potentialBoundary}
-use Rattle.boundary.specs.Answer.{refused, listed, boundaryOutcome}
+use Rattle.boundary.specs.Answer.{boundaryOutcome}
+use Rattle.board.specs.Outcome.{refused, listed}
 
 -- 1 by 3, Wall, Connected: the unit of two cells, and its potential unit
 unit-of-two : unitBoundary (grid 1 3) (2 ∷ 1 ∷ []) (groupIds (grid 1 3) (2 ∷ 1 ∷ []) false) 1 ≡ 2 ∷ 1 ∷ []

@@ -26,7 +26,7 @@ use Rattle.lines.proofs.DecimalLaws.{digits-most}
 use Rattle.lines.proofs.LineLaws.{entries-fit}
 use Rattle.case_file.specs.declared.Call.{Call}
 use Rattle.case_file.specs.declared.Call.the-variants.{Undo, Decide}
-use Rattle.puzzle.proofs.Basics.{sets-length}
+use Rattle.lists.proofs.SetsLaws.{front}
 use Rattle.puzzle.specs.declared.Puzzle.{Puzzle}
 use Rattle.puzzle.specs.declared.Made.{Made}
 use Rattle.puzzle.specs.Puzzle.{decideOf, undoOf}
@@ -86,7 +86,7 @@ module _ (list : List ℕ) (few : length list ≤ 9216) where
   listed h n buf k e m =
       let o = written list (length blank) n (rw k at e) in
       let s : buf ≡ sets blank 0 (sortedOnce list) = rw (le-leb (length list) (length blank) (o .0)) at m in
-      let t : take n buf ≡ sortedOnce list = rw (s, o .1) (sets-length blank (sortedOnce list) (omega (arith, o .0, no-longer list))) in
+      let t : take n buf ≡ sortedOnce list = rw (s, o .1) (front blank (sortedOnce list) (omega (arith, o .0, no-longer list))) in
       record { within = omega (arith, ap length s, length-sets blank 0 (sortedOnce list), o .0, o .1, no-longer list); long = o .1 ∙ ap length (sym t); is = t }
 
 -- the line of a fault

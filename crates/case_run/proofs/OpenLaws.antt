@@ -16,7 +16,7 @@ use Rattle.case_file.proofs.BackLaws.{parts}
 use Rattle.case_file.proofs.UseLaws.{accepted, refused, walls-there, clues-there}
 use Rattle.puzzle.specs.declared.Made.{Made}
 use Rattle.puzzle.specs.Puzzle.{makeOf}
-use Rattle.puzzle.proofs.Basics.{sets-length}
+use Rattle.lists.proofs.SetsLaws.{front}
 use Rattle.case_run.specs.declared.Opened.{Opened}
 use Rattle.case_run.specs.CaseRun.{opened, openedAs, openedOf}
 
@@ -52,7 +52,7 @@ module _ (bs : List ℕ) (f : Case) (e : decodeOf bs ≡ some f) where
       let few : n ≤ 30000 = omega (arith, k, ap length q, words-most (take (2 * n) (drop at bs)), length-take (2 * n) (drop at bs), length-drop at bs, file-short) in
       let l : length {A = ℕ} (replicate 30000 0) ≡ 30000 = length-replicate {A = ℕ} 30000 0 in
       let b : buf ≡ sets (replicate 30000 0) 0 xs = rw q at s in
-      let t : take n buf ≡ xs = rw (b, k) (sets-length (replicate 30000 0) xs (omega arith)) in
+      let t : take n buf ≡ xs = rw (b, k) (front (replicate 30000 0) xs (omega arith)) in
       record { within = omega (arith, ap length b, length-sets (replicate 30000 0) 0 xs); long = k ∙ ap length (sym t); is = t }
 
   module _ (l : Layout) (s : l ≡ layoutOf f) where

@@ -14,7 +14,7 @@ use Rattle.case_file.specs.declared.Step.the-variants as step
 use Rattle.case_file.specs.Sound.{callOf}
 use Rattle.case_file.specs.Layout.{sizeOf, stepAt}
 use Rattle.case_file.proofs.ListLaws.{Whole, call-cases, step-unsound}
-use Rattle.lines.proofs.LineLaws.{sets-append}
+use Rattle.lists.proofs.SetsLaws.{sets-append}
 use Rattle.puzzle.specs.declared.Puzzle.{Puzzle}
 use Rattle.puzzle.specs.Run.{puzzleAfter, run, replyTo, replies}
 use Rattle.case_run.specs.declared.Turn.{Turn}

@@ -20,6 +20,7 @@ use puzzle::Check;
 use puzzle::Puzzle;
 
 // A file's puzzle, or the number that refuses the file (11) or its puzzle; its first call's byte, and how many calls it has.
+#[repr(C)]
 pub struct Opened {
     pub code: u8,
     pub puzzle: Puzzle,
@@ -34,6 +35,7 @@ pub struct Turn {
 }
 
 // What a list of calls left: the puzzle, the byte behind the last call, how many calls were done, and how many bytes their lines have.
+#[repr(C)]
 pub struct Ran {
     pub puzzle: Puzzle,
     pub at: usize,

@@ -10,7 +10,7 @@ use lib.ListN.{length, getD, set, take, replicate}
 use lib.Seq.{sets}
 use Rattle.lists.specs.Choice.{both, pick}
 use Rattle.lists.specs.Lists.{range, all}
-use Rattle.ledger.specs.Ledger.{stateOf, holdsOf}
+use Rattle.ledger.specs.Ledger.{stateFor, holdsOf}
 use Rattle.room_parts.specs.Graph.{Graph, graph, statesIn}
 use Rattle.city_count.specs.Fault.{roomFault, listOf}
 use Rattle.city_count.specs.declared.CityCountConstraint.{CityCountConstraint}
@@ -34,9 +34,13 @@ zeroRoom = freshRoom 0 0 zeros zeros 0
 abbrev pub answer : ℕ → CityCountConstraint → Decided
 answer k r = record { code = k; room = r }
 
+-- number i of a list is below n
+abbrev pub below : ℕ → List ℕ → ℕ → Bool
+below n xs i = ltb (getD xs i 0) n
+
 -- "Does every vertex named exist?"
 unfoldable pub endsExist : ℕ → ℕ → List ℕ → List ℕ → Bool
-endsExist n m us vs = all (λ i. both (ltb (getD us i 0) n) (ltb (getD vs i 0) n)) (range m)
+endsExist n m us vs = all (λ i. both (below n us i) (below n vs i)) (range m)
 
 -- no edge of a lone graph is given
 abbrev pub noneGiven : ℕ → Bool
@@ -77,7 +81,7 @@ placed r e wall =
       us = r .us;
       vs = r .vs;
       count = r .count;
-      states = set (r .states) e (stateOf wall);
+      states = set (r .states) e (stateFor wall);
       ledger = set (r .ledger) (r .len) e;
       len = r .len + 1;
     }

@@ -5,10 +5,11 @@ ghost use Prim.Native.Nat.{_-_, _≤_, _<_};
 ghost use lib.ListN.{length, getD};
 ghost use lib.Seq.{sets};
 ghost use lib.Dec.{eqb};
-ghost use Rattle.ledger.specs.Ledger.{stateOf};
+ghost use Rattle.lists.specs.Lists.{range, all};
+ghost use Rattle.ledger.specs.Ledger.{stateFor};
 ghost use Rattle.room_parts.specs.Graph.{graph, statesIn, Lent};
 ghost use Rattle.city_count.specs.Fault.{entryOf, entriesOf, roomFault, listOf};
-ghost use Rattle.city_count.specs.Room.{foundOf, endsExist, checkOf, roomCode, zeroRoom, answer, makeOf, placed, taken, decideOf, undoOf, askOf, askedIn, Sized};
+ghost use Rattle.city_count.specs.Room.{foundOf, below, endsExist, checkOf, roomCode, zeroRoom, answer, makeOf, placed, taken, decideOf, undoOf, askOf, askedIn, Sized};
 
 // Edge i is between the vertices us[i] and vs[i]; the first `edges` places count. States stand at their edge's number; the ledger's first
 // `len` places name the decided edges in order.
@@ -64,7 +65,7 @@ fn entry(edge: usize, wall: bool) -> u16
 
 // Whether an edge of this state is Wall, or Connected.
 fn stands(state: u8, wall: bool) -> bool
-    ensures { λ r. ⌜ r ≡ eqb state (stateOf wall) ⌝ }
+    ensures { λ r. ⌜ r ≡ eqb state (stateFor wall) ⌝ }
 {
     if wall {
         return state == 2;
@@ -75,8 +76,8 @@ fn stands(state: u8, wall: bool) -> bool
 // Writes the entries of all Walls, or of all Connected edges, to the buffer's front, and returns how many there are.
 fn list(m: usize, states: &[u8], wall: bool, buf: &mut [u16]) -> usize
     requires { ⌜ (m ≤ 1984) × (m ≤ length (now states)) × (m ≤ length (now buf)) ⌝ }
-    ensures { λ r. ⌜ r ≡ length (entriesOf (entryOf wall) (stateOf wall) m (statesIn (now (states .entry)))) ⌝ }
-    ensures { λ r. ⌜ now (buf .exit) ≡ sets (now (buf .entry)) 0 (entriesOf (entryOf wall) (stateOf wall) m (statesIn (now (states .entry)))) ⌝ }
+    ensures { λ r. ⌜ r ≡ length (entriesOf (entryOf wall) (stateFor wall) m (statesIn (now (states .entry)))) ⌝ }
+    ensures { λ r. ⌜ now (buf .exit) ≡ sets (now (buf .entry)) 0 (entriesOf (entryOf wall) (stateFor wall) m (statesIn (now (states .entry)))) ⌝ }
 {
     let mut n = 0;
     let mut i = 0;
@@ -91,6 +92,7 @@ fn list(m: usize, states: &[u8], wall: bool, buf: &mut [u16]) -> usize
 }
 
 // The check of a graph whose edges have these states: the list of a fault goes to the buffer's front, and a clear graph leaves the buffer.
+// The walk is left out where a bound of the parts is within the count.
 pub fn find_inconsistency<'a>(
     n: usize,
     m: usize,
@@ -108,28 +110,41 @@ pub fn find_inconsistency<'a>(
     if room_parts::tipped(n, m, us, vs, states, count) {
         return Inconsistency::Listed(list(m, states, false, buf));
     }
+    if room_parts::most_parts(n, m, us, vs, states) <= count {
+        return Inconsistency::Nothing;
+    }
     if count < room_parts::joined_parts(n, m, us, vs, states) {
         return Inconsistency::Listed(list(m, states, true, buf));
     }
     Inconsistency::Nothing
 }
 
-// Is each end of the first `m` edges one of the `n` vertices?
-fn ends_exist<'a>(n: usize, m: usize, us: &'a [u16], vs: &'a [u16]) -> bool
-    requires { ⌜ (m ≤ length (now us)) × (m ≤ length (now vs)) ⌝ }
-    ensures { λ r. ⌜ r ≡ endsExist n m (now (us .entry)) (now (vs .entry)) ⌝ }
+// Is each of the first `m` numbers below `n`? The loop has no way out before its end, so that it is compiled to take many numbers at a time.
+fn all_below(n: usize, m: usize, xs: &[u16]) -> bool
+    requires { ⌜ (n ≤ 1024) × (m ≤ length (now xs)) ⌝ }
+    ensures { λ r. ⌜ r ≡ all (below n (now (xs .entry))) (range m) ⌝ }
 {
+    let end = n as u16;
+    let mut fine = true;
     let mut i = 0;
     while i < m {
-        if n <= wide(us[i]) {
-            return false;
-        }
-        if n <= wide(vs[i]) {
-            return false;
+        if end <= xs[i] {
+            fine = false;
         }
         i += 1;
     }
-    true
+    fine
+}
+
+// Is each end of the first `m` edges one of the `n` vertices?
+fn ends_exist<'a>(n: usize, m: usize, us: &'a [u16], vs: &'a [u16]) -> bool
+    requires { ⌜ (n ≤ 1024) × (m ≤ length (now us)) × (m ≤ length (now vs)) ⌝ }
+    ensures { λ r. ⌜ r ≡ endsExist n m (now (us .entry)) (now (vs .entry)) ⌝ }
+{
+    if !all_below(n, m, us) {
+        return false;
+    }
+    all_below(n, m, vs)
 }
 
 // Questions 1 and 2 of a room graph's parts: 01's number, or 0.

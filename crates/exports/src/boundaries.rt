@@ -2,7 +2,8 @@
 ghost use mathlib.Core.Path.{_≡_};
 ghost use mathlib.Core.Bool.{true, false};
 ghost use lib.ListN.{length};
-ghost use Rattle.boundary.specs.Answer.{answerOf, written, boundaryOutcome};
+ghost use Rattle.boundary.specs.Answer.{answerOf, boundaryOutcome};
+ghost use Rattle.board.specs.Outcome.{written};
 ghost use Rattle.exports.specs.Listings.{boundaryListing};
 use crate::listings;
 use crate::listings::Listing;

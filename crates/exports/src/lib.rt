@@ -1,13 +1,19 @@
 // The public calls for programs in Rust and C, each a thin wrapper with its call's contract. A record goes in and comes back
-// by value, laid out as in C; a slice is a pointer and a length. An enum does not cross: it is handed over as numbers.
+// by value, laid out as in C; a slice is a pointer and a length, a lent board a pointer. An enum does not cross: it is handed
+// over as numbers.
 mod boards;
 mod boundaries;
+mod cases;
 mod copies;
+mod edges;
+mod files;
 mod groupings;
 mod hands;
+mod in_place;
 mod listings;
 mod paths;
 mod places;
+mod prints;
 mod puzzles;
 mod rooms;
 mod shapes;
@@ -19,11 +25,21 @@ pub use boards::sendai_board_make;
 pub use boards::sendai_board_undo;
 pub use boundaries::sendai_potential_unit_boundary;
 pub use boundaries::sendai_unit_boundary;
+pub use cases::sendai_case_open;
+pub use cases::sendai_case_run;
+pub use edges::sendai_room_make_of_edges;
+pub use files::sendai_file_call;
+pub use files::sendai_file_decode;
+pub use files::sendai_file_number;
+pub use files::sendai_file_numbers;
 pub use groupings::sendai_group;
 pub use groupings::sendai_groups;
 pub use hands::sendai_hand_over;
+pub use in_place::sendai_board_decide_in_place;
+pub use in_place::sendai_board_undo_in_place;
 pub use paths::sendai_path;
 pub use places::sendai_neighbour;
+pub use prints::sendai_line;
 pub use puzzles::sendai_puzzle_ask;
 pub use puzzles::sendai_puzzle_check;
 pub use puzzles::sendai_puzzle_decide;

@@ -1,7 +1,8 @@
 // The path list.
 ghost use mathlib.Core.Path.{_≡_};
 ghost use lib.ListN.{length};
-ghost use Rattle.path.specs.Answer.{answerOf, written, pathOutcome};
+ghost use Rattle.path.specs.Answer.{answerOf, pathOutcome};
+ghost use Rattle.board.specs.Outcome.{written};
 ghost use Rattle.exports.specs.Listings.{pathListing};
 use crate::listings;
 use crate::listings::Listing;

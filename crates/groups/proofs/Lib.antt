@@ -1,5 +1,4 @@
 pub mod GroupLaws
-pub mod SetsLaws
 pub mod EdgeLaws
 pub mod FloodSteps
 pub mod TurnLaws

@@ -27,7 +27,7 @@ use Rattle.groups.specs.Turn.{cellsIn, inTurn, startOf, startsOf}
 use Rattle.groups.specs.Lent.{Lent, Grouped}
 use Rattle.groups.specs.Info.{blankPlaces, part, infoOf, groupingCode, groupingOf, bufferOf, endOf, startsRise, groupsExist, handOutOf}
 use Rattle.groups.proofs.EdgeLaws.{ids-at, ids-length, count-is}
-use Rattle.groups.proofs.SetsLaws.{sets-in}
+use Rattle.lists.proofs.SetsLaws.{front-at}
 use Rattle.groups.proofs.TurnLaws.{kept, rank, sorted, start, place, kept-at, kept-of, sorted-at, start-all, start-more, start-zero, place-at, place-of, rank-more}
 use Rattle.groups.proofs.Counting.{at, map-at}
 use Rattle.groups.proofs.Lending.{count-small}
@@ -105,9 +105,6 @@ cells-rise g ids k i j h l =
     (le-or-lt (b .0) (a .0))
 
 -- A GROUP'S PART OF THE CELLS IN TURN
-
-front-at : (xs vs : List ℕ) (i : ℕ) → length vs ≤ length xs → i < length vs → getD (sets xs 0 vs) i 0 ≡ getD vs i 0
-front-at xs vs i h l = let q : 0 + i ≡ i = omega arith in rw q at (sets-in vs xs 0 i (omega arith) l)
 
 -- starts that stand at the front of any long enough list
 module _ (g : Grid) (st : List ℕ) (p : Bool) (starts₀ : List ℕ) (fits : cells g ≤ length starts₀) where

@@ -23,7 +23,7 @@ use Rattle.borders.specs.Border.{stateAt, stands}
 use Rattle.path.specs.Path.{pathList}
 use Rattle.path.specs.Trace.{Asks}
 use Rattle.path.proofs.PathLaws.{path-list-short}
-use Rattle.path.proofs.Told.{at-told, end-told}
+use Rattle.grid.proofs.Told.{at-told, end-told}
 use Rattle.shape.specs.Shape.{innerAt}
 use Rattle.inner_walls.specs.declared.Found.the-variants.{Clear, Fault}
 use Rattle.inner_walls.specs.Found.{Told}

@@ -22,7 +22,7 @@ use Rattle.ledger.specs.Ledger.{
   decide,
   undo,
   ask,
-  stateOf,
+  stateFor,
   stateIn,
   standing,
   accepted,
@@ -41,7 +41,7 @@ pub record Sound (n : ℕ) (given : ℕ → Bool) (l : List Decision) : Type 0 w
   pub inside : (e : ℕ) → 1 ≤ count e (borders l) → e < n
   pub free : (e : ℕ) → 1 ≤ count e (borders l) → given e ≡ false
 
-pub state-le : (wall : Bool) → (1 ≤ stateOf wall) × (stateOf wall ≤ 2)
+pub state-le : (wall : Bool) → (1 ≤ stateFor wall) × (stateFor wall ≤ 2)
 state-le true = omega arith
 state-le false = omega arith
 
@@ -53,7 +53,7 @@ named-or-not (d ∷ l) e = go (eqb (d .border) e) refl (named-or-not l e)
   where
     go : (t : Bool) → eqb (d .border) e ≡ t
         → ((count e (borders l) ≡ 0) × (stateIn l e ≡ 0)) ⊎ ((1 ≤ count e (borders l)) × (1 ≤ stateIn l e) × (stateIn l e ≤ 2))
-        → ((pick (eqb (d .border) e) 1 0 + count e (borders l) ≡ 0) × (pick (eqb (d .border) e) (stateOf (d .wall)) (stateIn l e) ≡ 0)) ⊎ ((1 ≤ pick (eqb (d .border) e) 1 0 + count e (borders l)) × (1 ≤ pick (eqb (d .border) e) (stateOf (d .wall)) (stateIn l e)) × (pick (eqb (d .border) e) (stateOf (d .wall)) (stateIn l e) ≤ 2))
+        → ((pick (eqb (d .border) e) 1 0 + count e (borders l) ≡ 0) × (pick (eqb (d .border) e) (stateFor (d .wall)) (stateIn l e) ≡ 0)) ⊎ ((1 ≤ pick (eqb (d .border) e) 1 0 + count e (borders l)) × (1 ≤ pick (eqb (d .border) e) (stateFor (d .wall)) (stateIn l e)) × (pick (eqb (d .border) e) (stateFor (d .wall)) (stateIn l e) ≤ 2))
     go true q k = rw q (inr (omega arith, state-le (d .wall) .0, state-le (d .wall) .1))
     go false q (inl k) = rw q (inl (omega arith, k .1))
     go false q (inr k) = rw q (inr (omega arith, k .1, k .2))
@@ -77,19 +77,19 @@ count-before : (l : List Decision) (d : Decision) (x : ℕ) → d .border ≢ x 
 count-before l d x h = rw (borders-append l d, count-append x (borders l) (d .border ∷ []), count-other x (d .border) [] h) (omega (arith, count-none x))
 
 -- the state of the last decision, and of a border before it
-state-last : (l : List Decision) (d : Decision) → stateIn l (d .border) ≡ 0 → stateIn (l ++ (d ∷ [])) (d .border) ≡ stateOf (d .wall)
+state-last : (l : List Decision) (d : Decision) → stateIn l (d .border) ≡ 0 → stateIn (l ++ (d ∷ [])) (d .border) ≡ stateFor (d .wall)
 unfolding stateIn
 state-last [] d z = rw (eq-eqb (d .border) (d .border) refl)
 state-last (x ∷ l) d z =
     ⊎-elim
-    (λ (q : eqb (x .border) (d .border) ≡ true). absurd (let h : stateOf (x .wall) ≡ 0 = rw q at z in omega (arith, state-le (x .wall) .0)))
+    (λ (q : eqb (x .border) (d .border) ≡ true). absurd (let h : stateFor (x .wall) ≡ 0 = rw q at z in omega (arith, state-le (x .wall) .0)))
     (λ (q : eqb (x .border) (d .border) ≡ false). rw q (state-last l d (rw q at z)))
     (true-or-false (eqb (x .border) (d .border)))
 
 state-before : (l : List Decision) (d : Decision) (x : ℕ) → x ≢ d .border → stateIn (l ++ (d ∷ [])) x ≡ stateIn l x
 unfolding stateIn
 state-before [] d x h = rw (ne-eqb (d .border) x (λ q. h (sym q)))
-state-before (y ∷ l) d x h = ap (pick (eqb (y .border) x) (stateOf (y .wall))) (state-before l d x h)
+state-before (y ∷ l) d x h = ap (pick (eqb (y .border) x) (stateFor (y .wall))) (state-before l d x h)
 
 module _ (n : ℕ) (given : ℕ → Bool) where
   pub sound-empty : Sound n given []
@@ -183,14 +183,14 @@ module _ (n : ℕ) (given : ℕ → Bool) where
     pub names : l ≡ borders L
 
   pub follows-decide : (s l : List ℕ) (L : List Decision) (d : Decision) → Follows s l L → d .border < length s → given (d .border) ≡ false → stateIn L (d .border) ≡ 0
-      → Follows (set s (d .border) (stateOf (d .wall))) (l ++ (d .border ∷ [])) (L ++ (d ∷ []))
+      → Follows (set s (d .border) (stateFor (d .wall))) (l ++ (d .border ∷ [])) (L ++ (d ∷ []))
   follows-decide s l L d f b g z =
       let e = d .border in
       record {
         stands = λ x h.
             ⊎-elim
-            (λ (q : x ≡ e). rw (q, getD-set-same s e (stateOf (d .wall)) 0 b, standing-named (L ++ (d ∷ [])) e g, state-last L d z))
-            (λ (q : x ≢ e). rw (getD-set-other s e x (stateOf (d .wall)) 0 q) (f .stands x h ∙ standing-same L (L ++ (d ∷ [])) x (sym (state-before L d x q))))
+            (λ (q : x ≡ e). rw (q, getD-set-same s e (stateFor (d .wall)) 0 b, standing-named (L ++ (d ∷ [])) e g, state-last L d z))
+            (λ (q : x ≢ e). rw (getD-set-other s e x (stateFor (d .wall)) 0 q) (f .stands x h ∙ standing-same L (L ++ (d ∷ [])) x (sym (state-before L d x q))))
             (eq-or-ne x e);
         names = rw (f .names) (sym (borders-append L d));
       }

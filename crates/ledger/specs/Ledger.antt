@@ -19,13 +19,13 @@ pub data Call : Type 0 where
   ask : Call
 
 -- "undecided (0), Connected (1) or Wall (2)"
-abbrev pub stateOf : Bool → ℕ
-stateOf wall = pick wall 2 1
+abbrev pub stateFor : Bool → ℕ
+stateFor wall = pick wall 2 1
 
 -- the state that a ledger gives a border, 0 where it does not name it
 unfoldable pub stateIn : List Decision → ℕ → ℕ
 stateIn [] e = 0
-stateIn (d ∷ l) e = pick (eqb (d .border) e) (stateOf (d .wall)) (stateIn l e)
+stateIn (d ∷ l) e = pick (eqb (d .border) e) (stateFor (d .wall)) (stateIn l e)
 
 -- "The standing borders are the given walls, as Wall, and the ledger's with their values, whatever their order; all others are undecided."
 unfoldable pub standing : (ℕ → Bool) → List Decision → ℕ → ℕ

@@ -10,18 +10,13 @@ use lib.ListN.{length, getD, set, drop, length-set, length-append, drop-of-lengt
 use lib.Seq.{drop-cons, sets, length-sets}
 use mathlib.Core.Logic.{_≢_, inl, inr}
 use Rattle.lists.specs.Lists.{gather, In}
+use Rattle.lists.proofs.SetsLaws.{sets-append}
 use Rattle.lines.specs.declared.Line.the-variants.{Decided, Undone, Clear, Shape, Room, Refused}
 use Rattle.lines.specs.Decimal.{digitsOf, decimalOf}
 use Rattle.lines.specs.Line.{spacedOf, lineOf, needed, lengthIn, printedTo}
 use Rattle.lines.specs.declared.Line.{Line}
 use borrow.Author.Tests.{le-leb, lt-leb}
 use Rattle.lines.proofs.DecimalLaws.{digits-one, digits-more, digits-few, digits-most}
-
-pub sets-append : (xs ys l : List ℕ) (i : ℕ) → sets l i (xs ++ ys) ≡ sets (sets l i xs) (i + length xs) ys
-sets-append [] ys l i = rw add-zero
-sets-append (x ∷ xs) ys l i =
-    let e : i + suc (length xs) ≡ suc i + length xs = omega arith in
-    rw e (sets-append xs ys (set l i x) (suc i))
 
 -- The loop that writes a word: the rest of it, stored from its place on, gives all of it stored from the first place on.
 pub record Putting (word buf₀ : List ℕ) (at : ℕ) (buf : List ℕ) (i : ℕ) : Type 0 where

@@ -18,7 +18,8 @@ use Rattle.path.specs.declared.PathAnswer.{PathAnswer}
 use Rattle.path.specs.declared.PathAnswer.the-variants.{Listed, Refused}
 use Rattle.path.specs.Path.{Lists, listOf, search, pathOf}
 use Rattle.path.specs.Trace.{Traced, Asks, Fresh, Back, Walks}
-use Rattle.path.specs.Answer.{Outcome, refused, listed, answerOf, written, joined, pathOutcome}
+use Rattle.path.specs.Answer.{answerOf, joined, pathOutcome}
+use Rattle.board.specs.Outcome.{Outcome, refused, listed, written}
 use Rattle.path.proofs.Found.{new-none, old-some}
 use Rattle.path.proofs.PathLaws.{ended, leads-nowhere, path-short}
 

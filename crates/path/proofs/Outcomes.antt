@@ -13,7 +13,8 @@ use Rattle.board.specs.declared.Board.{Board}
 use Rattle.board.specs.Board.{sizeOf, boardCode}
 use Rattle.borders.specs.Border.{stateOf}
 use Rattle.path.specs.Path.{pathOf}
-use Rattle.path.specs.Answer.{refused, joined, pathOutcome}
+use Rattle.path.specs.Answer.{joined, pathOutcome}
+use Rattle.board.specs.Outcome.{refused}
 use Rattle.path.proofs.PathLaws.{path-none}
 use Rattle.path.proofs.Answers.{answered}
 

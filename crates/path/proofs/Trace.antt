@@ -24,7 +24,7 @@ use Rattle.borders.specs.Border.{stateOf, stateAt, stands}
 use Rattle.path.specs.Path.{Search, isNew, mark, finds, look, looks}
 use Rattle.path.specs.Trace.{blank, Traced, Looking, Looks, Follows}
 use Rattle.path.proofs.Found.{blank-set, new-none, marked-cases}
-use Rattle.path.proofs.Told.{at-told}
+use Rattle.grid.proofs.Told.{at-told}
 
 -- one more at the queue's end
 pub slice-more : (f t : ℕ) (q : List ℕ) (x : ℕ) → f ≤ t → t < length q → slice f t q ++ (x ∷ []) ≡ slice f (t + 1) (set q t x)

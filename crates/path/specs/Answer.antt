@@ -5,29 +5,19 @@ use mathlib.Core.List.{List}
 use mathlib.Core.Option.{Option, none, some}
 use lib.Dec.{eqb, ltb, leb}
 use lib.ListN.{length}
-use lib.Seq.{sets}
 use Rattle.lists.specs.Choice.{both, pick}
 use Rattle.grid.specs.Grid.{cells}
 use Rattle.board.specs.declared.Board.{Board}
 use Rattle.board.specs.Board.{sizeOf, boardCode}
+use Rattle.board.specs.Outcome.{Outcome, refused, listed}
 use Rattle.path.specs.declared.PathAnswer.{PathAnswer}
 use Rattle.path.specs.declared.PathAnswer.the-variants.{Listed, Refused}
 use Rattle.path.specs.Path.{pathOf}
-
--- the call is refused by the question of this number, or gives a list
-pub data Outcome : Type 0 where
-  refused : ℕ → Outcome
-  listed : List ℕ → Outcome
 
 -- the case of the answer: 01's number, or the list's length
 abbrev pub answerOf : Outcome → PathAnswer
 answerOf (refused n) = Refused n
 answerOf (listed p) = Listed (length p)
-
--- "no buffer byte changes"; "An accepted list fills the first n places, and the others stay"
-abbrev pub written : Outcome → List ℕ → List ℕ
-written (refused n) buffer = buffer
-written (listed p) buffer = sets buffer 0 p
 
 -- "Path: are the cells joined by Connected borders? No: 10"
 abbrev pub joined : Option (List ℕ) → Outcome

@@ -9,6 +9,7 @@ use mathlib.Core.Option.{Option, none, some}
 use native.Mathlib.Omega.{arith}
 use lib.ListN.{length, take, List·getD-eq-default}
 use Rattle.lists.proofs.Cases.{le-or-lt, true-or-false}
+use Rattle.lists.proofs.SetsLaws.{front}
 use Rattle.grid.specs.Grid.{grid, cells, borderCount}
 use Rattle.ledger.specs.Ledger.{Decision, standing}
 use Rattle.ledger.proofs.Standing.{Sound, named-or-not, standing-named, standing-given}
@@ -22,7 +23,7 @@ use Rattle.rooms.specs.Rooms.{isGiven}
 use Rattle.puzzle.specs.Fault.{Found, faultOf}
 use Rattle.puzzle.specs.Puzzle.{statesOf, freshPuzzle, onto, puzzleCode, faultIn, askCode, says, writes, Asked, askOf}
 use Rattle.puzzle.specs.Demand3.{Long, lengthOf, listIn, Gives, IsFault}
-use Rattle.puzzle.proofs.Basics.{sets-length, states-length, states-at}
+use Rattle.puzzle.proofs.Basics.{states-length, states-at}
 use Rattle.puzzle.proofs.Making.{Accepted, given-kept, clues-kept, given-inside}
 use Rattle.puzzle.proofs.Answers.{long-buffer, accepted-ask}
 use Rattle.puzzle.proofs.FaultLaws.{fault-agrees, fault-most}
@@ -52,7 +53,7 @@ none-clear f q = rw q
 -- what is written is what is listed
 written : (f : Option Found) (buf : List ℕ) → length (listIn f) ≤ length buf → take (lengthOf (says 0 f)) (writes 0 f buf) ≡ listIn f
 written none buf h = refl
-written (some x) buf h = sets-length buf (x .list) h
+written (some x) buf h = front buf (x .list) h
 
 -- STANDING BORDERS
 module _ (h w : ℕ) (given clues : List ℕ) (a : Accepted h w given clues) (L : List Decision) (sound : Sound (borderCount (grid h w)) (isGiven given) L) where

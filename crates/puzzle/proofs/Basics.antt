@@ -35,9 +35,6 @@ rises-length n [] q h = omega arith
 rises-length n (x ∷ l) q h = omega (arith, rises-from n x l q h)
 
 -- ARRAYS
-pub sets-length : {A : Type 0} (l vs : List A) → length vs ≤ length l → take (length vs) (sets l 0 vs) ≡ vs
-sets-length l vs h = rw (sets-eq vs l 0 (omega arith)) (take-append-seam vs (drop (0 + length vs) l))
-
 pub states-length : (n : ℕ) (s : ℕ → ℕ) → length (statesOf n s) ≡ n
 unfolding statesOf
 states-length n s = simp length-map (range-length n)

@@ -21,9 +21,9 @@ use Rattle.rooms.proofs.RoomLaws.{room-labels}
 use Rattle.rooms.proofs.PutLaws.{puts-length, unmarked-length, marks-at, room-between}
 use Rattle.puzzle.specs.declared.Answer.{Answer}
 use Rattle.puzzle.specs.Fault.{Found}
-use Rattle.puzzle.specs.Lists.{roomsFault, roomsIn, Housing, Asking}
+use Rattle.puzzle.specs.Lists.{roomsFault, roomsIn, Housing}
 use Rattle.puzzle.specs.Puzzle.{noClues, says, writes}
-use Rattle.puzzle.proofs.Basics.{sets-length}
+use Rattle.lists.proofs.SetsLaws.{front}
 use Rattle.puzzle.proofs.Making.{rooms-few}
 use Rattle.puzzle.proofs.ListsCode.{no-clues-length, rooms-lent}
 
@@ -46,7 +46,7 @@ module _ (g : Grid) (given : List ℕ) (len : ℕ) (w : Given g given len) (ids 
 
   -- each cell's room stands in front
   pub ids-front : take (cells g) ids ≡ roomIds g G
-  ids-front = rw (o .ids-are, ← ids-length) (sets-length noClues (roomIds g G) (omega (arith, few, ids-length, no-clues-length)))
+  ids-front = rw (o .ids-are, ← ids-length) (front noClues (roomIds g G) (omega (arith, few, ids-length, no-clues-length)))
 
   pub ids-keys : (next : List ℕ) → length next ≡ 1024 → Keys (cells g) (take (cells g) ids) (length next)
   ids-keys next l =
@@ -62,9 +62,6 @@ module _ (g : Grid) (given : List ℕ) (len : ℕ) (w : Given g given len) (ids 
       go : (t : Bool) → not (eqb (pick t 1 0) 0) ≡ t
       go true = refl
       go false = refl
-
-  pub asking : (states clues buf : List ℕ) → Asking g states clues (roomCount g G) buf → Asking g states clues count buf
-  asking states clues buf a = record { states-long = a .states-long; clues-long = omega (arith, o .count-is, a .clues-long); buf-long = a .buf-long }
 
   module _ (marks : List ℕ) (q : marks ≡ puts G 1 unmarked) where
     pub housing : (vertex : List ℕ) → Vertices (cells g) (take (cells g) ids) vertex → Housing g marks (take (cells g) ids) vertex starts flat count

@@ -65,9 +65,21 @@ no-clue-at i =
     (λ (h : i < 1024). getD-replicate 1024 i 0 0 h)
     (le-or-lt 1024 i)
 
+pub arrays-lent : Lent 1024 noClues noClues noClues
+arrays-lent = let b = no-clues-length in record { ids-long = omega arith; starts-long = omega arith; flat-long = omega arith }
+
+pub cells-lent : (g : Grid) → Limits g → (ids starts flat : List ℕ) → Lent 1024 ids starts flat → Lent (cells g) ids starts flat
+cells-lent g l ids starts flat h =
+    let a = cells-le g l in
+    record { ids-long = omega (arith, h .ids-long); starts-long = omega (arith, h .starts-long); flat-long = omega (arith, h .flat-long) }
+
 pub rooms-lent : (g : Grid) → Limits g → Lent (cells g) noClues noClues noClues
-rooms-lent g l =
-    let a = cells-le g l in let b = no-clues-length in record { ids-long = omega arith; starts-long = omega arith; flat-long = omega arith }
+rooms-lent g l = cells-lent g l noClues noClues noClues arrays-lent
+
+-- the rooms, counted by the clues
+pub counted : (g : Grid) (given ids starts flat ids' starts' flat' : List ℕ) (count : ℕ) → Roomed g given ids starts flat ids' starts' flat' count → (n : ℕ) → n ≡ count
+    → Roomed g given ids starts flat ids' starts' flat' n
+counted g given ids starts flat ids' starts' flat' count o n q = rw q o
 
 pub walls-given : (g : Grid) (given : List ℕ) (len : ℕ) → Limits g → len ≤ length given → all (λ e. ltb e (borderCount g)) (take len given) ≡ true → Given g given len
 walls-given g given len l h a =

@@ -15,6 +15,7 @@ use Rattle.lists.proofs.Cases.{not-both}
 use Rattle.lists.proofs.ChoiceLaws.{either-true}
 use Rattle.lists.proofs.ListLaws.{all-true, range-in}
 use mathlib.Core.Logic.{_≢_, ⊎-elim}
+use Rattle.lists.proofs.SetsLaws.{front}
 use Rattle.grid.specs.Grid.{Grid, grid, sizesOk, Limits, cells, borderCount}
 use Rattle.grid.proofs.Geometry.{limits, cells-le, borderCount-le}
 use Rattle.parts.proofs.PartLaws.{begun-small}
@@ -30,7 +31,7 @@ use Rattle.puzzle.specs.Puzzle.{exist, rises, oneEach, fitsRoom, cluesFi
 use Rattle.rooms.specs.Lent.{unmarked, puts, Below}
 use Rattle.rooms.proofs.RoomLaws.{given-in}
 use Rattle.rooms.proofs.PutLaws.{puts-length, puts-at, unmarked-at, unmarked-length}
-use Rattle.puzzle.proofs.Basics.{rises-length, sets-length, states-are}
+use Rattle.puzzle.proofs.Basics.{rises-length, states-are}
 
 -- lists that questions 3, 7, 8 and 9 accept
 pub record Fit (g : Grid) (given clues : List ℕ) : Type 0 where
@@ -110,14 +111,14 @@ module _ (h w : ℕ) (given clues : List ℕ) where
     clues-short = omega (arith, a .fit .one-each, rooms-few (grid h w) given clues, cells-le (grid h w) (a .limits))
 
     pub given-kept : givenOf (freshPuzzle h w given clues) ≡ given
-    given-kept = sets-length zeros given (omega (arith, given-short, zeros-length))
+    given-kept = front zeros given (omega (arith, given-short, zeros-length))
 
     no-clues-length : length noClues ≡ 1024
     unfolding noClues
     no-clues-length = length-replicate {A = ℕ} 1024 0
 
     pub clues-kept : cluesOf (freshPuzzle h w given clues) ≡ clues
-    clues-kept = sets-length noClues clues (omega (arith, clues-short, no-clues-length))
+    clues-kept = front noClues clues (omega (arith, clues-short, no-clues-length))
 
     -- no number behind the board's borders is a given wall
     pub given-inside : (e : ℕ) → isGiven given e ≡ true → e < borderCount (grid h w)

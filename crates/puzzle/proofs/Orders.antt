@@ -15,7 +15,7 @@ use Rattle.lists.proofs.ChoiceLaws.{true-both}
 use Rattle.lists.proofs.CountLaws.{count-here, count-other, in-count}
 use Rattle.grid.specs.Grid.{grid, borderCount}
 use Rattle.ledger.specs.Ledger as ledger
-use Rattle.ledger.specs.Ledger.{Decision, stateOf, stateIn, standing, accepted, ledgerOf}
+use Rattle.ledger.specs.Ledger.{Decision, stateFor, stateIn, standing, accepted, ledgerOf}
 use Rattle.ledger.proofs.Standing.{standing-named}
 use Rattle.borders.specs.Entry.{Standing}
 use Rattle.puzzle.specs.declared.Puzzle.{Puzzle}
@@ -30,7 +30,7 @@ use Rattle.puzzle.proofs.Reached.{Reached, reached-after, decide-accept
 abbrev pub decisionOf : ℕ → Decision
 decisionOf l = record { border = l / 2; wall = eqb (l % 2) 1 }
 
-entry-state : (l : ℕ) → stateOf (eqb (l % 2) 1) ≡ l % 2 + 1
+entry-state : (l : ℕ) → stateFor (eqb (l % 2) 1) ≡ l % 2 + 1
 entry-state l =
     ⊎-elim
     (λ (q : l % 2 ≡ 1). rw q)
@@ -57,7 +57,7 @@ free-accepted n given L l f =
 unnamed-after : (L : List Decision) (d : Decision) (e : ℕ) → stateIn L e ≡ 0 → d .border ≢ e → stateIn (L ++ (d ∷ [])) e ≡ 0
 unfolding stateIn
 unnamed-after [] d e q z = rw (ne-eqb (d .border) e z)
-unnamed-after (x ∷ L) d e q z = go (eqb (x .border) e) (stateOf (x .wall)) q (unnamed-after L d e)
+unnamed-after (x ∷ L) d e q z = go (eqb (x .border) e) (stateFor (x .wall)) q (unnamed-after L d e)
   where
     go : (t : Bool) (k : ℕ) → pick t k (stateIn L e) ≡ 0 → (stateIn L e ≡ 0 → d .border ≢ e → stateIn (L ++ (d ∷ [])) e ≡ 0) → pick t k (stateIn (L ++ (d ∷ [])) e) ≡ 0
     go true k p ih = p

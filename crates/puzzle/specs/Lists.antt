@@ -39,6 +39,13 @@ pub record Lists (g : Grid) (given : List ℕ) (givenLen : ℕ) (clues : List �
   pub given-long : givenLen ≤ length given
   pub clues-long : cluesLen ≤ length clues
 
+-- the arrays of a puzzle's record
+pub record Arrays (states names given clues : List ℕ) : Type 0 where
+  pub states-long : length states ≡ 1984
+  pub names-long : length names ≡ 1984
+  pub given-long : length given ≡ 1984
+  pub clues-long : length clues ≡ 1024
+
 -- what the count of room r lists where it has a clue; `given` tells the given walls, `ids` each cell's room
 unfoldable pub clueList : Grid → (ℕ → Bool) → List ℕ → List ℕ → ℕ → (ℕ → ℕ) → Option (List ℕ)
 clueList g given ids clues r s = pick (eqb (getD clues r 0) 65535) none (roomList g given ids r (getD clues r 0) s)

@@ -110,6 +110,17 @@ together p =
 abbrev pub puzzleCode : Puzzle → ℕ
 puzzleCode p = pick (sizesOk (gridOf p)) (pick (together p) 0 2) 1
 
+-- a puzzle by its parts
+abbrev pub puzzleOf : ℕ → ℕ → List ℕ → List ℕ → ℕ → List ℕ → ℕ → List ℕ → ℕ → Puzzle
+puzzleOf h w states names len given givenLen clues cluesLen =
+    record {
+      board = record { height = h; width = w; states = states; ledger = names; len = len };
+      given = given;
+      «given_len» = givenLen;
+      clues = clues;
+      «clues_len» = cluesLen;
+    }
+
 -- questions 1 and 2, put to each call that returns a puzzle
 abbrev pub asked : Puzzle → Made → Made
 asked p then = pick (eqb (puzzleCode p) 0) then (answer (puzzleCode p) p)

@@ -1,6 +1,6 @@
 // The puzzle: a board with given walls and a clue for each room, which joins the shape check to a count for each clued room.
 ghost use mathlib.Core.Path.{_≡_};
-ghost use Prim.Native.Nat.{_≤_, _<_};
+ghost use Prim.Native.Nat.{_*_, _≤_, _<_};
 ghost use lib.Dec.{eqb, ltb, leb};
 ghost use lib.ListN.{length, take};
 ghost use lib.Seq.{sets};
@@ -8,13 +8,13 @@ ghost use Rattle.lists.specs.Choice.{either};
 ghost use Rattle.lists.specs.Lists.{all};
 ghost use Rattle.grid.specs.Grid.{grid};
 ghost use Rattle.puzzle.specs.Fault.{faultOf};
-ghost use Rattle.puzzle.specs.Lists.{allFit, Sizes, Lists, clueList, roomsFault, roomsIn, Housing, Asking, Finding};
+ghost use Rattle.puzzle.specs.Lists.{allFit, Sizes, Lists, clueList, roomsFault, roomsIn, Arrays, Housing, Asking, Finding};
 ghost use Rattle.borders.specs.Border.{stateOf};
 ghost use Rattle.city_count.specs.Fault.{listOf};
 ghost use Rattle.city_count.specs.Room.{foundOf};
-ghost use Rattle.rooms.specs.Rooms.{roomCount};
-ghost use Rattle.rooms.specs.Lent.{Below, Given, markedIn};
-ghost use Rattle.puzzle.specs.Puzzle.{rises, listsCode, freshBoard, freshPuzzle, zeroPuzzle, answer, makeOf, puzzleCode, onto as withBoard, decideOf, undoOf, says, writes, askOf};
+ghost use Rattle.groups.specs.Lent.{Lent};
+ghost use Rattle.rooms.specs.Lent.{Below, Given, Roomed, markedIn};
+ghost use Rattle.puzzle.specs.Puzzle.{rises, listsCode, noClues, freshBoard, freshPuzzle, zeroPuzzle, answer, makeOf, puzzleOf, puzzleCode, onto as withBoard, decideOf, undoOf, says, writes, askOf};
 use board::Board;
 use city_count::Inconsistency;
 use inner_walls::Found;
@@ -113,7 +113,7 @@ fn clues_fit<'a>(clues: &'a [u16], starts: &'a [u16], count: usize, n: usize) ->
     true
 }
 
-// Questions 3, 7, 8 and 9 of given walls and clues: 01's number, or 0.
+// Questions 3, 7, 8 and 9 of given walls and clues: 01's number, or 0. Where it is 0, the rooms stand in the lent slices.
 fn lists_code<'a>(
     height: usize,
     width: usize,
@@ -121,9 +121,15 @@ fn lists_code<'a>(
     given_len: usize,
     clues: &'a [u16],
     clues_len: usize,
+    ids: &mut [u16],
+    starts: &mut [u16],
+    flat: &mut [u16],
 ) -> u8
     requires { ⌜ Lists (grid height width) (now given) «given_len» (now clues) «clues_len» ⌝ }
+    requires { ⌜ Lent (height * width) (now ids) (now starts) (now flat) ⌝ }
     ensures { λ r. ⌜ r ≡ listsCode (grid height width) (take «given_len» (now (given .entry))) (take «clues_len» (now (clues .entry))) ⌝ }
+    ensures { λ r.
+        ⌜ (r ≡ 0 → Roomed (grid height width) (take «given_len» (now (given .entry))) (now (ids .entry)) (now (starts .entry)) (now (flat .entry)) (now (ids .exit)) (now (starts .exit)) (now (flat .exit)) «clues_len») ⌝ }
 {
     if !exist(given, given_len, grid::border_count(height, width)) {
         return 3;
@@ -131,22 +137,11 @@ fn lists_code<'a>(
     if !rise(given, given_len) {
         return 7;
     }
-    let mut ids = [0u16; 1024];
-    let mut starts = [0u16; 1024];
-    let mut flat = [0u16; 1024];
-    let count = rooms::rooms_of(
-        height,
-        width,
-        given,
-        given_len,
-        &mut ids,
-        &mut starts,
-        &mut flat,
-    );
+    let count = rooms::rooms_of(height, width, given, given_len, ids, starts, flat);
     if clues_len != count {
         return 8;
     }
-    if clues_fit(clues, &starts, count, height * width) {
+    if clues_fit(clues, starts, count, height * width) {
         return 0;
     }
     9
@@ -230,7 +225,20 @@ pub fn make<'a>(height: usize, width: usize, given: &'a [u16], clues: &'a [u16])
     if !grid::sizes_ok(height, width) {
         return unmade(1);
     }
-    let code = lists_code(height, width, given, given.len(), clues, clues.len());
+    let mut ids = [0u16; 1024];
+    let mut starts = [0u16; 1024];
+    let mut flat = [0u16; 1024];
+    let code = lists_code(
+        height,
+        width,
+        given,
+        given.len(),
+        clues,
+        clues.len(),
+        &mut ids,
+        &mut starts,
+        &mut flat,
+    );
     if code != 0 {
         return unmade(code);
     }
@@ -240,42 +248,112 @@ pub fn make<'a>(height: usize, width: usize, given: &'a [u16], clues: &'a [u16])
     }
 }
 
-// Questions 1 and 2 of a puzzle: 01's number, or 0.
-pub fn puzzle_code(p: Puzzle) -> u8
-    ensures { λ r. ⌜ r ≡ puzzleCode p ⌝ }
+// Questions 1 and 2 of a puzzle's parts: 01's number, or 0. Where it is 0, the rooms stand in the lent slices.
+fn code_of<'a>(
+    height: usize,
+    width: usize,
+    states: &'a [u8],
+    names: &'a [u16],
+    len: usize,
+    given: &'a [u16],
+    given_len: usize,
+    clues: &'a [u16],
+    clues_len: usize,
+    ids: &mut [u16],
+    starts: &mut [u16],
+    flat: &mut [u16],
+) -> u8
+    requires { ⌜ Arrays (now states) (now names) (now given) (now clues) ⌝ }
+    requires { ⌜ Lent 1024 (now ids) (now starts) (now flat) ⌝ }
+    ensures { λ r. ⌜ r ≡ puzzleCode (puzzleOf height width (now (states .entry)) (now (names .entry)) len (now (given .entry)) «given_len» (now (clues .entry)) «clues_len») ⌝ }
+    ensures { λ r.
+        ⌜ (r ≡ 0 → Roomed (grid height width) (take «given_len» (now (given .entry))) (now (ids .entry)) (now (starts .entry)) (now (flat .entry)) (now (ids .exit)) (now (starts .exit)) (now (flat .exit)) «clues_len») ⌝ }
 {
-    let b = p.board;
-    if !grid::sizes_ok(b.height, b.width) {
+    if !grid::sizes_ok(height, width) {
         return 1;
     }
-    if 1984 < p.given_len {
+    if 1984 < given_len {
         return 2;
     }
-    if 1024 < p.clues_len {
+    if 1024 < clues_len {
         return 2;
     }
     if lists_code(
-        b.height,
-        b.width,
-        &p.given,
-        p.given_len,
-        &p.clues,
-        p.clues_len,
+        height,
+        width,
+        given,
+        given_len,
+        clues,
+        clues_len,
+        ids,
+        starts,
+        flat,
     )
         != 0
     {
         return 2;
     }
-    let n = grid::border_count(b.height, b.width);
-    if n < b.len {
+    let n = grid::border_count(height, width);
+    if n < len {
         return 2;
     }
     let mut marks = [0u8; 1984];
-    rooms::put(&p.given, p.given_len, 1, &mut marks);
-    if ledger::holds(&b.states, &b.ledger, b.len, n, &mut marks) {
+    rooms::put(given, given_len, 1, &mut marks);
+    if ledger::holds(states, names, len, n, &mut marks) {
         return 0;
     }
     2
+}
+
+// The same, where the rooms are not asked for.
+fn parts_code<'a>(
+    height: usize,
+    width: usize,
+    states: &'a [u8],
+    names: &'a [u16],
+    len: usize,
+    given: &'a [u16],
+    given_len: usize,
+    clues: &'a [u16],
+    clues_len: usize,
+) -> u8
+    requires { ⌜ Arrays (now states) (now names) (now given) (now clues) ⌝ }
+    ensures { λ r. ⌜ r ≡ puzzleCode (puzzleOf height width (now (states .entry)) (now (names .entry)) len (now (given .entry)) «given_len» (now (clues .entry)) «clues_len») ⌝ }
+{
+    let mut ids = [0u16; 1024];
+    let mut starts = [0u16; 1024];
+    let mut flat = [0u16; 1024];
+    code_of(
+        height,
+        width,
+        states,
+        names,
+        len,
+        given,
+        given_len,
+        clues,
+        clues_len,
+        &mut ids,
+        &mut starts,
+        &mut flat,
+    )
+}
+
+// Questions 1 and 2 of a puzzle: 01's number, or 0.
+pub fn puzzle_code(p: Puzzle) -> u8
+    ensures { λ r. ⌜ r ≡ puzzleCode p ⌝ }
+{
+    parts_code(
+        p.board.height,
+        p.board.width,
+        &p.board.states,
+        &p.board.ledger,
+        p.board.len,
+        &p.given,
+        p.given_len,
+        &p.clues,
+        p.clues_len,
+    )
 }
 
 // The same puzzle with another board.
@@ -291,7 +369,17 @@ fn onto(p: Puzzle, b: Board) -> Puzzle
 pub fn decide(p: Puzzle, border: usize, wall: bool) -> Made
     ensures { λ r. ⌜ r ≡ decideOf p border wall ⌝ }
 {
-    let code = puzzle_code(p);
+    let code = parts_code(
+        p.board.height,
+        p.board.width,
+        &p.board.states,
+        &p.board.ledger,
+        p.board.len,
+        &p.given,
+        p.given_len,
+        &p.clues,
+        p.clues_len,
+    );
     if code != 0 {
         return Made {
             code: code,
@@ -315,7 +403,17 @@ pub fn decide(p: Puzzle, border: usize, wall: bool) -> Made
 pub fn undo(p: Puzzle) -> Made
     ensures { λ r. ⌜ r ≡ undoOf p ⌝ }
 {
-    let code = puzzle_code(p);
+    let code = parts_code(
+        p.board.height,
+        p.board.width,
+        &p.board.states,
+        &p.board.ledger,
+        p.board.len,
+        &p.given,
+        p.given_len,
+        &p.clues,
+        p.clues_len,
+    );
     if code != 0 {
         return Made {
             code: code,
@@ -427,12 +525,17 @@ fn rooms_fault<'a>(
     width: usize,
     given: &'a [u16],
     len: usize,
+    ids: &'a [u16],
+    starts: &'a [u16],
+    flat: &'a [u16],
+    count: usize,
     states: &'a [u8],
     clues: &'a [u16],
     buf: &mut [u16],
 ) -> Answer
     requires { ⌜ Given (grid height width) (now given) len ⌝ }
-    requires { ⌜ Asking (grid height width) (now states) (now clues) (roomCount (grid height width) (take len (now given))) (now buf) ⌝ }
+    requires { ⌜ Roomed (grid height width) (take len (now given)) noClues noClues noClues (now ids) (now starts) (now flat) count ⌝ }
+    requires { ⌜ Asking (grid height width) (now states) (now clues) count (now buf) ⌝ }
     ensures { λ r.
         ⌜ r ≡ says 0 (roomsIn (grid height width) (take len (now (given .entry))) (now (clues .entry)) (now (states .entry))) ⌝ }
     ensures { λ _.
@@ -441,10 +544,6 @@ fn rooms_fault<'a>(
     let n = height * width;
     let mut marks = [0u8; 1984];
     rooms::put(given, len, 1, &mut marks);
-    let mut ids = [0u16; 1024];
-    let mut starts = [0u16; 1024];
-    let mut flat = [0u16; 1024];
-    let count = rooms::rooms_of(height, width, given, len, &mut ids, &mut starts, &mut flat);
     let mut next = [0u16; 1024];
     let mut vertex = [0u16; 1024];
     rooms::vertices(&ids[..n], n, &mut next, &mut vertex);
@@ -454,8 +553,8 @@ fn rooms_fault<'a>(
         &marks,
         &ids[..n],
         &vertex,
-        &starts,
-        &flat,
+        starts,
+        flat,
         count,
         states,
         clues,
@@ -469,20 +568,38 @@ fn find<'a>(
     width: usize,
     given: &'a [u16],
     len: usize,
+    ids: &'a [u16],
+    starts: &'a [u16],
+    flat: &'a [u16],
     states: &'a [u8],
     clues: &'a [u16],
+    count: usize,
     buf: &mut [u16],
 ) -> Answer
-    requires { ⌜ Finding (grid height width) (now given) len (now states) (now clues) (now buf) ⌝ }
-    ensures { λ r. ⌜ r ≡ says 0 (faultOf (grid height width) (take len (now (given .entry))) (now (clues .entry)) (now (states .entry))) ⌝ }
+    requires { ⌜ Finding (grid height width) (now given) len (now states) (take count (now clues)) (now buf) ⌝ }
+    requires { ⌜ Roomed (grid height width) (take len (now given)) noClues noClues noClues (now ids) (now starts) (now flat) count ⌝ }
+    requires { ⌜ count ≤ length (now clues) ⌝ }
+    ensures { λ r. ⌜ r ≡ says 0 (faultOf (grid height width) (take len (now (given .entry))) (take count (now (clues .entry))) (now (states .entry))) ⌝ }
     ensures { λ _.
-        ⌜ now (buf .exit) ≡ writes 0 (faultOf (grid height width) (take len (now (given .entry))) (now (clues .entry)) (now (states .entry))) (now (buf .entry)) ⌝ }
+        ⌜ now (buf .exit) ≡ writes 0 (faultOf (grid height width) (take len (now (given .entry))) (take count (now (clues .entry))) (now (states .entry))) (now (buf .entry)) ⌝ }
 {
     let shape = shape_check::shape_fault(height, width, states, buf);
     if let Found::Fault(n) = shape {
         return Answer::Fault(Check::Shape, n);
     }
-    rooms_fault(height, width, given, len, states, clues, buf)
+    rooms_fault(
+        height,
+        width,
+        given,
+        len,
+        ids,
+        starts,
+        flat,
+        count,
+        states,
+        &clues[..count],
+        buf,
+    )
 }
 
 // What stands wrong on a puzzle as it stands: the shape check, then the clued rooms in order, up to the first fault, whose list goes to the
@@ -491,23 +608,40 @@ pub fn ask(p: Puzzle, buf: &mut [u16]) -> Answer
     ensures { λ r. ⌜ r ≡ askOf p (now (buf .entry)) .answer ⌝ }
     ensures { λ _. ⌜ now (buf .exit) ≡ askOf p (now (buf .entry)) .buffer ⌝ }
 {
-    let code = puzzle_code(p);
+    let mut ids = [0u16; 1024];
+    let mut starts = [0u16; 1024];
+    let mut flat = [0u16; 1024];
+    let code = code_of(
+        p.board.height,
+        p.board.width,
+        &p.board.states,
+        &p.board.ledger,
+        p.board.len,
+        &p.given,
+        p.given_len,
+        &p.clues,
+        p.clues_len,
+        &mut ids,
+        &mut starts,
+        &mut flat,
+    );
     if code != 0 {
         return Answer::Refused(code);
     }
-    let b = p.board;
-    if buf.len() < 9 * (b.height * b.width) {
+    if buf.len() < 9 * (p.board.height * p.board.width) {
         return Answer::Refused(6);
     }
-    let clues = p.clues;
-    let clues_len = p.clues_len;
     find(
-        b.height,
-        b.width,
+        p.board.height,
+        p.board.width,
         &p.given,
         p.given_len,
-        &b.states,
-        &clues[..clues_len],
+        &ids,
+        &starts,
+        &flat,
+        &p.board.states,
+        &p.clues,
+        p.clues_len,
         buf,
     )
 }

@@ -16,7 +16,7 @@ use Rattle.room_parts.proofs.LinkLaws.{Linked, arcsOf, link-none, link-
 unfoldable pub zeros : ℕ → List ℕ
 zeros k = replicate k 0
 
-zeros-at : (k i : ℕ) → getD (zeros k) i 0 ≡ 0
+pub zeros-at : (k i : ℕ) → getD (zeros k) i 0 ≡ 0
 unfolding zeros
 zeros-at zero i = refl
 zeros-at (suc k) zero = refl

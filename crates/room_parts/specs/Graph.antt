@@ -4,7 +4,7 @@ use Prim.Native.Nat.{ℕ, zero, suc, _≤_, _<_}
 use mathlib.Core.Bool.{Bool, not}
 use mathlib.Core.List.{List, [], _∷_}
 use lib.Dec.{eqb, ltb}
-use lib.ListN.{getD, length}
+use lib.ListN.{getD, length, set}
 use Rattle.lists.specs.Choice.{both, pick}
 use Rattle.parts.specs.Parts.{Edge, edge, begun, root, merge}
 
@@ -53,6 +53,10 @@ tippedOf g count s = both (ltb (connectedParts g s) count) (ltb (connectedParts 
 -- "the parts joined without Walls"
 abbrev pub joinedParts : Graph → (ℕ → ℕ) → ℕ
 joinedParts g s = partsIf notWall g s
+
+-- an edge of state k between u and v: where it is no Wall, its later end gets a mark
+abbrev pub laterMarked : ℕ → ℕ → ℕ → List ℕ → List ℕ
+laterMarked k u v marks = pick (notWall k) (pick (ltb u v) (set marks v 1) (pick (ltb v u) (set marks u 1) marks)) marks
 
 -- what the functions ask of n vertices and m edges that they are lent
 pub record Lent (n m : ℕ) (us vs states : List ℕ) : Type 0 where

@@ -1,13 +1,15 @@
 // The parts of a room graph (the two counts of `CityCountConstraint::find_inconsistency`): how many its Connected edges leave, counted down
-// by a union, and how many there are when only Walls part vertices, counted by a walk that calls itself.
+// by a union, and how many there are when only Walls part vertices, counted by a walk that calls itself. A bound of the latter tells where
+// that walk can be left out.
 ghost use mathlib.Core.Path.{_≡_};
-ghost use Prim.Native.Nat.{_+_, _<_};
+ghost use Prim.Native.Nat.{_+_, _≤_, _<_};
 ghost use lib.ListN.{getD, set};
 ghost use Rattle.lists.specs.Choice.{both, pick};
+ghost use Rattle.parts.specs.Flood.{blank};
 ghost use Rattle.union_find.specs.Chains.{united, hung};
 ghost use Rattle.union_find.specs.Requires.{Parents};
 ghost use Rattle.room_parts.specs.Walk.{Walk, Walked, Sweep, Counted};
-ghost use Rattle.room_parts.specs.Graph.{graph, statesIn, isConnected, tippedOf, joinedParts, Lent};
+ghost use Rattle.room_parts.specs.Graph.{graph, statesIn, isConnected, tippedOf, joinedParts, laterMarked, Lent};
 
 // A 16-bit number as an index.
 fn wide(x: u16) -> usize
@@ -55,6 +57,53 @@ pub fn tipped<'a>(
         i += 1;
     }
     false
+}
+
+// Marks the later end of an edge that is no Wall.
+fn mark_later(marks: &mut [u8; 1024], state: u8, u: usize, v: usize)
+    requires { ⌜ (u < 1024) × (v < 1024) ⌝ }
+    ensures { λ _. ⌜ now (marks .exit) ≡ laterMarked state u v (now (marks .entry)) ⌝ }
+{
+    if state == 2 {
+        return;
+    }
+    if u < v {
+        marks[v] = 1;
+        return;
+    }
+    if v < u {
+        marks[u] = 1;
+    }
+}
+
+// How many of the first `n` vertices have no mark.
+fn unmarked(marks: &[u8; 1024], n: usize) -> usize
+    requires { ⌜ n ≤ 1024 ⌝ }
+    ensures { λ r. ⌜ r ≡ blank 0 n (now (marks .entry)) ⌝ }
+{
+    let mut k = 0;
+    let mut i = 0;
+    while i < n {
+        if marks[i] == 0 {
+            k += 1;
+        }
+        i += 1;
+    }
+    k
+}
+
+// How many vertices no edge but a Wall joins to an earlier vertex. Each part has one, its first: there are no more parts than that.
+pub fn most_parts<'a>(n: usize, m: usize, us: &'a [u16], vs: &'a [u16], states: &'a [u8]) -> usize
+    requires { ⌜ Lent n m (now us) (now vs) (now states) ⌝ }
+    ensures { λ r. ⌜ joinedParts (graph n m (now (us .entry)) (now (vs .entry))) (statesIn (now (states .entry))) ≤ r ⌝ }
+{
+    let mut marks = [0u8; 1024];
+    let mut i = 0;
+    while i < m {
+        mark_later(&mut marks, states[i], wide(us[i]), wide(vs[i]));
+        i += 1;
+    }
+    unmarked(&marks, n)
 }
 
 // Puts arc `k`, from `u` to `v`, at the front of `u`'s list.

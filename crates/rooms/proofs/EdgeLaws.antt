@@ -17,7 +17,7 @@ use Rattle.grid.specs.Steps.{Step}
 use Rattle.grid.proofs.Geometry.{goes-step, border-lt, borderCount-le}
 use Rattle.groups.specs.Groups.{cellsOf}
 use Rattle.groups.specs.Turn.{cellsIn}
-use Rattle.groups.proofs.FloodSteps.{at-told}
+use Rattle.grid.proofs.Told.{at-told}
 use Rattle.rooms.specs.RoomGraph.{inRoom, spotsAt, place}
 use Rattle.rooms.specs.Lent.{markedIn, Housed, Written}
 

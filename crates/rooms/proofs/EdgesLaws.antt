@@ -11,6 +11,7 @@ use lib.ListN.{length, getD, set, drop, length-append, drop-of-length-le}
 use lib.Seq.{sets, length-sets, drop-cons}
 use Rattle.lists.specs.Lists.{gather}
 use Rattle.lists.proofs.ListLaws.{getD-in}
+use Rattle.lists.proofs.SetsLaws.{sets-append}
 use Rattle.grid.specs.declared.Direction.{Direction}
 use Rattle.grid.specs.declared.Direction.the-variants.{Down, Right}
 use Rattle.grid.specs.Grid.{Grid, cells, Cell}
@@ -20,10 +21,6 @@ use Rattle.groups.specs.Groups.{cellsOf}
 use Rattle.groups.proofs.GroupLaws.{in-cells}
 use Rattle.rooms.specs.RoomGraph.{Spot, inRoom, spotsAt, spots, fromOf, intoOf, borderOf}
 use Rattle.rooms.specs.Lent.{Space, Written}
-
-sets-append : (l : List ℕ) (i : ℕ) (xs ys : List ℕ) → sets l i (xs ++ ys) ≡ sets (sets l i xs) (i + length xs) ys
-sets-append l i [] ys = rw (add-zero i)
-sets-append l i (x ∷ xs) ys = sets-append (set l i x) (suc i) xs ys ∙ ap (λ k. sets (sets (set l i x) (suc i) xs) k ys) (omega arith)
 
 map-append : (f : Spot → ℕ) (xs ys : List Spot) → map f (xs ++ ys) ≡ map f xs ++ map f ys
 map-append f [] ys = refl
@@ -37,7 +34,7 @@ map-length f (x ∷ xs) = ap suc (map-length f xs)
 through : (f : Spot → ℕ) (done left : List Spot) (l l' : List ℕ) (m m' : ℕ) → l' ≡ sets l m (map f done) → m' ≡ m + length done
     → sets l m (map f (done ++ left)) ≡ sets l' m' (map f left)
 through f done left l l' m m' p q =
-    rw (map-append f done left, sets-append l m (map f done) (map f left), map-length f done, p, q)
+    rw (map-append f done left, sets-append (map f done) (map f left) l m, map-length f done, p, q)
 
 kept-long : (f : Spot → ℕ) (ss : List Spot) (l l' : List ℕ) (k : ℕ) → l' ≡ sets l k (map f ss) → length l' ≡ length l
 kept-long f ss l l' k q = ap length q ∙ length-sets l k (map f ss)

@@ -23,7 +23,7 @@ use Rattle.boundary.specs.Boundary.{ahead}
 use Rattle.boundary.proofs.BoundaryLaws.{cells-most}
 use Rattle.groups.specs.Groups.{cellsOf}
 use Rattle.groups.proofs.GroupLaws.{in-cells, cells-in}
-use Rattle.groups.proofs.SetsLaws.{sets-in, sets-out}
+use Rattle.lists.proofs.SetsLaws.{front, front-at, sets-out}
 use Rattle.borders.specs.Entry.{connectedEntry, wallEntry}
 use Rattle.room_parts.specs.Graph.{Graph, graph, statesIn, isConnected, notWall, edgesIf, partsIf, tippedOf, Lent}
 use Rattle.city_count.specs.Fault.{roomFault, listOf}
@@ -37,12 +37,6 @@ use Rattle.rooms.proofs.Places.{map-at, at-place, in-map, place-of}
 use Rattle.rooms.proofs.FewEdges.{edges-few, spot-lt}
 
 -- LISTS AT THE FRONT OF AN ARRAY
-front : (l xs : List ℕ) → length xs ≤ length l → take (length xs) (sets l 0 xs) ≡ xs
-front l xs h = rw (sets-eq xs l 0 (omega arith)) (take-append-seam xs (drop (0 + length xs) l))
-
-front-at : (l xs : List ℕ) (i : ℕ) → length xs ≤ length l → i < length xs → getD (sets l 0 xs) i 0 ≡ getD xs i 0
-front-at l xs i h k = let q : 0 + i ≡ i = omega arith in rw q at (sets-in xs l 0 i (omega arith) k)
-
 over-front : (l xs ys : List ℕ) → length xs ≤ length l → length ys ≡ length xs → sets (sets l 0 xs) 0 ys ≡ sets l 0 ys
 over-front l xs ys h q =
     let n : 0 + length ys ≡ length xs = omega arith in

@@ -9,18 +9,14 @@ use native.Mathlib.Omega.{arith}
 use borrow.Author.Tests.{le-ltb, ne-eqb}
 use lib.Dec.{ltb}
 use Rattle.lists.specs.Lists.{In, range, all}
-use Rattle.lists.proofs.Cases.{le-or-lt, true-or-false, not-both}
-use Rattle.lists.proofs.ListLaws.{all-true, range-in}
+use Rattle.lists.proofs.Cases.{le-or-lt}
+use Rattle.lists.proofs.ListLaws.{all-not, range-in}
 use Rattle.union_find.specs.Chains.{up, climb, isRoot, shortened, parentsExist, chainsEnd}
 use Rattle.union_find.specs.Requires.{Parents, Stays}
 use Rattle.union_find.specs.UnionFind.{holdsOf}
 use Rattle.union_find.proofs.RootLaws.{Root, root-here, root-climb, ends-end, below-exist, holds-good}
 use Rattle.union_find.proofs.ChainLaws.{parents-stay}
 use Rattle.union_find.proofs.KeepLaws.{SameRoots, Below, same-then, shortened-keeps, shortened-below}
-
--- a test of all fails where it fails at one
-all-not : {A : Type 0} (t : A → Bool) (xs : List A) (x : A) → In x xs → t x ≡ false → all t xs ≡ false
-all-not t xs x m f = ⊎-elim (λ e. absurd (not-both (t x) (all-true t xs e x m) f)) (λ e. e) (true-or-false (all t xs))
 
 -- the parents of the vertices before i exist
 pub exist-more : (n : ℕ) (p : List ℕ) (i : ℕ) {v : ℕ} → ((x : ℕ) → x < i → up p x < n) → v ≡ up p i → v < n → (x : ℕ) → x < i + 1 → up p x < n

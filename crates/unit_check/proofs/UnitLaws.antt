@@ -20,7 +20,7 @@ use Rattle.boundary.specs.Boundary.{potentialBoundary}
 use Rattle.shape.specs.Shape.{adjacent, headOr0, UnitInfo, unitOf, fits, failures, boundaries, unitFault}
 use Rattle.shape.proofs.Lengths.{failures-most, boundaries-most}
 use Rattle.offsets.specs.Trial.{Trial}
-use Rattle.adjacency.proofs.TurnLaws.{taken-front}
+use Rattle.lists.proofs.SetsLaws.{front}
 use Rattle.inner_walls.specs.declared.Found.the-variants.{Clear, Fault}
 use Rattle.inner_walls.specs.Found.{Told}
 use Rattle.inner_walls.proofs.FoundLaws.{told-nothing}
@@ -107,7 +107,7 @@ module _ {g : Grid} {states ids cs : List ℕ} {unit first : ℕ} {rows cols pid
       landings : take n failed' ≡ failures g states ids pids u
       landings =
           let l : length (failures g states ids pids u) ≤ length failed = omega (arith, failures-most g states ids pids 0 u, p .failed-long) in
-          rw (told-fails .1, t .stored (told-fails .0)) (taken-front (failures g states ids pids u) failed l)
+          rw (told-fails .1, t .stored (told-fails .0)) (front failed (failures g states ids pids u) l)
 
       list-is : faultList g states ids pids count marks unit failed' n ≡ failures g states ids pids u ++ boundaries g states ids pids count u
       unfolding boundaries unitOf

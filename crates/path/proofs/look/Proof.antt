@@ -1,7 +1,7 @@
 -- `path::look` meets its contract: one law of `Trace` for each way out. Assumes nothing.
 use native.Mathlib.Omega.{arith}
 use borrow.Author.Needs.{needs}
-use Rattle.path.proofs.Told.{end-told}
+use Rattle.grid.proofs.Told.{end-told}
 use Rattle.path.proofs.Trace.{border-fits, entry-fits, cell-small, cell-fits, queue-fits, tail-small, look-end, look-apart, look-old, look-new}
 use Rattle.path.proofs.look.Statement.{statement}
 use Rattle.path.proofs.look.Tie as tie

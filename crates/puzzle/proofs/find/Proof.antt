@@ -19,23 +19,29 @@ same-length c = search needs
 
 returns : tie.Need-returns
 returns c =
-    let s = c .before .before .before .before .before .before .before .before .before .before .before in
+    let s = c .before .before .before .before .before .before .before .before .before .before .before .before .before .before in
     let k = c .before .before .before .before .before in
-    shape-fault (grid (s .args .height) (s .args .width)) (take (s .args .len) (now (s .args .given))) (now (s .args .clues)) (now (s .args .states)) (s .pre .one-each) (now (s .args .buf)) _ (k .shape-fault .result) (k .shape-fault .ensures) (c .before .shape .given .0 .0) (c .before .shape .given .1)
+    shape-fault (grid (s .args .height) (s .args .width)) (take (s .args .len) (now (s .args .given))) (take (s .args .count) (now (s .args .clues))) (now (s .args .states)) (s .pre .0 .one-each) (now (s .args .buf)) _ (k .shape-fault .result) (k .shape-fault .ensures) (c .before .shape .given .0 .0) (c .before .shape .given .1)
 
 enum-told : tie.Need-enum-told
 enum-told c = search needs
 
+slice-aggregate-rooms-fault : tie.Need-slice-aggregate-rooms-fault
+slice-aggregate-rooms-fault c = search needs
+
 rooms-fault-requires : tie.Need-rooms-fault-requires
 rooms-fault-requires c κs =
-    let s = c .before .before .before .before .before .before .before .before .before .before .before in
-    let k = c .before .before .before .before .before in (
-      s .pre .walls,
-      record {
-        states-long = s .pre .states-long;
-        clues-long = omega (arith, s .pre .one-each);
-        buf-long = rw (shape-clear (grid (s .args .height) (s .args .width)) (take (s .args .len) (now (s .args .given))) (now (s .args .clues)) (now (s .args .states)) (s .pre .one-each) (now (s .args .buf)) _ (k .shape-fault .result) (k .shape-fault .ensures) (c .before .enum-told .given .1)) (omega (arith, s .pre .buf-long, borders-fit (grid (s .args .height) (s .args .width))));
-      },
+    let s = c .before .before .before .before .before .before .before .before .before .before .before .before .before .before .before in
+    let k = c .before .before .before .before .before .before in (
+      s .pre .0 .walls,
+      (
+        s .pre .1 .0,
+        record {
+          states-long = s .pre .0 .states-long;
+          clues-long = omega (arith, s .pre .0 .one-each, s .pre .1 .0 .count-is);
+          buf-long = rw (shape-clear (grid (s .args .height) (s .args .width)) (take (s .args .len) (now (s .args .given))) (take (s .args .count) (now (s .args .clues))) (now (s .args .states)) (s .pre .0 .one-each) (now (s .args .buf)) _ (k .shape-fault .result) (k .shape-fault .ensures) (c .before .before .enum-told .given .1)) (omega (arith, s .pre .0 .buf-long, borders-fit (grid (s .args .height) (s .args .width))));
+        },
+      ),
     )
 
 same-length-2 : tie.Need-same-length-2
@@ -43,9 +49,9 @@ same-length-2 c = search needs
 
 returns-2 : tie.Need-returns-2
 returns-2 c =
-    let s = c .before .before .before .before .before .before .before .before .before .before .before .before .before .before in
-    let k = c .before .before .before .before .before .before .before .before in
-    rooms-answer (grid (s .args .height) (s .args .width)) (take (s .args .len) (now (s .args .given))) (now (s .args .clues)) (now (s .args .states)) (s .pre .one-each) (now (s .args .buf)) _ (k .shape-fault .result) (k .shape-fault .ensures) (c .before .before .before .before .enum-told .given .1) (c .before .before .rooms-fault .result) _ (c .before .before .rooms-fault .ensures)
+    let s = c .before .before .before .before .before .before .before .before .before .before .before .before .before .before .before .before .before .before in
+    let k = c .before .before .before .before .before .before .before .before .before in
+    rooms-answer (grid (s .args .height) (s .args .width)) (take (s .args .len) (now (s .args .given))) (take (s .args .count) (now (s .args .clues))) (now (s .args .states)) (s .pre .0 .one-each) (now (s .args .buf)) _ (k .shape-fault .result) (k .shape-fault .ensures) (c .before .before .before .before .before .enum-told .given .1) (c .before .before .rooms-fault .result) _ (c .before .before .rooms-fault .ensures)
 
 pub find-spec : {M : Type 1} → statement M
 find-spec =
@@ -56,6 +62,7 @@ find-spec =
     same-length
     returns
     enum-told
+    slice-aggregate-rooms-fault
     rooms-fault-requires
     same-length-2
     returns-2)

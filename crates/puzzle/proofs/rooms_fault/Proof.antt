@@ -7,14 +7,14 @@ use Rattle.grid.proofs.Geometry.{cells-le}
 use Rattle.rooms.specs.Lent.{unmarked}
 use Rattle.rooms.proofs.PutLaws.{walls-fit}
 use Rattle.puzzle.specs.Puzzle.{noClues}
-use Rattle.puzzle.proofs.ListsCode.{no-clues-length, no-clue-at, rooms-lent}
-use Rattle.puzzle.proofs.Housed.{front-length, ids-keys, housing, asking, rooms-same, same-answer}
+use Rattle.puzzle.proofs.ListsCode.{no-clues-length, no-clue-at}
+use Rattle.puzzle.proofs.Housed.{front-length, ids-keys, housing, rooms-same, same-answer}
 use borrow.Author.Needs.{needs}
 use Rattle.puzzle.proofs.rooms_fault.Statement.{statement}
 use Rattle.puzzle.proofs.rooms_fault.Tie as tie
 
 mul-n : tie.Need-mul-n
-mul-n c = omega (arith, cells-le _ (c .before .before .before .before .pre .0 .limits))
+mul-n c = omega (arith, cells-le _ (c .before .before .before .before .before .before .before .pre .0 .limits))
 
 slice-aggregate-put : tie.Need-slice-aggregate-put
 slice-aggregate-put c = search needs
@@ -22,33 +22,13 @@ slice-aggregate-put c = search needs
 put-requires : tie.Need-put-requires
 unfolding unmarked noClues
 put-requires c κs =
-    let s = c .before .before .before .before .before in
+    let s = c .before .before .before .before .before .before .before .before in
     walls-fit (grid (s .args .height) (s .args .width)) (now (s .args .given)) (s .args .len) (s .pre .0)
 
-slice-aggregate-rooms-of : tie.Need-slice-aggregate-rooms-of
-slice-aggregate-rooms-of c = search needs
-
-slice-aggregate-rooms-of-2 : tie.Need-slice-aggregate-rooms-of-2
-slice-aggregate-rooms-of-2 c = search needs
-
-slice-aggregate-rooms-of-3 : tie.Need-slice-aggregate-rooms-of-3
-slice-aggregate-rooms-of-3 c = search needs
-
-rooms-of-requires : tie.Need-rooms-of-requires
-unfolding unmarked noClues
-rooms-of-requires c κs =
-    let s = c .before .before .before .before .before .before .before .before .before .before in
-    (s .pre .0, rooms-lent (grid (s .args .height) (s .args .width)) (s .pre .0 .limits))
-
-array-share-prefix-ids : tie.Need-array-share-prefix-ids
-array-share-prefix-ids c = omega (arith, cells-le _ (c .before .before .before .before .before .before .before .before .before .before .before .before .before .before .pre .0 .limits))
-
 slice-aggregate-vertices : tie.Need-slice-aggregate-vertices
-unfolding unmarked noClues
 slice-aggregate-vertices c =
-    let s = c .before .before .before .before .before .before .before .before .before .before .before .before .before .before .before in
-    let z = c .before .before .before .before in
-    sym (front-length (grid (s .args .height) (s .args .width)) (now (s .args .given)) (s .args .len) (s .pre .0) _ _ _ (z .rooms-of .result) (z .rooms-of .ensures))
+    let s = c .before .before .before .before .before .before .before .before .before .before .before in
+    sym (front-length (grid (s .args .height) (s .args .width)) (now (s .args .given)) (s .args .len) (s .pre .0) (now (s .args .ids)) (now (s .args .starts)) (now (s .args .flat)) (s .args .count) (s .pre .1 .0))
 
 slice-aggregate-vertices-2 : tie.Need-slice-aggregate-vertices-2
 slice-aggregate-vertices-2 c = search needs
@@ -59,39 +39,25 @@ slice-aggregate-vertices-3 c = search needs
 vertices-requires : tie.Need-vertices-requires
 unfolding unmarked noClues
 vertices-requires c κs =
-    let s = c .before .before .before .before .before .before .before .before .before .before .before .before .before .before .before .before .before in
-    let z = c .before .before .before .before .before .before in
-    (ids-keys (grid (s .args .height) (s .args .width)) (now (s .args .given)) (s .args .len) (s .pre .0) _ _ _ (z .rooms-of .result) (z .rooms-of .ensures) noClues no-clues-length, (no-clue-at, omega (arith, cells-le _ (s .pre .0 .limits))))
+    let s = c .before .before .before .before .before .before .before .before .before .before .before .before .before in
+    (ids-keys (grid (s .args .height) (s .args .width)) (now (s .args .given)) (s .args .len) (s .pre .0) (now (s .args .ids)) (now (s .args .starts)) (now (s .args .flat)) (s .args .count) (s .pre .1 .0) noClues no-clues-length, (no-clue-at, omega (arith, cells-le _ (s .pre .0 .limits))))
 
 slice-aggregate-check-rooms : tie.Need-slice-aggregate-check-rooms
 slice-aggregate-check-rooms c = search needs
 
-array-share-prefix-ids-2 : tie.Need-array-share-prefix-ids-2
-array-share-prefix-ids-2 c = search needs
-
 slice-aggregate-check-rooms-2 : tie.Need-slice-aggregate-check-rooms-2
-unfolding unmarked noClues
 slice-aggregate-check-rooms-2 c =
-    let s = c .before .before .before .before .before .before .before .before .before .before .before .before .before .before .before .before .before .before .before .before .before .before in
-    let z = c .before .before .before .before .before .before .before .before .before .before .before in
-    sym (front-length (grid (s .args .height) (s .args .width)) (now (s .args .given)) (s .args .len) (s .pre .0) _ _ _ (z .rooms-of .result) (z .rooms-of .ensures))
+    let s = c .before .before .before .before .before .before .before .before .before .before .before .before .before .before .before .before .before .before in
+    sym (front-length (grid (s .args .height) (s .args .width)) (now (s .args .given)) (s .args .len) (s .pre .0) (now (s .args .ids)) (now (s .args .starts)) (now (s .args .flat)) (s .args .count) (s .pre .1 .0))
 
 slice-aggregate-check-rooms-3 : tie.Need-slice-aggregate-check-rooms-3
 slice-aggregate-check-rooms-3 c = search needs
 
-slice-aggregate-check-rooms-4 : tie.Need-slice-aggregate-check-rooms-4
-slice-aggregate-check-rooms-4 c = search needs
-
-slice-aggregate-check-rooms-5 : tie.Need-slice-aggregate-check-rooms-5
-slice-aggregate-check-rooms-5 c = search needs
-
 check-rooms-requires : tie.Need-check-rooms-requires
 unfolding unmarked noClues
 check-rooms-requires c κs =
-    let s = c .before .before .before .before .before .before .before .before .before .before .before .before .before .before .before .before .before .before .before .before .before .before .before .before .before .before in
-    let z = c .before .before .before .before .before .before .before .before .before .before .before .before .before .before .before in
-    let m = c .before .before .before .before .before .before .before .before .before .before .before .before .before .before .before .before .before .before .before .before in
-    (housing (grid (s .args .height) (s .args .width)) (now (s .args .given)) (s .args .len) (s .pre .0) _ _ _ (z .rooms-of .result) (z .rooms-of .ensures) _ (m .put .ensures) _ (c .before .before .before .before .before .before .before .before .vertices .ensures), asking (grid (s .args .height) (s .args .width)) (now (s .args .given)) (s .args .len) (s .pre .0) _ _ _ (z .rooms-of .result) (z .rooms-of .ensures) _ _ _ (s .pre .1))
+    let s = c .before .before .before .before .before .before .before .before .before .before .before .before .before .before .before .before .before .before .before .before in
+    (housing (grid (s .args .height) (s .args .width)) (now (s .args .given)) (s .args .len) (s .pre .0) (now (s .args .ids)) (now (s .args .starts)) (now (s .args .flat)) (s .args .count) (s .pre .1 .0) _ (c .before .before .before .before .before .before .before .before .before .before .before .put .ensures) _ (c .before .before .before .before .before .before .vertices .ensures), s .pre .1 .1)
 
 same-length : tie.Need-same-length
 same-length c = search needs
@@ -99,10 +65,8 @@ same-length c = search needs
 returns : tie.Need-returns
 unfolding unmarked noClues
 returns c =
-    let s = c .before .before .before .before .before .before .before .before .before .before .before .before .before .before .before .before .before .before .before .before .before .before .before .before .before .before .before .before .before in
-    let z = c .before .before .before .before .before .before .before .before .before .before .before .before .before .before .before .before .before .before in
-    let m = c .before .before .before .before .before .before .before .before .before .before .before .before .before .before .before .before .before .before .before .before .before .before .before in
-    same-answer _ _ _ (now (s .args .buf)) _ (rooms-same (grid (s .args .height) (s .args .width)) (now (s .args .given)) (s .args .len) (s .pre .0) _ _ _ (z .rooms-of .result) (z .rooms-of .ensures) _ (m .put .ensures) (now (s .args .states)) (now (s .args .clues))) (c .before .before .check-rooms .ensures)
+    let s = c .before .before .before .before .before .before .before .before .before .before .before .before .before .before .before .before .before .before .before .before .before .before .before in
+    same-answer _ _ _ (now (s .args .buf)) _ (rooms-same (grid (s .args .height) (s .args .width)) (now (s .args .given)) (s .args .len) (s .pre .0) (now (s .args .ids)) (now (s .args .starts)) (now (s .args .flat)) (s .args .count) (s .pre .1 .0) _ (c .before .before .before .before .before .before .before .before .before .before .before .before .before .before .put .ensures) (now (s .args .states)) (now (s .args .clues))) (c .before .before .check-rooms .ensures)
 
 pub rooms-fault-spec : {M : Type 1} → statement M
 rooms-fault-spec =
@@ -111,21 +75,13 @@ rooms-fault-spec =
     mul-n
     slice-aggregate-put
     put-requires
-    slice-aggregate-rooms-of
-    slice-aggregate-rooms-of-2
-    slice-aggregate-rooms-of-3
-    rooms-of-requires
-    array-share-prefix-ids
     slice-aggregate-vertices
     slice-aggregate-vertices-2
     slice-aggregate-vertices-3
     vertices-requires
     slice-aggregate-check-rooms
-    array-share-prefix-ids-2
     slice-aggregate-check-rooms-2
     slice-aggregate-check-rooms-3
-    slice-aggregate-check-rooms-4
-    slice-aggregate-check-rooms-5
     check-rooms-requires
     same-length
     returns)

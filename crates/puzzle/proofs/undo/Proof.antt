@@ -11,39 +11,48 @@ use borrow.Author.Needs.{needs}
 use Rattle.puzzle.proofs.undo.Statement.{statement}
 use Rattle.puzzle.proofs.undo.Tie as tie
 
--- an array field's length, from the arguments alone
-ledger-long : (s : tie.Start) → length (s .args .p .board .ledger) ≡ 1984
+-- the array fields' lengths, from the arguments alone
+given-long : (s : tie.Start) → length (s .args .t1 .given) ≡ 1984
+given-long s = search needs
+
+clues-long : (s : tie.Start) → length (s .args .t1 .clues) ≡ 1024
+clues-long s = search needs
+
+states-long : (s : tie.Start) → length (s .args .t1 .board .states) ≡ 1984
+states-long s = search needs
+
+ledger-long : (s : tie.Start) → length (s .args .t1 .board .ledger) ≡ 1984
 ledger-long s = search needs
 
-puzzle-code-requires : tie.Need-puzzle-code-requires
-puzzle-code-requires c κs = search needs
+parts-code-requires : tie.Need-parts-code-requires
+parts-code-requires c κs = let s = c .before .before .before .before .before .before .before .before .before in record { states-long = states-long s; names-long = ledger-long s; given-long = given-long s; clues-long = clues-long s }
 
 returns : tie.Need-returns
 returns c =
-    let s = c .before .before in
-    let p = s .args .p in
+    let s = c .before .before .before .before .before .before .before .before .before .before .before in
+    let p = s .args .t1 in
     let k = c .before in
-    let code = k .puzzle-code .result in
-    let q = k .puzzle-code .ensures in
+    let code = k .parts-code .result in
+    let q = k .parts-code .ensures in
     refused p code q _ (c .if1 .taken)
 
 returns-2 : tie.Need-returns-2
 returns-2 c =
-    let s = c .before .before .before .before .before in
-    let p = s .args .p in
+    let s = c .before .before .before .before .before .before .before .before .before .before .before .before .before .before in
+    let p = s .args .t1 in
     let k = c .before .before .before .before in
-    let code = k .puzzle-code .result in
-    let q = k .puzzle-code .ensures in
+    let code = k .parts-code .result in
+    let q = k .parts-code .ensures in
     let z = c .before .before .before .if1 .left in
     nothing-left p code q z (c .if2 .taken)
 
 take-back-requires : tie.Need-take-back-requires
 take-back-requires c κs =
-    let s = c .before .before .before .before .before in
-    let p = s .args .p in
+    let s = c .before .before .before .before .before .before .before .before .before .before .before .before .before .before in
+    let p = s .args .t1 in
     let k = c .before .before .before .before in
-    let code = k .puzzle-code .result in
-    let q = k .puzzle-code .ensures in
+    let code = k .parts-code .result in
+    let q = k .parts-code .ensures in
     let z = c .before .before .before .if1 .left in
     let r = ready p (sym q ∙ z) in
     let long = ledger-long s in
@@ -56,15 +65,21 @@ onto-requires c κs = search needs
 
 returns-3 : tie.Need-returns-3
 returns-3 c =
-    let s = c .before .before .before .before .before .before .before in
-    let p = s .args .p in
+    let s = c .before .before .before .before .before .before .before .before .before .before .before .before .before .before .before .before in
+    let p = s .args .t1 in
     let k = c .before .before .before .before .before .before in
-    let code = k .puzzle-code .result in
-    let q = k .puzzle-code .ensures in
+    let code = k .parts-code .result in
+    let q = k .parts-code .ensures in
     let z = c .before .before .before .before .before .if1 .left in
     ap (answer 0) (c .onto .ensures ∙ ap (onto p) (c .before .take-back .ensures)) ∙ undone p code q z (c .before .before .if2 .left)
 
 pub undo-spec : {M : Type 1} → statement M
 undo-spec =
     tie.close
-    (tie.spec puzzle-code-requires returns returns-2 take-back-requires onto-requires returns-3)
+    (tie.spec
+    parts-code-requires
+    returns
+    returns-2
+    take-back-requires
+    onto-requires
+    returns-3)

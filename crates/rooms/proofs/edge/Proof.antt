@@ -3,7 +3,7 @@ use native.Mathlib.Omega.{arith}
 use denote.Ref.{now}
 use Rattle.grid.specs.Grid.{grid}
 use Rattle.grid.proofs.Geometry.{cells-le}
-use Rattle.groups.proofs.FloodSteps.{end-told}
+use Rattle.grid.proofs.Told.{end-told}
 use Rattle.rooms.proofs.EdgeLaws.{at-end, cell-lt, cell-fits, vertex-fits, border-fits, border-small, other-room, wall-there, edge-written}
 use borrow.Author.Needs.{needs}
 use Rattle.rooms.proofs.edge.Statement.{statement}

@@ -1,5 +1,5 @@
--- 01's starred examples of boards, room graphs and puzzles: a table, and one computed check of it. Each board is also a puzzle without given
--- walls and with one unclued room, on which the borders are decided in turn.
+-- 01's starred examples of boards, room graphs, puzzles and hand-over: a table, and one computed check of it. Each board is also a puzzle without
+-- given walls and with one unclued room, on which the borders are decided in turn.
 -- Assumes nothing.
 use Prim.Native.Nat.{ℕ, _*_}
 use mathlib.Core.Path.{_≡_, refl}
@@ -11,15 +11,16 @@ use Rattle.lists.specs.Lists.{count}
 use Rattle.grid.specs.Grid.{grid}
 use Rattle.shape.specs.Shape.{shapeFault}
 use Rattle.board.specs.Board.{zeros}
 use Rattle.puzzle.specs.declared.Check.the-variants.{Shape}
 use Rattle.puzzle.specs.declared.Answer.{Answer}
 use Rattle.puzzle.specs.declared.Answer.the-variants.{Clear, Fault, Refused}
 use Rattle.room_parts.specs.Graph.{graph, statesIn}
 use Rattle.city_count.specs.Fault.{roomFault}
+use Rattle.hand_over.specs.Sorted.{sortedOnce}
 use Rattle.puzzle.specs.Fault.{faultOf}
 use Rattle.puzzle.specs.Puzzle.{listsCode, together, noClues, statesOf, askOf}
 use Rattle.puzzle.specs.Run.{Call, decide, undo, ask, coded, asked, run, replies}
 use Rattle.puzzle.specs.Demand3.{listOf, freshOf, after}
 
 pub data Question : Type 0 where
   -- height, width and the borders' states, to the shape check
@@ -28,6 +29,8 @@ pub data Question : Type 0 where
   room : ℕ → List ℕ → List ℕ → ℕ → List ℕ → Question
   -- height, width, given walls and clues, and calls, to the next ask
   puzzle : ℕ → ℕ → List ℕ → List ℕ → List Call → Question
+  -- entries, to hand-over
+  entries : List ℕ → Question
 
 -- the list of a fault, or nothing where it is clear; a refusal would give a list that is in no example
 abbrev pub tells : Answer → List ℕ → Option (List ℕ)
@@ -40,6 +43,7 @@ told (board h w states) = shapeFault (grid h w) states
 told (room n us vs k states) = roomFault (graph n (length us) us vs) k (statesIn states)
 told (puzzle h w given clues calls) =
     let a = askOf (after h w given clues calls) (replicate (9 * (h * w)) 0) in tells (a .answer) (listOf a)
+told (entries l) = some (sortedOnce l)
 
 pub record Example : Type 0 where
   pub question : Question
@@ -61,8 +65,9 @@ table =
     ∷ (board 1 2 (0 ∷ []) gives none) ∷ (free 1 2 [] gives none)
     ∷ (board 1 2 (1 ∷ []) gives some (0 ∷ [])) ∷ (free 1 2 (decide 0 false ∷ []) gives some (0 ∷ []))
     ∷ (board 1 2 (2 ∷ []) gives none) ∷ (free 1 2 (decide 0 true ∷ []) gives none)
-    -- "1 by 3, Wall, Connected: raw 2, 2, 1, 1, 1"
+    -- "1 by 3, Wall, Connected: raw 2, 2, 1, 1, 1; handed over 1, 2"
     ∷ (board 1 3 (2 ∷ 1 ∷ []) gives some (2 ∷ 2 ∷ 1 ∷ 1 ∷ 1 ∷ [])) ∷ (free 1 3 (decide 0 true ∷ decide 1 false ∷ []) gives some (2 ∷ 2 ∷ 1 ∷ 1 ∷ 1 ∷ []))
+    ∷ (entries (2 ∷ 2 ∷ 1 ∷ 1 ∷ 1 ∷ []) gives some (1 ∷ 2 ∷ []))
     -- "2 by 2, borders 0, 1, 2 Connected, 3 Wall: raw 2, 4, 0, 7"
     ∷ (board 2 2 (1 ∷ 1 ∷ 1 ∷ 2 ∷ []) gives some (2 ∷ 4 ∷ 0 ∷ 7 ∷ []))
     ∷ (free 2 2 (decide 3 true ∷ decide 2 false ∷ decide 1 false ∷ decide 0 false ∷ []) gives some (2 ∷ 4 ∷ 0 ∷ 7 ∷ []))
@@ -81,7 +86,7 @@ table =
 
 -- THE CHECK
 pub starred : map (λ (x : Example). told (x .question)) table ≡ map (λ (x : Example). x .answer) table
-unfolding table run shapeFault roomFault listsCode together zeros noClues statesOf faultOf count
+unfolding table run shapeFault roomFault listsCode together zeros noClues statesOf faultOf count sortedOnce
 starred = refl
 
 -- the calls of 01's file: decided, decided, a fault of five entries, undone; refused calls among them change nothing

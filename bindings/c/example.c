@@ -1,0 +1,54 @@
+/* One row of three cells: a Wall after the first, none after the second. Asks, hands the fault's list over, prints it, undoes. */
+#include "sendai.h"
+
+#include <stdio.h>
+#include <stdlib.h>
+
+static void print(const char *what, const uint16_t *list, size_t length) {
+    printf("%s:", what);
+    for (size_t i = 0; i < length; i++) printf(" %d", list[i]);
+    printf("\n");
+}
+
+/* The puzzle that an accepted call returns. */
+static SendaiPuzzle accepted(SendaiPuzzleAnswer answer) {
+    if (answer.code != SENDAI_ACCEPTED) {
+        printf("refused %d\n", answer.code);
+        exit(1);
+    }
+    return answer.puzzle;
+}
+
+int main(void) {
+    const uint16_t no_given_walls[1] = {0};
+    const uint16_t clues[1] = {SENDAI_NO_CLUE};
+    static uint16_t list[SENDAI_MAX_LIST], handed[SENDAI_MAX_LIST];
+
+    SendaiPuzzle puzzle = accepted(sendai_puzzle_make(1, 3, no_given_walls, 0, clues, 1));
+    puzzle = accepted(sendai_puzzle_decide(puzzle, 0, true));
+    puzzle = accepted(sendai_puzzle_decide(puzzle, 1, false));
+
+    SendaiOutcome outcome = sendai_puzzle_ask(puzzle, list, SENDAI_MAX_LIST);
+    if (outcome.kind != SENDAI_SHAPE_FAULT) return 1;
+    print("shape, as listed", list, outcome.length);
+
+    SendaiListing over = sendai_hand_over(list, outcome.length, handed, SENDAI_MAX_LIST);
+    if (over.code != SENDAI_ACCEPTED) return 1;
+    print("handed over", handed, over.length);
+    for (size_t i = 0; i < over.length; i++)
+        printf("border %d is %s%s", handed[i] / 2, handed[i] % 2 ? "Wall" : "Connected", i + 1 < over.length ? " and " : ": can't be\n");
+
+    puzzle = accepted(sendai_puzzle_undo(puzzle));
+    printf("after undo: kind %d\n", sendai_puzzle_ask(puzzle, list, SENDAI_MAX_LIST).kind);
+    printf("border 0 again: refused %d\n", sendai_puzzle_decide(puzzle, 0, false).code);
+    printf("a buffer of 26 places: refused %d\n", sendai_puzzle_ask(puzzle, list, 26).code);
+
+    /* a board can also be changed where it is */
+    SendaiBoard board = sendai_board_make(1, 3).board;
+    int codes[3];
+    codes[0] = sendai_board_decide_in_place(&board, 1, true);
+    codes[1] = sendai_board_undo_in_place(&board);
+    codes[2] = sendai_board_undo_in_place(&board);
+    printf("in place: %d %d %d\n", codes[0], codes[1], codes[2]);
+    return 0;
+}

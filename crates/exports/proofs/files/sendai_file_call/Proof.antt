@@ -1,0 +1,18 @@
+-- `exports::files::sendai_file_call` meets its contract: what its two calls ensure, put together. Assumes nothing.
+use mathlib.Core.Path.{ap, _∙_}
+use borrow.Author.Needs.{needs}
+use Rattle.exports.specs.Files.{stepFields}
+use Rattle.exports.proofs.files.sendai_file_call.Statement.{statement}
+use Rattle.exports.proofs.files.sendai_file_call.Tie as tie
+
+call-at-requires : tie.Need-call-at-requires
+call-at-requires c κs = search needs
+
+step-fields-requires : tie.Need-step-fields-requires
+step-fields-requires c κs = search needs
+
+returns : tie.Need-returns
+returns c = c .step-fields .ensures ∙ ap stepFields (c .before .call-at .ensures)
+
+pub sendai-file-call-spec : {M : Type 1} → statement M
+sendai-file-call-spec = tie.close (tie.spec call-at-requires step-fields-requires returns)

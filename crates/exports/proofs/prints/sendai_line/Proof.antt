@@ -1,0 +1,28 @@
+-- `exports::prints::sendai_line` meets its contract: what its two calls ensure, put together. Assumes nothing.
+use mathlib.Core.Path.{ap, _∙_}
+use borrow.Author.Needs.{needs}
+use lib.ListN.{length}
+use Rattle.lines.specs.Line.{lengthIn, printedTo}
+use Rattle.exports.proofs.prints.sendai_line.Statement.{statement}
+use Rattle.exports.proofs.prints.sendai_line.Tie as tie
+
+line-of-requires : tie.Need-line-of-requires
+line-of-requires c κs = search needs
+
+write-line-requires : tie.Need-write-line-requires
+write-line-requires c κs = search needs
+
+same-length : tie.Need-same-length
+same-length c = search needs
+
+returns : tie.Need-returns
+returns c =
+    let wrote = c .before .before .write-line .ensures in
+    let line = c .before .before .before .before .line-of .ensures in
+    let args = c .before .before .before .before .before .before .before .args in (
+      wrote .0 ∙ ap (λ l. lengthIn l (args .entries .now) (length (args .buffer .now))) line,
+      wrote .1 ∙ ap (λ l. printedTo l (args .entries .now) (args .buffer .now)) line,
+    )
+
+pub sendai-line-spec : {M : Type 1} → statement M
+sendai-line-spec = tie.close (tie.spec line-of-requires write-line-requires same-length returns)
