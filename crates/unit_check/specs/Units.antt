@@ -9,7 +9,7 @@ use Rattle.groups.specs.Groups.{cellsOf}
 use Rattle.shape.specs.Shape.{headOr0}
 use Rattle.offsets.specs.Reach.{Tables}
 use Rattle.adjacency.specs.Turns.{InTurn}
-use Rattle.adjacency.specs.Adjacency.{Adjacency, MarksOf}
+use Rattle.adjacency.specs.Adjacency.{Unmarked, Adjacency, MarksOf}
 use Rattle.unit_check.specs.Faults.{Near}
 
 -- the unit's cells, of which `first` is the first, the tables, exactly the potential units adjacent to its own marked, and room for the
@@ -45,3 +45,13 @@ pub record Staged (g : Grid) (states ids starts flat : List ℕ) (count buffer :
   pub states-long : borderCount g ≤ length states
   pub units : InTurn g ids count starts flat
   pub room : 9 * cells g ≤ buffer
+
+-- marks that are not set, and places for the lists of adjacent potential units, the tables and the failed landings of n cells
+pub record Scratch (n : ℕ) (marks nstarts near rows cols failed : List ℕ) : Type 0 where
+  pub unmarked : Unmarked marks
+  pub marks-long : n ≤ length marks
+  pub starts-long : n < length nstarts
+  pub near-long : 4 * n ≤ length near
+  pub rows-long : n ≤ length rows
+  pub cols-long : n ≤ length cols
+  pub failed-long : n ≤ length failed

@@ -1,15 +1,16 @@
 // The second stage of the shape check: the units in order, each at every offset, up to the first that fits nowhere.
 ghost use mathlib.Core.Path.{_≡_};
 ghost use mathlib.Core.Bool.{true};
-ghost use Prim.Native.Nat.{_<_};
+ghost use Prim.Native.Nat.{_*_, _≤_, _<_};
 ghost use lib.ListN.{length};
 ghost use Rattle.lists.specs.Lists.{range, first as firstOf};
 ghost use Rattle.grid.specs.Grid.{grid};
 ghost use Rattle.groups.specs.Groups.{groupIds, groupCount};
 ghost use Rattle.shape.specs.Shape.{unitFault};
+ghost use Rattle.adjacency.specs.Turns.{InTurn};
 ghost use Rattle.adjacency.specs.Adjacency.{Unmarked};
 ghost use Rattle.inner_walls.specs.Found.{Told};
-ghost use Rattle.unit_check.specs.Units.{Marked, Units, Staged};
+ghost use Rattle.unit_check.specs.Units.{Marked, Units, Staged, Scratch};
 use inner_walls::Found;
 use trials::Tried;
 
@@ -193,7 +194,166 @@ fn check_all<'a>(
     Found::Clear
 }
 
-// The units of a board, whose cells stand in `flat`.
+// All units in order, with tables, lists and marks that the caller lends.
+fn check_with<'a>(
+    height: usize,
+    width: usize,
+    states: &'a [u8],
+    ids: &'a [u16],
+    starts: &'a [u16],
+    flat: &'a [u16],
+    count: usize,
+    pids: &'a [u16],
+    pstarts: &'a [u16],
+    pflat: &'a [u16],
+    pcount: usize,
+    marks: &mut [u8],
+    nstarts: &mut [usize],
+    near: &mut [u16],
+    rows: &mut [usize],
+    cols: &mut [usize],
+    failed: &mut [u16],
+    buffer: &mut [u16],
+) -> Found
+    requires { ⌜ Staged (grid height width) (now states) (now ids) (now starts) (now flat) count (length (now buffer)) ⌝ }
+    requires { ⌜ InTurn (grid height width) (now pids) pcount (now pstarts) (now pflat) ⌝ }
+    requires { ⌜ Scratch (height * width) (now marks) (now nstarts) (now near) (now rows) (now cols) (now failed) ⌝ }
+    ensures { λ r.
+        ⌜ Told (firstOf (unitFault (grid height width) (now (states .entry)) (now (ids .entry)) (now (pids .entry)) pcount) (range count)) (now (buffer .entry)) (now (buffer .exit)) r ⌝ }
+{
+    adjacency::list_adjacent(
+        states,
+        height,
+        width,
+        pids,
+        pstarts,
+        pflat,
+        pcount,
+        marks,
+        nstarts,
+        near,
+    );
+    tables::fill(height, width, rows, cols);
+    check_all(
+        height,
+        width,
+        states,
+        ids,
+        starts,
+        flat,
+        count,
+        rows,
+        cols,
+        pids,
+        pstarts,
+        pflat,
+        pcount,
+        nstarts,
+        near,
+        marks,
+        failed,
+        buffer,
+    )
+}
+
+// The same on a board of at most 64 cells.
+fn check_small<'a>(
+    height: usize,
+    width: usize,
+    states: &'a [u8],
+    ids: &'a [u16],
+    starts: &'a [u16],
+    flat: &'a [u16],
+    count: usize,
+    pids: &'a [u16],
+    pstarts: &'a [u16],
+    pflat: &'a [u16],
+    pcount: usize,
+    buffer: &mut [u16],
+) -> Found
+    requires { ⌜ Staged (grid height width) (now states) (now ids) (now starts) (now flat) count (length (now buffer)) ⌝ }
+    requires { ⌜ InTurn (grid height width) (now pids) pcount (now pstarts) (now pflat) ⌝ }
+    requires { ⌜ height * width ≤ 64 ⌝ }
+    ensures { λ r.
+        ⌜ Told (firstOf (unitFault (grid height width) (now (states .entry)) (now (ids .entry)) (now (pids .entry)) pcount) (range count)) (now (buffer .entry)) (now (buffer .exit)) r ⌝ }
+{
+    let mut marks = [0u8; 64];
+    let mut nstarts = [0usize; 65];
+    let mut near = [0u16; 256];
+    let mut rows = [0usize; 64];
+    let mut cols = [0usize; 64];
+    let mut failed = [0u16; 64];
+    check_with(
+        height,
+        width,
+        states,
+        ids,
+        starts,
+        flat,
+        count,
+        pids,
+        pstarts,
+        pflat,
+        pcount,
+        &mut marks,
+        &mut nstarts,
+        &mut near,
+        &mut rows,
+        &mut cols,
+        &mut failed,
+        buffer,
+    )
+}
+
+// The same on a board of at most 1,024 cells.
+fn check_large<'a>(
+    height: usize,
+    width: usize,
+    states: &'a [u8],
+    ids: &'a [u16],
+    starts: &'a [u16],
+    flat: &'a [u16],
+    count: usize,
+    pids: &'a [u16],
+    pstarts: &'a [u16],
+    pflat: &'a [u16],
+    pcount: usize,
+    buffer: &mut [u16],
+) -> Found
+    requires { ⌜ Staged (grid height width) (now states) (now ids) (now starts) (now flat) count (length (now buffer)) ⌝ }
+    requires { ⌜ InTurn (grid height width) (now pids) pcount (now pstarts) (now pflat) ⌝ }
+    ensures { λ r.
+        ⌜ Told (firstOf (unitFault (grid height width) (now (states .entry)) (now (ids .entry)) (now (pids .entry)) pcount) (range count)) (now (buffer .entry)) (now (buffer .exit)) r ⌝ }
+{
+    let mut marks = [0u8; 1024];
+    let mut nstarts = [0usize; 1025];
+    let mut near = [0u16; 4096];
+    let mut rows = [0usize; 1024];
+    let mut cols = [0usize; 1024];
+    let mut failed = [0u16; 1024];
+    check_with(
+        height,
+        width,
+        states,
+        ids,
+        starts,
+        flat,
+        count,
+        pids,
+        pstarts,
+        pflat,
+        pcount,
+        &mut marks,
+        &mut nstarts,
+        &mut near,
+        &mut rows,
+        &mut cols,
+        &mut failed,
+        buffer,
+    )
+}
+
+// The units of a board, whose cells stand in `flat`. A small board has short arrays, since all of an array is zeroed.
 pub fn check_units<'a>(
     height: usize,
     width: usize,
@@ -221,26 +381,23 @@ pub fn check_units<'a>(
         &mut pstarts,
         &mut pflat,
     );
-    let mut marks = [0u8; 1024];
-    let mut nstarts = [0usize; 1025];
-    let mut near = [0u16; 4096];
-    adjacency::list_adjacent(
-        states,
-        height,
-        width,
-        &pids[..n],
-        &pstarts,
-        &pflat,
-        pcount,
-        &mut marks,
-        &mut nstarts,
-        &mut near,
-    );
-    let mut rows = [0usize; 1024];
-    let mut cols = [0usize; 1024];
-    tables::fill(height, width, &mut rows, &mut cols);
-    let mut failed = [0u16; 1024];
-    check_all(
+    if n <= 64 {
+        return check_small(
+            height,
+            width,
+            states,
+            ids,
+            starts,
+            flat,
+            count,
+            &pids[..n],
+            &pstarts,
+            &pflat,
+            pcount,
+            buffer,
+        );
+    }
+    check_large(
         height,
         width,
         states,
@@ -248,16 +405,10 @@ pub fn check_units<'a>(
         starts,
         flat,
         count,
-        &rows,
-        &cols,
         &pids[..n],
         &pstarts,
         &pflat,
         pcount,
-        &nstarts,
-        &near,
-        &mut marks,
-        &mut failed,
         buffer,
     )
 }

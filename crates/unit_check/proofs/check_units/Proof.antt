@@ -1,9 +1,7 @@
--- `unit_check::check_units` meets its contract: what the arrays hold after grouping, listing and filling. Assumes nothing.
-use mathlib.Core.Path.{refl}
-use Rattle.grid.proofs.Geometry.{cells-le}
+-- `unit_check::check_units` meets its contract: the check by short arrays or by long ones, over the potential units. Assumes nothing.
 use Rattle.groups.specs.Info.{blankPlaces}
 use Rattle.adjacency.proofs.TurnLaws.{arrays-lent, ids-fit, ids-part}
-use Rattle.unit_check.proofs.PotentialLaws.{none-marked, board-fits, listing, units, told}
+use Rattle.unit_check.proofs.PotentialLaws.{board-fits, potentials, told}
 use borrow.Author.Needs.{needs}
 use Rattle.unit_check.proofs.check_units.Statement.{statement}
 use Rattle.unit_check.proofs.check_units.Tie as tie
@@ -26,105 +24,53 @@ groups-of-requires c κs = let p = c .before .before .before .before .before .be
 
 array-share-prefix-pids : tie.Need-array-share-prefix-pids
 unfolding blankPlaces
-array-share-prefix-pids c =
-    let w = c .before .before .before in
-    let p = w .before .before .before .before .before .before .before .before .before .pre in
-    ids-fit (p .limits) (w .groups-of .ensures)
+array-share-prefix-pids c = ids-fit (c .before .before .before .before .before .before .before .before .before .before .before .before .before .pre .limits) (c .before .before .before .before .groups-of .ensures)
 
-slice-aggregate-list-adjacent : tie.Need-slice-aggregate-list-adjacent
+slice-aggregate-check-small : tie.Need-slice-aggregate-check-small
 unfolding blankPlaces
-slice-aggregate-list-adjacent c =
-    let w = c .before .before .before .before in
-    let p = w .before .before .before .before .before .before .before .before .before .pre in
-    ids-part (p .limits) (w .groups-of .ensures)
+slice-aggregate-check-small c = ids-part (c .before .before .before .before .before .before .before .before .before .before .before .before .before .before .pre .limits) (c .before .before .before .before .before .groups-of .ensures)
 
-slice-aggregate-list-adjacent-2 : tie.Need-slice-aggregate-list-adjacent-2
-slice-aggregate-list-adjacent-2 c = search needs
+slice-aggregate-check-small-2 : tie.Need-slice-aggregate-check-small-2
+slice-aggregate-check-small-2 c = search needs
 
-slice-aggregate-list-adjacent-3 : tie.Need-slice-aggregate-list-adjacent-3
-slice-aggregate-list-adjacent-3 c = search needs
+slice-aggregate-check-small-3 : tie.Need-slice-aggregate-check-small-3
+slice-aggregate-check-small-3 c = search needs
 
-slice-aggregate-list-adjacent-4 : tie.Need-slice-aggregate-list-adjacent-4
-slice-aggregate-list-adjacent-4 c = search needs
-
-slice-aggregate-list-adjacent-5 : tie.Need-slice-aggregate-list-adjacent-5
-slice-aggregate-list-adjacent-5 c = search needs
-
-slice-aggregate-list-adjacent-6 : tie.Need-slice-aggregate-list-adjacent-6
-slice-aggregate-list-adjacent-6 c = search needs
-
-list-adjacent-requires : tie.Need-list-adjacent-requires
+check-small-requires : tie.Need-check-small-requires
 unfolding blankPlaces
-list-adjacent-requires c κs =
-    let w = c .before .before .before .before .before .before .before .before .before in
-    let p = w .before .before .before .before .before .before .before .before .before .pre in
-    (listing p (w .groups-of .ensures) refl refl refl, none-marked 1024)
-
-slice-aggregate-fill : tie.Need-slice-aggregate-fill
-slice-aggregate-fill c = search needs
-
-slice-aggregate-fill-2 : tie.Need-slice-aggregate-fill-2
-slice-aggregate-fill-2 c = search needs
-
-fill-requires : tie.Need-fill-requires
-fill-requires c κs =
-    let l = c .before .before .before .before .before in
-    let p = l .before .before .before .before .before .before .before .before .before .before .before .before .before .before .before .before .before .before .before .pre in
-    let n = cells-le _ (p .limits) in
-    (p .limits, (n, n))
-
-slice-aggregate-check-all : tie.Need-slice-aggregate-check-all
-slice-aggregate-check-all c = search needs
-
-slice-aggregate-check-all-2 : tie.Need-slice-aggregate-check-all-2
-slice-aggregate-check-all-2 c = search needs
-
-array-share-prefix-pids-2 : tie.Need-array-share-prefix-pids-2
-array-share-prefix-pids-2 c = search needs
-
-slice-aggregate-check-all-3 : tie.Need-slice-aggregate-check-all-3
-unfolding blankPlaces
-slice-aggregate-check-all-3 c =
-    let w = c .before .before .before .before .before .before .before .before .before .before .before .before .before .before .before .before .before .before .before .before .before in
-    let p = w .before .before .before .before .before .before .before .before .before .pre in
-    ids-part (p .limits) (w .groups-of .ensures)
-
-slice-aggregate-check-all-4 : tie.Need-slice-aggregate-check-all-4
-slice-aggregate-check-all-4 c = search needs
-
-slice-aggregate-check-all-5 : tie.Need-slice-aggregate-check-all-5
-slice-aggregate-check-all-5 c = search needs
-
-slice-aggregate-check-all-6 : tie.Need-slice-aggregate-check-all-6
-slice-aggregate-check-all-6 c = search needs
-
-slice-aggregate-check-all-7 : tie.Need-slice-aggregate-check-all-7
-slice-aggregate-check-all-7 c = search needs
-
-slice-aggregate-check-all-8 : tie.Need-slice-aggregate-check-all-8
-slice-aggregate-check-all-8 c = search needs
-
-slice-aggregate-check-all-9 : tie.Need-slice-aggregate-check-all-9
-slice-aggregate-check-all-9 c = search needs
-
-check-all-requires : tie.Need-check-all-requires
-unfolding blankPlaces
-check-all-requires c κs =
-    let f = c .before .before .before .before .before .before .before .before .before .before .before .before in
-    let l = f .before .before .before .before .before .before in
-    let w = l .before .before .before .before .before .before .before .before .before .before in
-    let p = w .before .before .before .before .before .before .before .before .before .pre in
-    (units p (w .groups-of .ensures) (f .fill .ensures) (l .list-adjacent .ensures .0) (l .list-adjacent .kept .1 .1 .1 .1 .1 .1 .1 .0) refl, l .list-adjacent .ensures .1)
+check-small-requires c κs = let p = c .before .before .before .before .before .before .before .before .before .before .before .before .before .before .before .before .before .pre in (p, (potentials p (c .before .before .before .before .before .before .before .before .groups-of .ensures), c .before .before .before .before .if1 .taken))
 
 same-length : tie.Need-same-length
 same-length c = search needs
 
 returns : tie.Need-returns
 unfolding blankPlaces
-returns c =
-    let w = c .before .before .before .before .before .before .before .before .before .before .before .before .before .before .before .before .before .before .before .before .before .before .before .before .before .before .before .before .before .before .before .before .before in
-    let p = w .before .before .before .before .before .before .before .before .before .pre in
-    told p (w .groups-of .ensures) (c .before .before .before .before .check-all .ensures)
+returns c = told (c .before .before .before .before .before .before .before .before .before .before .before .before .before .before .before .before .before .before .before .before .pre) (c .before .before .before .before .before .before .before .before .before .before .before .groups-of .ensures) (c .before .before .check-small .ensures)
+
+array-share-prefix-pids-2 : tie.Need-array-share-prefix-pids-2
+unfolding blankPlaces
+array-share-prefix-pids-2 c = ids-fit (c .before .before .before .before .before .before .before .before .before .before .before .before .before .pre .limits) (c .before .before .before .before .groups-of .ensures)
+
+slice-aggregate-check-large : tie.Need-slice-aggregate-check-large
+unfolding blankPlaces
+slice-aggregate-check-large c = ids-part (c .before .before .before .before .before .before .before .before .before .before .before .before .before .before .pre .limits) (c .before .before .before .before .before .groups-of .ensures)
+
+slice-aggregate-check-large-2 : tie.Need-slice-aggregate-check-large-2
+slice-aggregate-check-large-2 c = search needs
+
+slice-aggregate-check-large-3 : tie.Need-slice-aggregate-check-large-3
+slice-aggregate-check-large-3 c = search needs
+
+check-large-requires : tie.Need-check-large-requires
+unfolding blankPlaces
+check-large-requires c κs = let p = c .before .before .before .before .before .before .before .before .before .before .before .before .before .before .before .before .before .pre in (p, potentials p (c .before .before .before .before .before .before .before .before .groups-of .ensures))
+
+same-length-2 : tie.Need-same-length-2
+same-length-2 c = search needs
+
+returns-2 : tie.Need-returns-2
+unfolding blankPlaces
+returns-2 c = told (c .before .before .before .before .before .before .before .before .before .before .before .before .before .before .before .before .before .before .before .before .pre) (c .before .before .before .before .before .before .before .before .before .before .before .groups-of .ensures) (c .before .before .check-large .ensures)
 
 pub check-units-spec : {M : Type 1} → statement M
 check-units-spec =
@@ -136,26 +82,16 @@ check-units-spec =
     slice-aggregate-groups-of-3
     groups-of-requires
     array-share-prefix-pids
-    slice-aggregate-list-adjacent
-    slice-aggregate-list-adjacent-2
-    slice-aggregate-list-adjacent-3
-    slice-aggregate-list-adjacent-4
-    slice-aggregate-list-adjacent-5
-    slice-aggregate-list-adjacent-6
-    list-adjacent-requires
-    slice-aggregate-fill
-    slice-aggregate-fill-2
-    fill-requires
-    slice-aggregate-check-all
-    slice-aggregate-check-all-2
-    array-share-prefix-pids-2
-    slice-aggregate-check-all-3
-    slice-aggregate-check-all-4
-    slice-aggregate-check-all-5
-    slice-aggregate-check-all-6
-    slice-aggregate-check-all-7
-    slice-aggregate-check-all-8
-    slice-aggregate-check-all-9
-    check-all-requires
+    slice-aggregate-check-small
+    slice-aggregate-check-small-2
+    slice-aggregate-check-small-3
+    check-small-requires
     same-length
-    returns)
+    returns
+    array-share-prefix-pids-2
+    slice-aggregate-check-large
+    slice-aggregate-check-large-2
+    slice-aggregate-check-large-3
+    check-large-requires
+    same-length-2
+    returns-2)
