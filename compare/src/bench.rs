@@ -194,10 +194,10 @@ is lent again and again and not cleared between calls. The Rust makes each list 
 shape check, as `solve_sendai` has it (here at 4 by 4, Connected inside, alone).
 ";
 
-const WHY: &str = "Where an ask is slower, two costs of the port show, which the Rust does not have. Its arrays have the length of the largest board:
-of the instructions of a puzzle's ask at 4 by 4, 62 in 100 clear them and 24 copy records (callgrind, one room, all undecided). And
-question 2 of a puzzle groups the rooms, which the counts then group again: at 32 by 32 the four groupings of such an ask are 35 in
-100 of its instructions.
+const WHY: &str = "Where an ask is slower, two costs of the port show, which the Rust does not have: its arrays have the length of the largest board, and
+the puzzle goes over the C interface by value, 12 KB each time. Of the instructions of a puzzle's ask at 4 by 4, 29 in 100 clear arrays
+and 47 copy the record (callgrind, one room, all undecided). A decide and an undo put question 2 to the whole ledger, each name of it
+one store; where two thirds of the borders are decided and the ask ends at its first Wall inside a unit, that is more than a twentieth.
 ";
 
 const OTHER_CALLS: &str = "The port's µs, and the ratio in brackets. A path leads from the first to the last cell of the largest unit; a boundary is that of
@@ -208,8 +208,8 @@ const DECIDES: &str = "Each call of the port puts question 2 to the whole record
 changes one place. The calls in place are thin ones over those by value. On a full board the first border is left open.
 ";
 
-const ROOMS: &str = "The port's room check lists the arcs anew for each ask and puts question 2 to the record, which the Rust does not. Hand-over stands
-beside `sort` and `dedup`.
+const ROOMS: &str = "The port's room check puts question 2 to the record, which the Rust does not; it unites, and lists the arcs for the walk, only where
+bounds of the parts do not tell. Hand-over stands beside `sort` and `dedup`.
 ";
 
 const STACK: &str = "How far a call reached down a painted stack, its arguments and its caller's copies of them included: the most on the boards,
