@@ -4,7 +4,7 @@ use Prim.Native.Nat.{ℕ, _+_, _-_, _*_, _≤_, _<_}
 use mathlib.Core.Path.{_≡_, refl, ap, sym, _∙_}
 use mathlib.Core.Logic.{_≢_, ⊎-elim}
 use mathlib.Core.Bool.{Bool, true, false}
-use mathlib.Core.List.{List, [], _∷_}
+use mathlib.Core.List.{List}
 use native.Mathlib.Omega.{arith}
 use borrow.Author.Tests.{eqb-true, not-false}
 use lib.Dec.{eqb}
@@ -14,8 +14,9 @@ use Rattle.lists.specs.Lists.{any}
 use Rattle.lists.proofs.Cases.{eq-or-ne, le-or-lt, true-or-false, not-both}
 use Rattle.lists.proofs.ChoiceLaws.{both-true}
 use Rattle.lists.proofs.ListLaws.{any-true, in-getD, getD-in}
-use Rattle.grid.specs.declared.Direction.the-variants.{Up, Down, Left, Right}
-use Rattle.grid.specs.Grid.{Grid, cells, Cell, next}
+use Rattle.grid.specs.declared.Grid.{Grid}
+use Rattle.grid.specs.Grid.{cells, Cell, next}
+use Rattle.grid.specs.Orders.{around}
 use Rattle.borders.specs.Border.{stands}
 use Rattle.borders.proofs.BorderLaws.{stands-step}
 use Rattle.boundary.specs.Boundary.{ahead}
@@ -34,8 +35,8 @@ pub parted-cell : (g : Grid) (states pids cs : List ℕ) → ((i : ℕ) → i < 
     → (c : ℕ) × Cell g c × (getD pids c 0 ≡ q)
 unfolding parted behind wallTo
 parted-cell g states pids cs on q t =
-    let o = any-true (λ c. any (wallTo g states pids q c) (Up ∷ Down ∷ Left ∷ Right ∷ [])) cs t in
-    let w = any-true (wallTo g states pids q (o .0)) (Up ∷ Down ∷ Left ∷ Right ∷ []) (o .2) in
+    let o = any-true (λ c. any (wallTo g states pids q c) around) cs t in
+    let w = any-true (wallTo g states pids q (o .0)) around (o .2) in
     let b = both-true (stands g states 2 (w .0) (o .0)) (ahead g pids q (o .0) (w .0)) (w .2) in
     let i = in-getD 0 (o .0) cs (o .1) in
     let s = stands-step g states 2 (w .0) (o .0) (rw (i .2) at (on (i .0) (i .1))) (b .0) in

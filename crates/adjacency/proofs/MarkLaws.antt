@@ -12,7 +12,7 @@ use lib.ListN.{getD, length, set, length-set, List·getD-eq-default}
 use lib.Seq.{getD-set-same, getD-set-other}
 use Rattle.lists.specs.Choice.{either}
 use Rattle.lists.proofs.Cases.{eq-or-ne, le-or-lt, true-or-false, not-both}
-use Rattle.grid.specs.Grid.{Grid}
+use Rattle.grid.specs.declared.Grid.{Grid}
 use Rattle.groups.specs.Groups.{cellsOf}
 use Rattle.shape.specs.Shape.{adjacent}
 use Rattle.adjacency.specs.Adjacency.{behind, parted, Written, Adjacency, Unmarked, MarksOf}

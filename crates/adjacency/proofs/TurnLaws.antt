@@ -8,7 +8,8 @@ use native.Mathlib.Omega.{arith}
 use lib.ListN.{getD, length, take, drop}
 use lib.Seq.{sets, sets-eq, length-sets, length-take-le, take-append-seam}
 use Rattle.lists.proofs.SetsLaws.{front}
-use Rattle.grid.specs.Grid.{Grid, cells, Limits}
+use Rattle.grid.specs.declared.Grid.{Grid}
+use Rattle.grid.specs.Grid.{cells, Limits}
 use Rattle.grid.proofs.Geometry.{cells-le}
 use Rattle.groups.specs.Groups.{groupIds, groupCount}
 use Rattle.groups.specs.Turn.{inTurn, startsOf}

@@ -4,7 +4,8 @@ use Prim.Native.Nat.{ℕ, _≤_, _<_}
 use mathlib.Core.Path.{_≡_}
 use mathlib.Core.List.{List}
 use lib.ListN.{getD, length}
-use Rattle.grid.specs.Grid.{Grid, cells, Cell}
+use Rattle.grid.specs.declared.Grid.{Grid}
+use Rattle.grid.specs.Grid.{cells, Cell}
 use Rattle.groups.specs.Groups.{cellsOf}
 use Rattle.groups.specs.Info.{endOf, part}
 

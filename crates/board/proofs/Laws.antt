@@ -15,7 +15,8 @@ use Rattle.lists.specs.Lists.{In}
 use Rattle.lists.proofs.Cases.{le-or-lt, true-or-false, not-both}
 use Rattle.lists.proofs.ChoiceLaws.{both-true, true-both}
 use Rattle.lists.proofs.ListLaws.{getD-in}
-use Rattle.grid.specs.Grid.{Grid, grid, sizesOk, Limits, borderCount}
+use Rattle.grid.specs.declared.Grid.{Grid}
+use Rattle.grid.specs.Grid.{grid, sizesOk, Limits, borderCount}
 use Rattle.grid.proofs.Geometry.{limits, limits-ok, borderCount-le}
 use Rattle.ledger.specs.Ledger.{holdsOf}
 use Rattle.ledger.specs.Marks.{givenIn, Lent}

@@ -15,7 +15,8 @@ use lib.Seq.{getD-take, getD-set-same, getD-set-other, take-suc-set, take-set-le
 use Rattle.lists.specs.Choice.{both, pick}
 use Rattle.lists.proofs.ChoiceLaws.{both-true}
 use Rattle.lists.proofs.Cases.{le-or-lt, eq-or-ne, true-or-false}
-use Rattle.grid.specs.Grid.{Grid, grid, sizesOk, Limits, borderCount}
+use Rattle.grid.specs.declared.Grid.{Grid}
+use Rattle.grid.specs.Grid.{grid, sizesOk, Limits, borderCount}
 use Rattle.grid.proofs.Geometry.{borderCount-le}
 use Rattle.ledger.specs.Ledger.{Decision, Call, decide, undo, ask, stateFor, stateIn, standing, accepted, ledgerAfter, ledgerOf, borders}
 use Rattle.ledger.proofs.Standing.{Sound, sound-empty, sound-length, sound-decide, sound-take, Follows, follows-decide, follows-undo, holds-together, accepted-facts}

@@ -6,7 +6,8 @@ use mathlib.Core.List.{List}
 use lib.Dec.{eqb, ltb, leb}
 use lib.ListN.{getD, set, take, replicate}
 use Rattle.lists.specs.Choice.{both, pick}
-use Rattle.grid.specs.Grid.{Grid, grid, sizesOk, borderCount}
+use Rattle.grid.specs.declared.Grid.{Grid}
+use Rattle.grid.specs.Grid.{grid, sizesOk, borderCount}
 use Rattle.ledger.specs.Ledger.{stateFor, holdsOf}
 use Rattle.board.specs.declared.Board.{Board}
 use Rattle.board.specs.declared.Decided.{Decided}

@@ -39,7 +39,7 @@ fn empty(height: usize, width: usize) -> Board
 pub fn make(height: usize, width: usize) -> Decided
     ensures { λ r. ⌜ r ≡ makeOf height width ⌝ }
 {
-    if !grid::sizes_ok(height, width) {
+    if !grid::sizes::sizes_ok(height, width) {
         return Decided {
             code: 1,
             board: empty(0, 0),
@@ -62,10 +62,10 @@ pub fn check_parts<'a>(
     requires { ⌜ (length (now states) ≡ 1984) × (length (now names) ≡ 1984) ⌝ }
     ensures { λ r. ⌜ r ≡ checkOf height width (now (states .entry)) (now (names .entry)) len ⌝ }
 {
-    if !grid::sizes_ok(height, width) {
+    if !grid::sizes::sizes_ok(height, width) {
         return 1;
     }
-    let n = grid::border_count(height, width);
+    let n = grid::sizes::border_count(height, width);
     if n < len {
         return 2;
     }
@@ -130,7 +130,7 @@ fn decide_code<'a>(
     if code != 0 {
         return code;
     }
-    if grid::border_count(height, width) <= border {
+    if grid::sizes::border_count(height, width) <= border {
         return 3;
     }
     if states[border] != 0 {

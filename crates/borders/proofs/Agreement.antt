@@ -6,7 +6,8 @@ use mathlib.Core.Bool.{true}
 use mathlib.Core.List.{List}
 use lib.Dec.{eqb}
 use Rattle.grid.specs.declared.Direction.{Direction}
-use Rattle.grid.specs.Grid.{Grid, Cell, goesOn, next, border, borderCount}
+use Rattle.grid.specs.declared.Grid.{Grid}
+use Rattle.grid.specs.Grid.{Cell, goesOn, next, border, borderCount}
 use Rattle.grid.proofs.Geometry.{goes-step, border-lt}
 use Rattle.borders.specs.Border.{stateOf, stateAt, stands}
 use Rattle.borders.proofs.Congruence.{both-same}

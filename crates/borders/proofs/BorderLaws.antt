@@ -8,7 +8,8 @@ use borrow.Author.Tests.{eqb-true, eq-eqb}
 use lib.Dec.{eqb}
 use Rattle.lists.proofs.ChoiceLaws.{both-true, true-both}
 use Rattle.grid.specs.declared.Direction.{Direction}
-use Rattle.grid.specs.Grid.{Grid, Cell, goesOn, next, border}
+use Rattle.grid.specs.declared.Grid.{Grid}
+use Rattle.grid.specs.Grid.{Cell, goesOn, next, border}
 use Rattle.grid.specs.Steps.{Step}
 use Rattle.grid.proofs.Geometry.{goes-step, step-goes}
 use Rattle.borders.specs.Border.{stateOf, stateAt, stands}

@@ -3,21 +3,13 @@
 use Prim.Native.Nat.{ℕ}
 use mathlib.Core.Path.{refl}
 use mathlib.Core.Logic.{_⊎_, inl, inr}
-use mathlib.Core.List.{List, [], _∷_}
 use Rattle.lists.specs.Lists.{In}
 use Rattle.grid.specs.declared.Direction.{Direction}
 use Rattle.grid.specs.declared.Direction.the-variants.{Up, Down, Left, Right}
-use Rattle.grid.specs.Grid.{Grid}
+use Rattle.grid.specs.Orders.{around, forward, unitOrder}
+use Rattle.grid.specs.declared.Grid.{Grid}
 use Rattle.grid.specs.Steps.{Step, Neighbours}
 use Rattle.grid.proofs.Geometry.{step-back}
-
--- "up, down, left, right"
-abbrev pub around : List Direction
-around = Up ∷ Down ∷ Left ∷ Right ∷ []
-
--- "down before right"
-abbrev pub forward : List Direction
-forward = Down ∷ Right ∷ []
 
 -- c lies down or right of a, over border e
 abbrev pub Ahead : Grid → ℕ → ℕ → ℕ → Type 0
@@ -39,7 +31,7 @@ in-around Left = inr (inr (inl refl))
 in-around Right = inr (inr (inr (inl refl)))
 
 -- the order of a unit's boundary list
-pub in-unit-order : (d : Direction) → In d (Up ∷ Left ∷ Down ∷ Right ∷ [])
+pub in-unit-order : (d : Direction) → In d unitOrder
 in-unit-order Up = inl refl
 in-unit-order Down = inr (inr (inl refl))
 in-unit-order Left = inr (inl refl)

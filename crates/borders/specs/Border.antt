@@ -7,7 +7,8 @@ use lib.Dec.{eqb}
 use lib.ListN.{getD}
 use Rattle.lists.specs.Choice.{both}
 use Rattle.grid.specs.declared.Direction.{Direction}
-use Rattle.grid.specs.Grid.{Grid, goesOn, border, borderCount}
+use Rattle.grid.specs.declared.Grid.{Grid}
+use Rattle.grid.specs.Grid.{goesOn, border, borderCount}
 
 abbrev pub stateOf : List ℕ → ℕ → ℕ
 stateOf states e = getD states e 0

@@ -6,10 +6,11 @@ use mathlib.Core.Bool.{not}
 use mathlib.Core.List.{List, [], _∷_, _++_}
 use Rattle.lists.specs.Choice.{both, when}
 use Rattle.grid.specs.declared.Direction.the-variants.{Up, Down, Left, Right}
-use Rattle.grid.specs.Grid.{Grid, Cell, border}
+use Rattle.grid.specs.declared.Grid.{Grid}
+use Rattle.grid.specs.Grid.{Cell, border}
 use Rattle.borders.specs.Entry.{connectedEntry, wallEntry}
 use Rattle.borders.proofs.Congruence.{gather-same}
-use Rattle.borders.proofs.Directions.{around, forward}
+use Rattle.grid.specs.Orders.{around, forward, unitOrder}
 use Rattle.borders.proofs.Agreement.{Agree, stands-reads}
 use Rattle.groups.specs.Groups.{cellsOf}
 use Rattle.groups.proofs.GroupLaws.{in-cells}
@@ -22,7 +23,7 @@ module _ (g : Grid) (a b : List ℕ) (agree : Agree g a b) (ids : List ℕ) (k :
       ap₂ _++_
       (gather-same (connectedAt g a ids k c) (connectedAt g b ids k c) forward
       (λ d m. ap (λ t. when (both t (ahead g ids k c d)) (connectedEntry (border g d c))) (stands-reads g a b agree d c cell 1)))
-      (gather-same (wallAt g a c) (wallAt g b c) (Up ∷ Left ∷ Down ∷ Right ∷ []) (λ d m. ap (λ t. when t (wallEntry (border g d c))) (stands-reads g a b agree d c cell 2)))
+      (gather-same (wallAt g a c) (wallAt g b c) unitOrder (λ d m. ap (λ t. when t (wallEntry (border g d c))) (stands-reads g a b agree d c cell 2)))
 
   pub unit-agrees : unitBoundary g a ids k ≡ unitBoundary g b ids k
   unfolding unitBoundary

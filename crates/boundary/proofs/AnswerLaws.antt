@@ -12,7 +12,8 @@ use lib.ListN.{length, take, drop, length-replicate}
 use lib.Seq.{length-sets, sets-eq, take-append-seam}
 use Rattle.lists.specs.Choice.{pick}
 use Rattle.lists.proofs.Cases.{eq-or-ne}
-use Rattle.grid.specs.Grid.{Grid, Limits, cells}
+use Rattle.grid.specs.declared.Grid.{Grid}
+use Rattle.grid.specs.Grid.{Limits, cells}
 use Rattle.grid.proofs.Geometry.{cells-le, borderCount-le}
 use Rattle.board.specs.declared.Board.{Board}
 use Rattle.board.specs.Board.{sizeOf, boardCode}

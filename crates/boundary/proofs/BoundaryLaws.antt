@@ -16,14 +16,16 @@ use Rattle.lists.proofs.ChoiceLaws.{both-true, true-both}
 use Rattle.lists.proofs.ListLaws.{in-left, in-right, in-append, in-when, when-in, in-gather, gather-in, range-length}
 use Rattle.grid.specs.declared.Direction.{Direction}
 use Rattle.grid.specs.declared.Direction.the-variants.{Up, Down, Left, Right}
-use Rattle.grid.specs.Grid.{Grid, cells, Cell, next, border}
+use Rattle.grid.specs.declared.Grid.{Grid}
+use Rattle.grid.specs.Grid.{cells, Cell, next, border}
 use Rattle.grid.specs.Steps.{Step, Neighbours}
 use Rattle.grid.proofs.Geometry.{step-next}
 use Rattle.borders.specs.Entry.{connectedEntry, wallEntry, Standing}
 use Rattle.borders.specs.Border.{stateOf, stands}
 use Rattle.borders.proofs.EntryLaws.{connected-stands, wall-stands}
 use Rattle.borders.proofs.BorderLaws.{stands-state, stands-step, step-stands}
-use Rattle.borders.proofs.Directions.{around, forward, Ahead, down-or-right, in-around, in-unit-order}
+use Rattle.grid.specs.Orders.{around, forward, unitOrder}
+use Rattle.borders.proofs.Directions.{Ahead, down-or-right, in-around, in-unit-order}
 use Rattle.groups.specs.Groups.{cellsOf}
 use Rattle.groups.proofs.GroupLaws.{in-cells, cells-in}
 use Rattle.boundary.specs.Boundary.{ahead, connectedAt, wallAt, outerWallAt, unitCell, unitBoundary, potentialCell, potentialBoundary}
@@ -85,7 +87,7 @@ module _ (g : Grid) (states ids : List ℕ) (k : ℕ) where
         entry = o .1;
       }))
       (λ i.
-      let d = in-gather (wallAt g states c) (Up ∷ Left ∷ Down ∷ Right ∷ []) l i in
+      let d = in-gather (wallAt g states c) unitOrder l i in
       let o = in-when (stands g states 2 (d .0) c) (wallEntry (border g (d .0) c)) l (d .2) in
       inr (record {
         a = c;
@@ -127,7 +129,7 @@ module _ (g : Grid) (states ids : List ℕ) (k : ℕ) where
       let s = n .1 in
       gather-in (unitCell g states ids k) (cellsOf g ids k) a (wallEntry e) (cells-in g ids k a (s .cell) p)
       (in-right (wallEntry e) (gather (connectedAt g states ids k a) forward) _
-      (gather-in (wallAt g states a) (Up ∷ Left ∷ Down ∷ Right ∷ []) d (wallEntry e) (in-unit-order d)
+      (gather-in (wallAt g states a) unitOrder d (wallEntry e) (in-unit-order d)
       (rw (s .over) (when-in (stands g states 2 d a) (wallEntry (border g d a)) (step-stands g states 2 d a c e s w)))))
 
   -- THE UNIT'S LIST has the Connected borders inside the group and the Walls of its cells, and nothing else

@@ -6,7 +6,8 @@ use mathlib.Core.List.{List}
 use lib.Dec.{eqb, ltb, leb}
 use lib.ListN.{length}
 use Rattle.lists.specs.Choice.{pick}
-use Rattle.grid.specs.Grid.{Grid, cells}
+use Rattle.grid.specs.declared.Grid.{Grid}
+use Rattle.grid.specs.Grid.{cells}
 use Rattle.board.specs.declared.Board.{Board}
 use Rattle.board.specs.Board.{sizeOf, boardCode}
 use Rattle.board.specs.Outcome.{Outcome, refused, listed}

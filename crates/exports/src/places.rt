@@ -55,5 +55,5 @@ pub extern "C" fn sendai_neighbour(height: usize, width: usize, cell: usize, dir
     ensures { λ r. ⌜ r ≡ placeOf (neighbourOf (grid height width) (directionOf direction) cell) ⌝ }
 {
     let d = direction_of(direction);
-    place_of(grid::neighbour(height, width, cell, d))
+    place_of(grid::sizes::neighbour(height, width, cell, d))
 }

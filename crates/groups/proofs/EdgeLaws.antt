@@ -11,7 +11,8 @@ use lib.ListN.{getD, length}
 use lib.Dec.{eqb}
 use Rattle.lists.proofs.ChoiceLaws.{both-true, true-both}
 use Rattle.grid.specs.declared.Direction.{Direction}
-use Rattle.grid.specs.Grid.{Grid, cells, Cell, goesOn, next, border}
+use Rattle.grid.specs.declared.Grid.{Grid}
+use Rattle.grid.specs.Grid.{cells, Cell, goesOn, next, border}
 use Rattle.grid.specs.Steps.{Step, Neighbours}
 use Rattle.grid.proofs.Geometry.{goes-step, step-goes, step-next, neighbours-back}
 use Rattle.borders.specs.Border.{stateOf}

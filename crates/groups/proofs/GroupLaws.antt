@@ -17,7 +17,8 @@ use Rattle.lists.proofs.ListLaws.{in-when, when-in, in-keep, keep-in, in-gather
 use Rattle.frame.specs.Frame.{Chain, here, on, Link, SameUnit, SamePotential}
 use Rattle.frame.proofs.Chains.{chain-then, chain-map, link-back}
 use Rattle.grid.specs.declared.Direction.the-variants.{Down, Right}
-use Rattle.grid.specs.Grid.{Grid, cells, Cell, goesOn, next, border}
+use Rattle.grid.specs.declared.Grid.{Grid}
+use Rattle.grid.specs.Grid.{cells, Cell, goesOn, next, border}
 use Rattle.grid.specs.Steps.{Neighbours}
 use Rattle.grid.proofs.Geometry.{goes-step, step-goes, step-next, neighbours-back, border-lt}
 use Rattle.borders.specs.Border.{stateOf, StatesOk}

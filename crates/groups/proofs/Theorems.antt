@@ -16,7 +16,8 @@ use Rattle.lists.specs.Lists.{range, all}
 use Rattle.lists.proofs.Cases.{le-or-lt}
 use Rattle.lists.proofs.ListLaws.{all-true, true-all, in-range, range-in, range-length}
 use Rattle.lists.proofs.ChoiceLaws.{true-both}
-use Rattle.grid.specs.Grid.{Grid, cells, Cell, Limits}
+use Rattle.grid.specs.declared.Grid.{Grid}
+use Rattle.grid.specs.Grid.{cells, Cell, Limits}
 use Rattle.grid.proofs.Geometry.{cells-le, cells-some}
 use Rattle.board.specs.declared.Board.{Board}
 use Rattle.board.specs.Board.{sizeOf, boardCode}

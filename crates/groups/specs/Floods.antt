@@ -7,7 +7,8 @@ use mathlib.Core.List.{List}
 use lib.ListN.{getD, length}
 use Rattle.grid.specs.declared.Direction.{Direction}
 use Rattle.lists.specs.Choice.{both}
-use Rattle.grid.specs.Grid.{Grid, Limits, cells, Cell, goesOn, next, border, borderCount}
+use Rattle.grid.specs.declared.Grid.{Grid}
+use Rattle.grid.specs.Grid.{Limits, cells, Cell, goesOn, next, border, borderCount}
 use Rattle.borders.specs.Border.{stateOf}
 use Rattle.parts.specs.Parts.{Joined}
 use Rattle.parts.specs.Flood.{blank, Flow, Tried, Moved, Swept, Numbered}

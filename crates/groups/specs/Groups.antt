@@ -9,7 +9,8 @@ use Rattle.lists.specs.Choice.{both, either, when}
 use Rattle.lists.specs.Lists.{range, keep, gather}
 use Rattle.grid.specs.declared.Direction.{Direction}
 use Rattle.grid.specs.declared.Direction.the-variants.{Down, Right}
-use Rattle.grid.specs.Grid.{Grid, cells, goesOn, next, border}
+use Rattle.grid.specs.declared.Grid.{Grid}
+use Rattle.grid.specs.Grid.{cells, goesOn, next, border}
 use Rattle.borders.specs.Border.{stateOf}
 use Rattle.parts.specs.Parts.{Edge, edge, roots, begunIn, parts}
 

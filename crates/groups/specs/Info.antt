@@ -8,7 +8,8 @@ use lib.ListN.{getD, length, take, drop, replicate}
 use lib.Seq.{sets}
 use Rattle.lists.specs.Choice.{both, pick}
 use Rattle.lists.specs.Lists.{range, all}
-use Rattle.grid.specs.Grid.{Grid, grid, sizesOk, cells}
+use Rattle.grid.specs.declared.Grid.{Grid}
+use Rattle.grid.specs.Grid.{grid, sizesOk, cells}
 use Rattle.board.specs.declared.Board.{Board}
 use Rattle.board.specs.Board.{sizeOf, boardCode}
 use Rattle.groups.specs.declared.GroupInfo.{GroupInfo}

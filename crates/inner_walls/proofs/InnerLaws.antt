@@ -14,7 +14,8 @@ use Rattle.lists.specs.Choice.{give}
 use Rattle.grid.specs.declared.Direction.{Direction}
 use Rattle.grid.specs.declared.Beyond.{Beyond}
 use Rattle.grid.specs.declared.Beyond.the-variants.{At}
-use Rattle.grid.specs.Grid.{Grid, Cell, cells, stepOf}
+use Rattle.grid.specs.declared.Grid.{Grid}
+use Rattle.grid.specs.Grid.{Cell, cells, stepOf}
 use Rattle.grid.specs.Steps.{Step}
 use Rattle.grid.proofs.Beyond.{the-type}
 use Rattle.grid.proofs.Geometry.{goes-step, border-lt, borderCount-le}

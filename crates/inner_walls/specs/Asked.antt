@@ -3,7 +3,8 @@
 use Prim.Native.Nat.{ℕ, _*_, _≤_}
 use mathlib.Core.List.{List}
 use lib.ListN.{length}
-use Rattle.grid.specs.Grid.{Grid, Limits, cells, borderCount}
+use Rattle.grid.specs.declared.Grid.{Grid}
+use Rattle.grid.specs.Grid.{Limits, cells, borderCount}
 
 -- the board is within the limits, every border has a state and every cell a unit, and the buffer has room for every list
 pub record Asked (g : Grid) (states ids buffer : List ℕ) : Type 0 where

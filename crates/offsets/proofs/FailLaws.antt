@@ -10,7 +10,8 @@ use lib.ListN.{getD, length, drop}
 use Rattle.lists.specs.Choice.{orElse}
 use Rattle.lists.specs.Lists.{In, first}
 use Rattle.lists.proofs.ListLaws.{getD-in}
-use Rattle.grid.specs.Grid.{Grid, Cell, row, col}
+use Rattle.grid.specs.declared.Grid.{Grid}
+use Rattle.grid.specs.Grid.{Cell, row, col}
 use Rattle.grid.proofs.Geometry.{cells-le, row-lt, col-lt}
 use Rattle.offsets.specs.declared.reach.Shift.{Shift}
 use Rattle.offsets.specs.declared.landings.Fail.{Fail}

@@ -23,7 +23,8 @@ use Rattle.grid.specs.declared.Direction.the-variants.{Up, Down, Left, Right}
 use Rattle.grid.specs.declared.Beyond.{Beyond}
 use Rattle.grid.specs.declared.Beyond.the-variants.{At, End, Refused}
 use Rattle.grid.proofs.Beyond.{the-type}
-use Rattle.grid.specs.Grid.{Grid, Limits, cells, Cell, row, col, goesOn, next, border, borderCount, stepOf}
+use Rattle.grid.specs.declared.Grid.{Grid}
+use Rattle.grid.specs.Grid.{Limits, cells, Cell, row, col, goesOn, next, border, borderCount, stepOf}
 use Rattle.grid.proofs.Geometry.{goes-step, border-lt, borderCount-le, cells-le}
 use Rattle.borders.specs.Border.{stateAt, stands}
 use Rattle.offsets.specs.declared.reach.Shift.{Shift}

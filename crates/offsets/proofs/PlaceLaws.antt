@@ -16,7 +16,8 @@ use Rattle.grid.specs.declared.Direction.{Direction}
 use Rattle.grid.specs.declared.Direction.the-variants.{Up, Down, Left, Right}
 use Rattle.grid.specs.declared.Beyond.{Beyond}
 use Rattle.grid.specs.declared.Beyond.the-variants.{At, End, Refused}
-use Rattle.grid.specs.Grid.{Grid, Limits, Cell, row, col, goesOn, next, border, stepOf}
+use Rattle.grid.specs.declared.Grid.{Grid}
+use Rattle.grid.specs.Grid.{Limits, Cell, row, col, goesOn, next, border, stepOf}
 use Rattle.grid.specs.Steps.{opposite}
 use Rattle.grid.proofs.Geometry.{coords, goes-step, step-back, step-goes}
 use Rattle.offsets.specs.declared.places.Landing.{Landing}

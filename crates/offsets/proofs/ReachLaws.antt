@@ -17,7 +17,8 @@ use Rattle.lists.specs.Choice.{both, either, holds, through, give}
 use Rattle.lists.specs.Lists.{In, all, any}
 use Rattle.lists.proofs.ChoiceLaws.{both-true, give-some, through-some, true-holds}
 use Rattle.lists.proofs.ListLaws.{getD-in}
-use Rattle.grid.specs.Grid.{Grid, Limits, Cell, cells, row, col}
+use Rattle.grid.specs.declared.Grid.{Grid}
+use Rattle.grid.specs.Grid.{Limits, Cell, cells, row, col}
 use Rattle.grid.proofs.Geometry.{coords, cells-le, row-lt, col-lt}
 use Rattle.shape.specs.Shape.{along}
 use Rattle.offsets.specs.declared.reach.Shift.{Shift}

@@ -14,7 +14,8 @@ use Rattle.lists.proofs.ChoiceLaws.{both-true, holds-true}
 use Rattle.lists.proofs.ListLaws.{all-true}
 use Rattle.grid.specs.declared.Direction.{Direction}
 use Rattle.grid.specs.declared.Direction.the-variants.{Up, Down, Left, Right}
-use Rattle.grid.specs.Grid.{Grid, Limits, Cell, row, col, goesOn, border}
+use Rattle.grid.specs.declared.Grid.{Grid}
+use Rattle.grid.specs.Grid.{Limits, Cell, row, col, goesOn, border}
 use Rattle.grid.proofs.Geometry.{row-lt, col-lt}
 use Rattle.borders.specs.Border.{stateAt, stands}
 use Rattle.borders.proofs.Congruence.{any-same, all-same, holds-same, first-same}

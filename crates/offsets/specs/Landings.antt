@@ -11,7 +11,8 @@ use Rattle.lists.specs.Choice.{both, either, pick, give, through}
 use Rattle.lists.specs.Lists.{In, first}
 use Rattle.grid.specs.declared.Direction.{Direction}
 use Rattle.grid.specs.declared.Direction.the-variants.{Up, Down, Left, Right}
-use Rattle.grid.specs.Grid.{Grid, Limits, cells, Cell, row, col, goesOn, next, border, borderCount}
+use Rattle.grid.specs.declared.Grid.{Grid}
+use Rattle.grid.specs.Grid.{Limits, cells, Cell, row, col, goesOn, next, border, borderCount}
 use Rattle.borders.specs.Entry.{connectedEntry, wallEntry}
 use Rattle.borders.specs.Border.{stateAt, stands}
 use Rattle.boundary.specs.Boundary.{ahead}

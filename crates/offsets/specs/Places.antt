@@ -9,7 +9,8 @@ use Rattle.grid.specs.declared.Direction.{Direction}
 use Rattle.grid.specs.declared.Direction.the-variants.{Up, Down, Left, Right}
 use Rattle.grid.specs.declared.Beyond.{Beyond}
 use Rattle.grid.specs.declared.Beyond.the-variants.{At, End, Refused}
-use Rattle.grid.specs.Grid.{Grid, stepOf}
+use Rattle.grid.specs.declared.Grid.{Grid}
+use Rattle.grid.specs.Grid.{stepOf}
 use Rattle.offsets.specs.declared.places.Place.{Place}
 use Rattle.offsets.specs.declared.places.Landing.{Landing}
 use Rattle.offsets.specs.declared.places.Landing.the-variants.{Border, Outside}

@@ -9,7 +9,8 @@ use lib.Dec.{eqb}
 use lib.ListN.{getD, length}
 use Rattle.lists.specs.Choice.{both, holds, through}
 use Rattle.lists.specs.Lists.{In, all, any}
-use Rattle.grid.specs.Grid.{Grid, Limits, cells, Cell, row, col}
+use Rattle.grid.specs.declared.Grid.{Grid}
+use Rattle.grid.specs.Grid.{Limits, cells, Cell, row, col}
 use Rattle.shape.specs.Shape.{along}
 use Rattle.offsets.specs.declared.reach.Shift.{Shift}
 use Rattle.offsets.specs.declared.reach.Fall.{Fall}

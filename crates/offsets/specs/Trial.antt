@@ -6,7 +6,8 @@ use mathlib.Core.Bool.{not}
 use mathlib.Core.List.{List}
 use lib.Dec.{eqb}
 use lib.ListN.{getD, length}
-use Rattle.grid.specs.Grid.{Grid, Limits, cells, Cell, borderCount}
+use Rattle.grid.specs.declared.Grid.{Grid}
+use Rattle.grid.specs.Grid.{Limits, cells, Cell, borderCount}
 use Rattle.groups.specs.Groups.{cellsOf}
 use Rattle.shape.specs.Shape.{Try, adjacent, headOr0}
 use Rattle.shape.specs.Shape.Try.{passed, good, failed}

@@ -1,10 +1,9 @@
 // Where a unit's borders land: its inner borders must not land on a Wall, its Walls and board edges not on a Connected border.
 ghost use mathlib.Core.Path.{_≡_};
 ghost use Prim.Native.Nat.{_<_};
-ghost use Rattle.grid.specs.Grid.{grid};
 ghost use Rattle.offsets.specs.Reach.{Small};
 ghost use Rattle.offsets.specs.Landings.{Seen, Turning, Falling, keptOf, entryOf, badOf, landingOf, failOf, failAt, failCell, firstFail};
-ghost use Rattle.borders.proofs.Directions.{forward, around};
+ghost use Rattle.grid.specs.Orders.{forward, around};
 ghost use Rattle.lists.specs.Lists.{first};
 ghost use mathlib.Core.Bool.{true, false};
 use crate::places;
@@ -12,6 +11,7 @@ use crate::places::Landing;
 use crate::reach::Shift;
 use grid::Beyond;
 use grid::Direction;
+use grid::Grid;
 
 // The entry of a landing that fails.
 pub enum Fail {
@@ -38,8 +38,7 @@ fn entry(border: usize, inner: bool) -> u16
 
 // Whether the border of a cell must land well: an inner border of the unit, or else a Wall or the board's edge.
 fn kept<'a>(
-    height: usize,
-    width: usize,
+    g: Grid,
     inner: bool,
     unit: u16,
     c: usize,
@@ -47,10 +46,10 @@ fn kept<'a>(
     states: &'a [u8],
     ids: &'a [u16],
 ) -> bool
-    requires { ⌜ Seen (grid height width) (now states) (now ids) c ⌝ }
-    ensures { λ r. ⌜ r ≡ keptOf (grid height width) (now (states .entry)) (now (ids .entry)) inner unit c direction ⌝ }
+    requires { ⌜ Seen g (now states) (now ids) c ⌝ }
+    ensures { λ r. ⌜ r ≡ keptOf g (now (states .entry)) (now (ids .entry)) inner unit c direction ⌝ }
 {
-    let Beyond::At(n, border) = grid::step(height, width, c, direction) else {
+    let Beyond::At(n, border) = grid::step(g, c, direction) else {
         return !inner;
     };
     if inner {
@@ -60,27 +59,19 @@ fn kept<'a>(
 }
 
 // Where the border of the cell at a row and column lands.
-fn landing_of(
-    height: usize,
-    width: usize,
-    s: Shift,
-    row: usize,
-    col: usize,
-    direction: Direction,
-) -> Landing
-    requires { ⌜ Small (grid height width) s row col ⌝ }
-    ensures { λ r. ⌜ r ≡ landingOf (grid height width) s row col direction ⌝ }
+fn landing_of(g: Grid, s: Shift, row: usize, col: usize, direction: Direction) -> Landing
+    requires { ⌜ Small g s row col ⌝ }
+    ensures { λ r. ⌜ r ≡ landingOf g s row col direction ⌝ }
 {
     let a = places::ahead(direction);
     let y = places::coordinate(row, a.y, s.from_row, s.to_row);
     let x = places::coordinate(col, a.x, s.from_col, s.to_col);
-    places::land(height, width, y, x)
+    places::land(g, y, x)
 }
 
 // The entry of a cell's border in a direction, where it lands badly.
 fn fails<'a>(
-    height: usize,
-    width: usize,
+    g: Grid,
     inner: bool,
     s: Shift,
     unit: u16,
@@ -91,13 +82,13 @@ fn fails<'a>(
     states: &'a [u8],
     ids: &'a [u16],
 ) -> Fail
-    requires { ⌜ Turning (grid height width) s (now states) (now ids) c row col ⌝ }
-    ensures { λ r. ⌜ r ≡ failOf (failAt (grid height width) s (now (states .entry)) (now (ids .entry)) inner unit c direction) ⌝ }
+    requires { ⌜ Turning g s (now states) (now ids) c row col ⌝ }
+    ensures { λ r. ⌜ r ≡ failOf (failAt g s (now (states .entry)) (now (ids .entry)) inner unit c direction) ⌝ }
 {
-    if !kept(height, width, inner, unit, c, direction, states, ids) {
+    if !kept(g, inner, unit, c, direction, states, ids) {
         return Fail::Nowhere;
     }
-    let Landing::Border(border) = landing_of(height, width, s, row, col, direction) else {
+    let Landing::Border(border) = landing_of(g, s, row, col, direction) else {
         return Fail::Nowhere;
     };
     if bad(states[border], inner) {
@@ -118,8 +109,7 @@ fn bad(state: u8, inner: bool) -> bool
 
 // An inner border of a cell that lands badly: down, then right.
 fn fail_forward<'a>(
-    height: usize,
-    width: usize,
+    g: Grid,
     s: Shift,
     unit: u16,
     c: usize,
@@ -128,44 +118,19 @@ fn fail_forward<'a>(
     states: &'a [u8],
     ids: &'a [u16],
 ) -> Fail
-    requires { ⌜ Turning (grid height width) s (now states) (now ids) c row col ⌝ }
-    ensures { λ r. ⌜ r ≡ failOf (first (failAt (grid height width) s (now (states .entry)) (now (ids .entry)) true unit c) forward) ⌝ }
+    requires { ⌜ Turning g s (now states) (now ids) c row col ⌝ }
+    ensures { λ r. ⌜ r ≡ failOf (first (failAt g s (now (states .entry)) (now (ids .entry)) true unit c) forward) ⌝ }
 {
-    let down = fails(
-        height,
-        width,
-        true,
-        s,
-        unit,
-        c,
-        row,
-        col,
-        Direction::Down,
-        states,
-        ids,
-    );
+    let down = fails(g, true, s, unit, c, row, col, Direction::Down, states, ids);
     if let Fail::At(e) = down {
         return Fail::At(e);
     }
-    fails(
-        height,
-        width,
-        true,
-        s,
-        unit,
-        c,
-        row,
-        col,
-        Direction::Right,
-        states,
-        ids,
-    )
+    fails(g, true, s, unit, c, row, col, Direction::Right, states, ids)
 }
 
 // A Wall or board edge of a cell that lands badly: up, down, left, right.
 fn fail_around<'a>(
-    height: usize,
-    width: usize,
+    g: Grid,
     s: Shift,
     unit: u16,
     c: usize,
@@ -174,60 +139,23 @@ fn fail_around<'a>(
     states: &'a [u8],
     ids: &'a [u16],
 ) -> Fail
-    requires { ⌜ Turning (grid height width) s (now states) (now ids) c row col ⌝ }
-    ensures { λ r. ⌜ r ≡ failOf (first (failAt (grid height width) s (now (states .entry)) (now (ids .entry)) false unit c) around) ⌝ }
+    requires { ⌜ Turning g s (now states) (now ids) c row col ⌝ }
+    ensures { λ r. ⌜ r ≡ failOf (first (failAt g s (now (states .entry)) (now (ids .entry)) false unit c) around) ⌝ }
 {
-    let up = fails(
-        height,
-        width,
-        false,
-        s,
-        unit,
-        c,
-        row,
-        col,
-        Direction::Up,
-        states,
-        ids,
-    );
+    let up = fails(g, false, s, unit, c, row, col, Direction::Up, states, ids);
     if let Fail::At(e) = up {
         return Fail::At(e);
     }
-    let down = fails(
-        height,
-        width,
-        false,
-        s,
-        unit,
-        c,
-        row,
-        col,
-        Direction::Down,
-        states,
-        ids,
-    );
+    let down = fails(g, false, s, unit, c, row, col, Direction::Down, states, ids);
     if let Fail::At(e) = down {
         return Fail::At(e);
     }
-    let left = fails(
-        height,
-        width,
-        false,
-        s,
-        unit,
-        c,
-        row,
-        col,
-        Direction::Left,
-        states,
-        ids,
-    );
+    let left = fails(g, false, s, unit, c, row, col, Direction::Left, states, ids);
     if let Fail::At(e) = left {
         return Fail::At(e);
     }
     fails(
-        height,
-        width,
+        g,
         false,
         s,
         unit,
@@ -242,8 +170,7 @@ fn fail_around<'a>(
 
 // The first border of a unit's cells that lands badly, of its inner borders or of its Walls and board edges.
 pub fn first_fail<'a>(
-    height: usize,
-    width: usize,
+    g: Grid,
     inner: bool,
     s: Shift,
     unit: u16,
@@ -253,24 +180,13 @@ pub fn first_fail<'a>(
     states: &'a [u8],
     ids: &'a [u16],
 ) -> Fail
-    requires { ⌜ Falling (grid height width) s (now states) (now ids) (now rows) (now cols) (now cells) ⌝ }
-    ensures { λ r. ⌜ r ≡ failOf (firstFail (grid height width) s (now (states .entry)) (now (ids .entry)) inner unit (now (cells .entry))) ⌝ }
+    requires { ⌜ Falling g s (now states) (now ids) (now rows) (now cols) (now cells) ⌝ }
+    ensures { λ r. ⌜ r ≡ failOf (firstFail g s (now (states .entry)) (now (ids .entry)) inner unit (now (cells .entry))) ⌝ }
 {
     let mut i = 0;
     while i < cells.len() {
         let c = wide(cells[i]);
-        let f = fail_cell(
-            height,
-            width,
-            inner,
-            s,
-            unit,
-            c,
-            rows[c],
-            cols[c],
-            states,
-            ids,
-        );
+        let f = fail_cell(g, inner, s, unit, c, rows[c], cols[c], states, ids);
         if let Fail::At(e) = f {
             return Fail::At(e);
         }
@@ -280,8 +196,7 @@ pub fn first_fail<'a>(
 }
 
 fn fail_cell<'a>(
-    height: usize,
-    width: usize,
+    g: Grid,
     inner: bool,
     s: Shift,
     unit: u16,
@@ -291,11 +206,11 @@ fn fail_cell<'a>(
     states: &'a [u8],
     ids: &'a [u16],
 ) -> Fail
-    requires { ⌜ Turning (grid height width) s (now states) (now ids) c row col ⌝ }
-    ensures { λ r. ⌜ r ≡ failOf (failCell (grid height width) s (now (states .entry)) (now (ids .entry)) inner unit c) ⌝ }
+    requires { ⌜ Turning g s (now states) (now ids) c row col ⌝ }
+    ensures { λ r. ⌜ r ≡ failOf (failCell g s (now (states .entry)) (now (ids .entry)) inner unit c) ⌝ }
 {
     if inner {
-        return fail_forward(height, width, s, unit, c, row, col, states, ids);
+        return fail_forward(g, s, unit, c, row, col, states, ids);
     }
-    fail_around(height, width, s, unit, c, row, col, states, ids)
+    fail_around(g, s, unit, c, row, col, states, ids)
 }

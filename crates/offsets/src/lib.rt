@@ -1,8 +1,8 @@
 // One unit at one offset of the shape check: passed over, good, or failed at a landing.
 ghost use mathlib.Core.Path.{_≡_};
-ghost use Rattle.grid.specs.Grid.{grid};
 ghost use Rattle.shape.specs.Shape.{unitOf, tryAt};
 ghost use Rattle.offsets.specs.Trial.{Trial, tryOf};
+use grid::Grid;
 use landings::Fail;
 use reach::Shift;
 
@@ -18,8 +18,7 @@ pub enum Try {
 
 // The unit, whose cells are lent and of which `first` is the first, with `first` put on `to`.
 pub fn try_at<'a>(
-    height: usize,
-    width: usize,
+    g: Grid,
     unit: u16,
     first: usize,
     to: usize,
@@ -31,9 +30,9 @@ pub fn try_at<'a>(
     pids: &'a [u16],
     marks: &'a [u8],
 ) -> Try
-    requires { ⌜ Trial (grid height width) (now states) (now ids) (now pids) unit first to (now cells) (now rows) (now cols) (now marks) ⌝ }
+    requires { ⌜ Trial g (now states) (now ids) (now pids) unit first to (now cells) (now rows) (now cols) (now marks) ⌝ }
     ensures { λ r.
-        ⌜ r ≡ tryOf (tryAt (grid height width) (now (states .entry)) (now (ids .entry)) (now (pids .entry)) (unitOf (grid height width) (now (ids .entry)) (now (pids .entry)) unit) to) ⌝ }
+        ⌜ r ≡ tryOf (tryAt g (now (states .entry)) (now (ids .entry)) (now (pids .entry)) (unitOf g (now (ids .entry)) (now (pids .entry)) unit) to) ⌝ }
 {
     let s = Shift {
         from_row: rows[first],
@@ -41,25 +40,14 @@ pub fn try_at<'a>(
         to_row: rows[to],
         to_col: cols[to],
     };
-    if !reach::reaches(height, width, s, unit, cells, rows, cols, ids, pids, marks) {
+    if !reach::reaches(g, s, unit, cells, rows, cols, ids, pids, marks) {
         return Try::Passed;
     }
-    let inner = landings::first_fail(height, width, true, s, unit, cells, rows, cols, states, ids);
+    let inner = landings::first_fail(g, true, s, unit, cells, rows, cols, states, ids);
     if let Fail::At(entry) = inner {
         return Try::Failed(entry);
     }
-    let outer = landings::first_fail(
-        height,
-        width,
-        false,
-        s,
-        unit,
-        cells,
-        rows,
-        cols,
-        states,
-        ids,
-    );
+    let outer = landings::first_fail(g, false, s, unit, cells, rows, cols, states, ids);
     if let Fail::At(entry) = outer {
         return Try::Failed(entry);
     }

@@ -3,10 +3,11 @@
 ghost use mathlib.Core.Path.{_≡_};
 ghost use Prim.Native.Nat.{_<_, _≤_};
 ghost use lib.Signed.{mag};
-ghost use Rattle.grid.specs.Grid.{grid, Limits};
+ghost use Rattle.grid.specs.Grid.{Limits};
 ghost use Rattle.offsets.specs.Places.{aheadOf, coordinateOf, borderOf, borderAt, landOf};
 use grid::Beyond;
 use grid::Direction;
+use grid::Grid;
 
 pub struct Place {
     pub y: i32,
@@ -42,10 +43,12 @@ pub fn coordinate(at: usize, ahead: i32, from: usize, to: usize) -> i32
 }
 
 // The border at a place of the board: an odd row lies between two rows of cells, any other between two columns.
-fn border_at(height: usize, width: usize, y: usize, x: usize) -> Landing
-    requires { ⌜ Limits (grid height width) ⌝ }
-    ensures { λ r. ⌜ r ≡ borderAt (grid height width) y x ⌝ }
+fn border_at(g: Grid, y: usize, x: usize) -> Landing
+    requires { ⌜ Limits g ⌝ }
+    ensures { λ r. ⌜ r ≡ borderAt g y x ⌝ }
 {
+    let height = g.height;
+    let width = g.width;
     if 2 * height - 1 <= y {
         return Landing::Outside;
     }
@@ -54,9 +57,9 @@ fn border_at(height: usize, width: usize, y: usize, x: usize) -> Landing
     }
     let cell = y / 2 * width + x / 2;
     if y % 2 == 1 {
-        return border_of(grid::step(height, width, cell, Direction::Down));
+        return border_of(grid::step(g, cell, Direction::Down));
     }
-    border_of(grid::step(height, width, cell, Direction::Right))
+    border_of(grid::step(g, cell, Direction::Right))
 }
 
 fn border_of(b: Beyond) -> Landing
@@ -69,9 +72,9 @@ fn border_of(b: Beyond) -> Landing
 }
 
 // Where a place lands. A negative one is outside, and only after that test is it halved.
-pub fn land(height: usize, width: usize, y: i32, x: i32) -> Landing
-    requires { ⌜ Limits (grid height width) ⌝ }
-    ensures { λ r. ⌜ r ≡ landOf (grid height width) y x ⌝ }
+pub fn land(g: Grid, y: i32, x: i32) -> Landing
+    requires { ⌜ Limits g ⌝ }
+    ensures { λ r. ⌜ r ≡ landOf g y x ⌝ }
 {
     if y < 0 {
         return Landing::Outside;
@@ -79,5 +82,5 @@ pub fn land(height: usize, width: usize, y: i32, x: i32) -> Landing
     if x < 0 {
         return Landing::Outside;
     }
-    border_at(height, width, y as usize, x as usize)
+    border_at(g, y as usize, x as usize)
 }

@@ -1,8 +1,8 @@
 // Whether a unit is passed over: all its cells must fall on the board and off the unit, and one in an adjacent potential unit.
 ghost use mathlib.Core.Path.{_≡_};
-ghost use Rattle.grid.specs.Grid.{grid, Limits};
+ghost use Rattle.grid.specs.Grid.{Limits};
 ghost use Rattle.offsets.specs.Reach.{Small, fallOf, moved, Reaching, reachesOf};
-
+use grid::Grid;
 // The unit's first cell goes from one row and column to another.
 pub struct Shift {
     pub from_row: usize,
@@ -23,10 +23,12 @@ fn wide(x: u16) -> usize
 }
 
 // The cell on which the cell at a row and column falls.
-fn fall_of(height: usize, width: usize, s: Shift, row: usize, col: usize) -> Fall
-    requires { ⌜ Small (grid height width) s row col ⌝ }
-    ensures { λ r. ⌜ r ≡ fallOf (moved (grid height width) s row col) ⌝ }
+fn fall_of(g: Grid, s: Shift, row: usize, col: usize) -> Fall
+    requires { ⌜ Small g s row col ⌝ }
+    ensures { λ r. ⌜ r ≡ fallOf (moved g s row col) ⌝ }
 {
+    let height = g.height;
+    let width = g.width;
     if row + s.to_row < s.from_row {
         return Fall::Off;
     }
@@ -46,8 +48,7 @@ fn fall_of(height: usize, width: usize, s: Shift, row: usize, col: usize) -> Fal
 
 // All cells fall on the board and off the unit, and one falls in a marked potential unit.
 pub fn reaches<'a>(
-    height: usize,
-    width: usize,
+    g: Grid,
     s: Shift,
     unit: u16,
     cells: &'a [u16],
@@ -57,14 +58,14 @@ pub fn reaches<'a>(
     pids: &'a [u16],
     marks: &'a [u8],
 ) -> bool
-    requires { ⌜ Reaching (grid height width) s (now cells) (now rows) (now cols) (now ids) (now pids) (now marks) ⌝ }
-    ensures { λ r. ⌜ r ≡ reachesOf (grid height width) s unit (now (ids .entry)) (now (pids .entry)) (now (marks .entry)) (now (cells .entry)) ⌝ }
+    requires { ⌜ Reaching g s (now cells) (now rows) (now cols) (now ids) (now pids) (now marks) ⌝ }
+    ensures { λ r. ⌜ r ≡ reachesOf g s unit (now (ids .entry)) (now (pids .entry)) (now (marks .entry)) (now (cells .entry)) ⌝ }
 {
     let mut met = false;
     let mut i = 0;
     while i < cells.len() {
         let c = wide(cells[i]);
-        let Fall::On(x) = fall_of(height, width, s, rows[c], cols[c]) else {
+        let Fall::On(x) = fall_of(g, s, rows[c], cols[c]) else {
             return false;
         };
         if ids[x] == unit {

@@ -9,9 +9,10 @@ use lib.Dec.{eqb}
 use lib.ListN.{getD, set, replicate}
 use Rattle.lists.specs.Choice.{both, pick}
 use Rattle.grid.specs.declared.Direction.{Direction}
-use Rattle.grid.specs.Grid.{Grid, cells, Cell, next, border}
+use Rattle.grid.specs.declared.Grid.{Grid}
+use Rattle.grid.specs.Grid.{cells, Cell, next, border}
 use Rattle.borders.specs.Entry.{connectedEntry}
-use Rattle.borders.proofs.Directions.{around}
+use Rattle.grid.specs.Orders.{around}
 use Rattle.borders.proofs.Agreement.{Agree, stands-reads}
 use Rattle.path.specs.Path.{Lists, Search, isNew, listOf, mark, finds, look, looks, lookAll, lookRound, searchFrom, search, pathOf, pathList}
 use Rattle.path.proofs.Search.{Searching, taken, starts}

@@ -10,7 +10,8 @@ use borrow.Author.Tests.{eq-eqb, ne-eqb, lt-ltb, le-ltb, le-leb, lt-leb}
 use lib.ListN.{getD, length, replicate, length-replicate, getD-replicate, List·getD-eq-default}
 use lib.Seq.{sets}
 use Rattle.lists.proofs.Cases.{le-or-lt}
-use Rattle.grid.specs.Grid.{Grid, cells, Cell}
+use Rattle.grid.specs.declared.Grid.{Grid}
+use Rattle.grid.specs.Grid.{cells, Cell}
 use Rattle.grid.proofs.Geometry.{cells-le}
 use Rattle.board.specs.declared.Board.{Board}
 use Rattle.board.specs.Board.{sizeOf, boardCode}

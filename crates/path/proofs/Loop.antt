@@ -12,7 +12,8 @@ use borrow.Author.Tests.{eq-eqb, ne-eqb}
 use lib.ListN.{getD, length, set, replicate, length-set, length-replicate}
 use lib.Seq.{slice, slice-cons, slice-empty, getD-set-same, getD-set-other}
 use Rattle.lists.proofs.Cases.{eq-or-ne}
-use Rattle.grid.specs.Grid.{Grid, cells, Cell}
+use Rattle.grid.specs.declared.Grid.{Grid}
+use Rattle.grid.specs.Grid.{cells, Cell}
 use Rattle.grid.proofs.Geometry.{cells-le}
 use Rattle.path.specs.Path.{Lists, Search, isNew, listOf, lookAll, lookRound, searchFrom, search}
 use Rattle.path.specs.Trace.{Traced, Kept, Looking, Looks, Follows, Asks, Fresh}

@@ -11,7 +11,8 @@ use native.Mathlib.Omega.{arith}
 use lib.ListN.{getD, length, set, replicate}
 use Rattle.lists.proofs.ChoiceLaws.{none-or-some}
 use Rattle.frame.specs.Frame.{here, on, SameUnit}
-use Rattle.grid.specs.Grid.{Grid, cells, Cell}
+use Rattle.grid.specs.declared.Grid.{Grid}
+use Rattle.grid.specs.Grid.{cells, Cell}
 use Rattle.grid.specs.Steps.{Neighbours}
 use Rattle.borders.specs.Entry.{connectedEntry, Standing}
 use Rattle.borders.specs.Border.{stateOf}

@@ -18,7 +18,8 @@ use Rattle.lists.proofs.ChoiceLaws.{both-true, true-both}
 use Rattle.lists.proofs.ListLaws.{in-left, in-right, in-append}
 use Rattle.frame.specs.Frame.{here, on, SameUnit}
 use Rattle.grid.specs.declared.Direction.{Direction}
-use Rattle.grid.specs.Grid.{Grid, cells, Cell, next, border}
+use Rattle.grid.specs.declared.Grid.{Grid}
+use Rattle.grid.specs.Grid.{cells, Cell, next, border}
 use Rattle.grid.specs.Steps.{Step, Neighbours}
 use Rattle.grid.proofs.Geometry.{step-next}
 use Rattle.borders.specs.Entry.{connectedEntry, Standing}
@@ -26,7 +27,8 @@ use Rattle.borders.specs.Border.{stateOf, stands}
 use Rattle.borders.proofs.Choices.{pick-elim}
 use Rattle.borders.proofs.EntryLaws.{connected-stands}
 use Rattle.borders.proofs.BorderLaws.{stands-state, stands-step, step-stands}
-use Rattle.borders.proofs.Directions.{around, in-around}
+use Rattle.grid.specs.Orders.{around}
+use Rattle.borders.proofs.Directions.{in-around}
 use Rattle.path.specs.Path.{Lists, Search, isNew, listOf, mark, finds, look, looks, lookAll, lookRound, searchFrom}
 use Rattle.path.specs.Trace.{blank}
 use Rattle.path.specs.Leads.{Leads, arrived, over}

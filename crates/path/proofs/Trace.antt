@@ -17,7 +17,8 @@ use Rattle.grid.specs.declared.Direction.{Direction}
 use Rattle.grid.specs.declared.Direction.the-variants.{Up}
 use Rattle.grid.specs.declared.Beyond.{Beyond}
 use Rattle.grid.specs.declared.Beyond.the-variants.{At}
-use Rattle.grid.specs.Grid.{Grid, cells, Cell, Limits, goesOn, next, border, stepOf}
+use Rattle.grid.specs.declared.Grid.{Grid}
+use Rattle.grid.specs.Grid.{cells, Cell, Limits, goesOn, next, border, stepOf}
 use Rattle.grid.specs.Steps.{Step}
 use Rattle.grid.proofs.Geometry.{goes-step, border-lt, borderCount-le, cells-le}
 use Rattle.borders.specs.Border.{stateOf, stateAt, stands}

@@ -2,7 +2,7 @@
 -- Assumes nothing.
 use Prim.Native.Nat.{ℕ}
 use mathlib.Core.List.{List, [], _∷_}
-use Rattle.grid.specs.Grid.{Grid}
+use Rattle.grid.specs.declared.Grid.{Grid}
 use Rattle.grid.specs.Steps.{Neighbours}
 use Rattle.borders.specs.Entry.{connectedEntry}
 

@@ -9,7 +9,8 @@ use lib.ListN.{getD, set, replicate}
 use Rattle.lists.specs.Choice.{both, pick}
 use Rattle.grid.specs.declared.Direction.{Direction}
 use Rattle.grid.specs.declared.Direction.the-variants.{Up, Down, Left, Right}
-use Rattle.grid.specs.Grid.{Grid, cells, next, border}
+use Rattle.grid.specs.declared.Grid.{Grid}
+use Rattle.grid.specs.Grid.{cells, next, border}
 use Rattle.borders.specs.Entry.{connectedEntry}
 use Rattle.borders.specs.Border.{stands}
 

@@ -9,7 +9,8 @@ use mathlib.Core.Option.{none, some}
 use lib.Dec.{eqb}
 use lib.ListN.{getD, length}
 use lib.Seq.{slice}
-use Rattle.grid.specs.Grid.{Grid, Limits, cells, Cell, borderCount}
+use Rattle.grid.specs.declared.Grid.{Grid}
+use Rattle.grid.specs.Grid.{Limits, cells, Cell, borderCount}
 use Rattle.path.specs.Path.{Lists, Search, isNew}
 
 -- how many cells are not found

@@ -4,7 +4,6 @@ ghost use mathlib.Core.List.{List};
 ghost use Prim.Native.Nat.{ℕ, _*_, _≤_};
 ghost use lib.ListN.{length};
 ghost use lib.Seq.{sets};
-ghost use Rattle.grid.specs.Grid.{grid};
 ghost use Rattle.path.specs.Path.{look as lookOf, lookAll, search as searchOf, pathOf, pathList};
 ghost use Rattle.path.specs.Answer.{answerOf, joined, pathOutcome};
 ghost use Rattle.board.specs.Outcome.{written};
@@ -12,6 +11,7 @@ ghost use Rattle.path.specs.Trace.{Traced, Looks, Follows, Asks, Fresh, 
 use board::Board;
 use grid::Beyond;
 use grid::Direction;
+use grid::Grid;
 
 // A cell that is not found yet has this finder, which is no cell.
 const NEW: usize = 1024;
@@ -25,8 +25,7 @@ pub enum PathAnswer {
 // `cell` looks in a direction: a new cell over a Connected border is marked with its finder and entry, and put at the queue's end.
 fn look(
     states: &[u8],
-    height: usize,
-    width: usize,
+    g: Grid,
     cell: usize,
     direction: Direction,
     finders: &mut [usize],
@@ -34,11 +33,11 @@ fn look(
     queue: &mut [usize],
     tail: usize,
 ) -> usize
-    requires { ⌜ Looks (grid height width) (now states) cell (now finders) (now entries) (now queue) tail ⌝ }
+    requires { ⌜ Looks g (now states) cell (now finders) (now entries) (now queue) tail ⌝ }
     ensures { λ r.
-        ⌜ Follows (grid height width) cell (λ p s. lookOf (grid height width) (now (states .entry)) cell p direction s) (now (finders .entry)) (now (entries .entry)) (now (queue .entry)) tail (now (finders .exit)) (now (entries .exit)) (now (queue .exit)) r ⌝ }
+        ⌜ Follows g cell (λ p s. lookOf g (now (states .entry)) cell p direction s) (now (finders .entry)) (now (entries .entry)) (now (queue .entry)) tail (now (finders .exit)) (now (entries .exit)) (now (queue .exit)) r ⌝ }
 {
-    let Beyond::At(next, border) = grid::step(height, width, cell, direction) else {
+    let Beyond::At(next, border) = grid::step(g, cell, direction) else {
         return tail;
     };
     if states[border] != 1 {
@@ -56,17 +55,16 @@ fn look(
 // `cell`, taken out of the queue, looks up, down, left and right.
 fn look_round(
     states: &[u8],
-    height: usize,
-    width: usize,
+    g: Grid,
     cell: usize,
     finders: &mut [usize],
     entries: &mut [u16],
     queue: &mut [usize],
     tail: usize,
 ) -> usize
-    requires { ⌜ Looks (grid height width) (now states) cell (now finders) (now entries) (now queue) tail ⌝ }
+    requires { ⌜ Looks g (now states) cell (now finders) (now entries) (now queue) tail ⌝ }
     ensures { λ r.
-        ⌜ Follows (grid height width) cell (λ p s. lookAll (grid height width) (now (states .entry)) cell p s) (now (finders .entry)) (now (entries .entry)) (now (queue .entry)) tail (now (finders .exit)) (now (entries .exit)) (now (queue .exit)) r ⌝ }
+        ⌜ Follows g cell (λ p s. lookAll g (now (states .entry)) cell p s) (now (finders .entry)) (now (entries .entry)) (now (queue .entry)) tail (now (finders .exit)) (now (entries .exit)) (now (queue .exit)) r ⌝ }
 {
     let order = [
         Direction::Up,
@@ -77,17 +75,7 @@ fn look_round(
     let mut end = tail;
     let mut i = 0;
     while i < 4 {
-        end = look(
-            states,
-            height,
-            width,
-            cell,
-            order[i],
-            finders,
-            entries,
-            queue,
-            end,
-        );
+        end = look(states, g, cell, order[i], finders, entries, queue, end);
         i += 1;
     }
     end
@@ -96,18 +84,17 @@ fn look_round(
 // Searches from `start` until the target is taken out or nothing waits.
 fn search_from(
     states: &[u8],
-    height: usize,
-    width: usize,
+    g: Grid,
     start: usize,
     target: usize,
     finders: &mut [usize],
     entries: &mut [u16],
     queue: &mut [usize],
 )
-    requires { ⌜ Asks (grid height width) (now states) start target ⌝ }
+    requires { ⌜ Asks g (now states) start target ⌝ }
     requires { ⌜ Fresh (now finders) (now entries) (now queue) ⌝ }
     ensures { λ _.
-        ⌜ Traced (grid height width) (searchOf (grid height width) (now (states .entry)) start target) (now (finders .exit)) (now (entries .exit)) ⌝ }
+        ⌜ Traced g (searchOf g (now (states .entry)) start target) (now (finders .exit)) (now (entries .exit)) ⌝ }
 {
     finders[start] = start;
     queue[0] = start;
@@ -119,7 +106,7 @@ fn search_from(
             return;
         }
         head += 1;
-        tail = look_round(states, height, width, cell, finders, entries, queue, tail);
+        tail = look_round(states, g, cell, finders, entries, queue, tail);
     }
 }
 
@@ -146,27 +133,19 @@ fn walk_back<'a>(
 }
 
 // The path list of two cells, written to the buffer's first places; refused 10 where no Connected borders join them.
-pub fn list(
-    states: &[u8],
-    height: usize,
-    width: usize,
-    start: usize,
-    target: usize,
-    buffer: &mut [u16],
-) -> PathAnswer
-    requires { ⌜ Asks (grid height width) (now states) start target ⌝ }
-    requires { ⌜ height * width ≤ length (now buffer) ⌝ }
-    ensures { λ r. ⌜ r ≡ answerOf (joined (pathOf (grid height width) (now (states .entry)) start target)) ⌝ }
+pub fn list(states: &[u8], g: Grid, start: usize, target: usize, buffer: &mut [u16]) -> PathAnswer
+    requires { ⌜ Asks g (now states) start target ⌝ }
+    requires { ⌜ g .height * g .width ≤ length (now buffer) ⌝ }
+    ensures { λ r. ⌜ r ≡ answerOf (joined (pathOf g (now (states .entry)) start target)) ⌝ }
     ensures { λ _.
-        ⌜ now (buffer .exit) ≡ written (joined (pathOf (grid height width) (now (states .entry)) start target)) (now (buffer .entry)) ⌝ }
+        ⌜ now (buffer .exit) ≡ written (joined (pathOf g (now (states .entry)) start target)) (now (buffer .entry)) ⌝ }
 {
     let mut finders = [NEW; 1024];
     let mut entries = [0u16; 1024];
     let mut queue = [0usize; 1024];
     search_from(
         states,
-        height,
-        width,
+        g,
         start,
         target,
         &mut finders,
@@ -180,20 +159,13 @@ pub fn list(
 }
 
 // The same for cells that are known to be joined: the list's length. It is empty where they are not.
-pub fn list_joined(
-    states: &[u8],
-    height: usize,
-    width: usize,
-    start: usize,
-    target: usize,
-    buffer: &mut [u16],
-) -> usize
-    requires { ⌜ Asks (grid height width) (now states) start target ⌝ }
-    requires { ⌜ height * width ≤ length (now buffer) ⌝ }
-    ensures { λ r. ⌜ r ≡ length (pathList (grid height width) (now (states .entry)) start target) ⌝ }
-    ensures { λ _. ⌜ now (buffer .exit) ≡ sets (now (buffer .entry)) 0 (pathList (grid height width) (now (states .entry)) start target) ⌝ }
+pub fn list_joined(states: &[u8], g: Grid, start: usize, target: usize, buffer: &mut [u16]) -> usize
+    requires { ⌜ Asks g (now states) start target ⌝ }
+    requires { ⌜ g .height * g .width ≤ length (now buffer) ⌝ }
+    ensures { λ r. ⌜ r ≡ length (pathList g (now (states .entry)) start target) ⌝ }
+    ensures { λ _. ⌜ now (buffer .exit) ≡ sets (now (buffer .entry)) 0 (pathList g (now (states .entry)) start target) ⌝ }
 {
-    let PathAnswer::Listed(n) = list(states, height, width, start, target, buffer) else {
+    let PathAnswer::Listed(n) = list(states, g, start, target, buffer) else {
         return 0;
     };
     n
@@ -218,5 +190,9 @@ pub fn reason_for_path(b: Board, start: usize, target: usize, buffer: &mut [u16]
     if buffer.len() < 9 * cells {
         return PathAnswer::Refused(6);
     }
-    list(&b.states, b.height, b.width, start, target, buffer)
+    let g = Grid {
+        height: b.height,
+        width: b.width,
+    };
+    list(&b.states, g, start, target, buffer)
 }

@@ -13,7 +13,8 @@ use Rattle.lists.specs.Lists.{range, first}
 use Rattle.lists.proofs.ChoiceLaws.{orElse-some, orElse-none, none-or-some}
 use Rattle.lists.proofs.ListLaws.{first-some, first-none, in-range, range-in}
 use Rattle.frame.specs.Frame.{States}
-use Rattle.grid.specs.Grid.{Grid, cells}
+use Rattle.grid.specs.declared.Grid.{Grid}
+use Rattle.grid.specs.Grid.{cells}
 use Rattle.borders.specs.Entry.{Standing}
 use Rattle.borders.specs.Border.{stateOf, StatesOk}
 use Rattle.borders.proofs.Agreement.{Agree}

@@ -12,7 +12,8 @@ use lib.ListN.{length}
 use Rattle.lists.specs.Choice.{pick, orElse}
 use Rattle.lists.specs.Lists.{range, first}
 use Rattle.lists.proofs.ListLaws.{in-range}
-use Rattle.grid.specs.Grid.{Grid, cells, borderCount}
+use Rattle.grid.specs.declared.Grid.{Grid}
+use Rattle.grid.specs.Grid.{cells, borderCount}
 use Rattle.borders.specs.Border.{stateOf}
 use Rattle.borders.proofs.Congruence.{first-same}
 use Rattle.shape.specs.Shape.{shapeFault}

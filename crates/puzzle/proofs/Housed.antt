@@ -10,7 +10,8 @@ use lib.Dec.{eqb}
 use lib.ListN.{length, take}
 use lib.Seq.{length-sets, length-take-le}
 use Rattle.lists.specs.Choice.{pick}
-use Rattle.grid.specs.Grid.{Grid, cells}
+use Rattle.grid.specs.declared.Grid.{Grid}
+use Rattle.grid.specs.Grid.{cells}
 use Rattle.grid.proofs.Geometry.{cells-le, borderCount-le}
 use Rattle.borders.specs.Border.{stateOf}
 use Rattle.parts.proofs.PartLists.{parts-length}

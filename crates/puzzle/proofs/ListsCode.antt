@@ -14,7 +14,8 @@ use Rattle.lists.specs.Choice.{either, pick}
 use Rattle.lists.specs.Lists.{range, all}
 use Rattle.lists.proofs.Cases.{le-or-lt}
 use Rattle.lists.proofs.ListLaws.{all-true, in-range}
-use Rattle.grid.specs.Grid.{Grid, Limits, cells, borderCount}
+use Rattle.grid.specs.declared.Grid.{Grid}
+use Rattle.grid.specs.Grid.{Limits, cells, borderCount}
 use Rattle.grid.proofs.Geometry.{cells-le}
 use Rattle.borders.proofs.Congruence.{all-same}
 use Rattle.groups.specs.Lent.{Lent}

@@ -16,7 +16,8 @@ use Rattle.lists.proofs.ChoiceLaws.{either-true}
 use Rattle.lists.proofs.ListLaws.{all-true, range-in}
 use mathlib.Core.Logic.{_≢_, ⊎-elim}
 use Rattle.lists.proofs.SetsLaws.{front}
-use Rattle.grid.specs.Grid.{Grid, grid, sizesOk, Limits, cells, borderCount}
+use Rattle.grid.specs.declared.Grid.{Grid}
+use Rattle.grid.specs.Grid.{grid, sizesOk, Limits, cells, borderCount}
 use Rattle.grid.proofs.Geometry.{limits, cells-le, borderCount-le}
 use Rattle.parts.proofs.PartLaws.{begun-small}
 use Rattle.parts.proofs.PartLists.{begun-at}

@@ -13,7 +13,7 @@ use lib.Seq.{sets, length-sets}
 use Rattle.lists.specs.Choice.{orElse}
 use Rattle.lists.specs.Lists.{countFrom, range, first}
 use Rattle.lists.proofs.ListLaws.{countFrom-step, countFrom-end}
-use Rattle.grid.specs.Grid.{Grid}
+use Rattle.grid.specs.declared.Grid.{Grid}
 use Rattle.city_count.specs.Fault.{listOf}
 use Rattle.city_count.specs.Room.{foundOf}
 use Rattle.city_count.specs.declared.Inconsistency.{Inconsistency}

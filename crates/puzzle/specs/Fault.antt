@@ -5,7 +5,7 @@ use mathlib.Core.List.{List}
 use mathlib.Core.Option.{Option, none, some}
 use Rattle.lists.specs.Choice.{pick, orElse}
 use Rattle.lists.specs.Lists.{range, first}
-use Rattle.grid.specs.Grid.{Grid}
+use Rattle.grid.specs.declared.Grid.{Grid}
 use Rattle.borders.specs.Border.{stateOf}
 use Rattle.shape.specs.Shape.{shapeFault}
 use Rattle.rooms.specs.Rooms.{isGiven, roomIds, roomCount, clued, clueOf}

@@ -5,7 +5,7 @@ use mathlib.Core.Path.{_≡_}
 use mathlib.Core.Bool.{true}
 use mathlib.Core.List.{List}
 use Rattle.frame.specs.Frame.{States}
-use Rattle.grid.specs.Grid.{Grid}
+use Rattle.grid.specs.declared.Grid.{Grid}
 use Rattle.shape.specs.Laws.{RightShape}
 use Rattle.rooms.specs.Rooms.{roomCount, clued, clueOf}
 use Rattle.rooms.specs.Units.{GivenWalls, InRoom, HoldsUnits}

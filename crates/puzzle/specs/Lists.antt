@@ -9,7 +9,8 @@ use lib.ListN.{length, getD, take}
 use Rattle.lists.specs.Choice.{either, pick}
 use Rattle.lists.specs.Lists.{range, all, first}
 use mathlib.Core.Option.{Option, none}
-use Rattle.grid.specs.Grid.{Grid, Limits, cells, borderCount}
+use Rattle.grid.specs.declared.Grid.{Grid}
+use Rattle.grid.specs.Grid.{Limits, cells, borderCount}
 use Rattle.groups.specs.Info.{endOf}
 use Rattle.groups.proofs.Theorems.{Between}
 use Rattle.borders.specs.Border.{stateOf}

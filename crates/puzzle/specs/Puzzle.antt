@@ -9,7 +9,8 @@ use lib.ListN.{length, getD, take, replicate}
 use lib.Seq.{sets}
 use Rattle.lists.specs.Choice.{both, either, pick}
 use Rattle.lists.specs.Lists.{range, all}
-use Rattle.grid.specs.Grid.{Grid, grid, sizesOk, cells, borderCount}
+use Rattle.grid.specs.declared.Grid.{Grid}
+use Rattle.grid.specs.Grid.{grid, sizesOk, cells, borderCount}
 use Rattle.ledger.specs.Ledger.{holdsOf}
 use Rattle.board.specs.declared.Board.{Board}
 use Rattle.board.specs.Board.{zeros, zeroBoard, sizeOf, bordersOf, namesOf, placed, taken}

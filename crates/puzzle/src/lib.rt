@@ -131,7 +131,7 @@ fn lists_code<'a>(
     ensures { λ r.
         ⌜ (r ≡ 0 → Roomed (grid height width) (take «given_len» (now (given .entry))) (now (ids .entry)) (now (starts .entry)) (now (flat .entry)) (now (ids .exit)) (now (starts .exit)) (now (flat .exit)) «clues_len») ⌝ }
 {
-    if !exist(given, given_len, grid::border_count(height, width)) {
+    if !exist(given, given_len, grid::sizes::border_count(height, width)) {
         return 3;
     }
     if !rise(given, given_len) {
@@ -222,7 +222,7 @@ fn unmade(code: u8) -> Made
 pub fn make<'a>(height: usize, width: usize, given: &'a [u16], clues: &'a [u16]) -> Made
     ensures { λ r. ⌜ r ≡ makeOf height width (now (given .entry)) (now (clues .entry)) ⌝ }
 {
-    if !grid::sizes_ok(height, width) {
+    if !grid::sizes::sizes_ok(height, width) {
         return unmade(1);
     }
     let mut ids = [0u16; 1024];
@@ -269,7 +269,7 @@ fn code_of<'a>(
     ensures { λ r.
         ⌜ (r ≡ 0 → Roomed (grid height width) (take «given_len» (now (given .entry))) (now (ids .entry)) (now (starts .entry)) (now (flat .entry)) (now (ids .exit)) (now (starts .exit)) (now (flat .exit)) «clues_len») ⌝ }
 {
-    if !grid::sizes_ok(height, width) {
+    if !grid::sizes::sizes_ok(height, width) {
         return 1;
     }
     if 1984 < given_len {
@@ -293,7 +293,7 @@ fn code_of<'a>(
     {
         return 2;
     }
-    let n = grid::border_count(height, width);
+    let n = grid::sizes::border_count(height, width);
     if n < len {
         return 2;
     }
@@ -387,7 +387,7 @@ pub fn decide(p: Puzzle, border: usize, wall: bool) -> Made
         };
     }
     let b = p.board;
-    if grid::border_count(b.height, b.width) <= border {
+    if grid::sizes::border_count(b.height, b.width) <= border {
         return Made { code: 3, puzzle: p };
     }
     if b.states[border] != 0 {

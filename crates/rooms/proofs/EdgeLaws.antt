@@ -12,7 +12,8 @@ use Rattle.lists.specs.Choice.{when}
 use Rattle.grid.specs.declared.Direction.{Direction}
 use Rattle.grid.specs.declared.Beyond.{Beyond}
 use Rattle.grid.specs.declared.Beyond.the-variants.{At}
-use Rattle.grid.specs.Grid.{Grid, cells, Cell, goesOn, next, border, stepOf}
+use Rattle.grid.specs.declared.Grid.{Grid}
+use Rattle.grid.specs.Grid.{cells, Cell, goesOn, next, border, stepOf}
 use Rattle.grid.specs.Steps.{Step}
 use Rattle.grid.proofs.Geometry.{goes-step, border-lt, borderCount-le}
 use Rattle.groups.specs.Groups.{cellsOf}

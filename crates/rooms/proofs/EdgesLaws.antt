@@ -14,7 +14,8 @@ use Rattle.lists.proofs.ListLaws.{getD-in}
 use Rattle.lists.proofs.SetsLaws.{sets-append}
 use Rattle.grid.specs.declared.Direction.{Direction}
 use Rattle.grid.specs.declared.Direction.the-variants.{Down, Right}
-use Rattle.grid.specs.Grid.{Grid, cells, Cell}
+use Rattle.grid.specs.declared.Grid.{Grid}
+use Rattle.grid.specs.Grid.{cells, Cell}
 use Rattle.boundary.proofs.Lengths.{when-most}
 use Rattle.boundary.proofs.BoundaryLaws.{cells-most}
 use Rattle.groups.specs.Groups.{cellsOf}

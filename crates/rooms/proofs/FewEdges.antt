@@ -15,7 +15,8 @@ use Rattle.lists.proofs.ListLaws.{in-when, in-gather}
 use Rattle.lists.proofs.CountLaws.{count-none, count-append, count-here, count-other, in-count, count-in, distinct-le}
 use Rattle.grid.specs.declared.Direction.{Direction}
 use Rattle.grid.specs.declared.Direction.the-variants.{Down, Right}
-use Rattle.grid.specs.Grid.{Grid, Cell, col, goesOn, next, border, borderCount}
+use Rattle.grid.specs.declared.Grid.{Grid}
+use Rattle.grid.specs.Grid.{Cell, col, goesOn, next, border, borderCount}
 use Rattle.grid.specs.Steps.{Step}
 use Rattle.grid.proofs.Geometry.{goes-step, one-pair, border-lt, cell-wide}
 use Rattle.boundary.proofs.Lengths.{when-most}

@@ -16,7 +16,8 @@ use Rattle.lists.proofs.Cases.{le-or-lt}
 use Rattle.lists.proofs.ChoiceLaws.{both-true}
 use Rattle.lists.proofs.ListLaws.{in-gather, in-when, getD-in}
 use Rattle.grid.specs.declared.Direction.the-variants.{Down, Right}
-use Rattle.grid.specs.Grid.{Grid, Limits, goesOn, next, border, borderCount}
+use Rattle.grid.specs.declared.Grid.{Grid}
+use Rattle.grid.specs.Grid.{Limits, goesOn, next, border, borderCount}
 use Rattle.grid.proofs.Geometry.{goes-step, cells-le, borderCount-le}
 use Rattle.borders.specs.Border.{stateOf}
 use Rattle.boundary.specs.Boundary.{ahead}

@@ -14,7 +14,8 @@ use Rattle.lists.specs.Lists.{countFrom, range, count, In, keep}
 use Rattle.lists.proofs.Cases.{le-or-lt, eq-or-ne}
 use Rattle.lists.proofs.ListLaws.{getD-in, in-getD}
 use Rattle.lists.proofs.CountLaws.{count-none, count-here, count-other, count-in, distinct-le}
-use Rattle.grid.specs.Grid.{Grid, cells}
+use Rattle.grid.specs.declared.Grid.{Grid}
+use Rattle.grid.specs.Grid.{cells}
 use Rattle.groups.specs.Groups.{cellsOf}
 use Rattle.rooms.specs.RoomGraph.{place}
 

@@ -15,7 +15,8 @@ use Rattle.lists.specs.Choice.{either, pick}
 use Rattle.lists.specs.Lists.{In, any}
 use Rattle.lists.proofs.Cases.{le-or-lt, eq-or-ne}
 use Rattle.lists.proofs.ListLaws.{getD-in}
-use Rattle.grid.specs.Grid.{Grid, cells}
+use Rattle.grid.specs.declared.Grid.{Grid}
+use Rattle.grid.specs.Grid.{cells}
 use Rattle.grid.proofs.Geometry.{borderCount-le}
 use Rattle.parts.specs.Parts.{parts, roots, begunIn}
 use Rattle.groups.specs.Groups.{passes, edgesOver, groupIds, groupCount}

@@ -17,7 +17,8 @@ use Rattle.lists.proofs.ListLaws.{any-true, true-any, in-when, when-in, in-gath
 use Rattle.frame.specs.Frame.{Chain, here, on, States}
 use Rattle.grid.specs.declared.Direction.{Direction}
 use Rattle.grid.specs.declared.Direction.the-variants.{Down, Right}
-use Rattle.grid.specs.Grid.{Grid, cells, Cell, goesOn, next, border}
+use Rattle.grid.specs.declared.Grid.{Grid}
+use Rattle.grid.specs.Grid.{cells, Cell, goesOn, next, border}
 use Rattle.grid.specs.Steps.{Step, Neighbours}
 use Rattle.grid.proofs.Geometry.{goes-step, step-goes, step-next}
 use Rattle.boundary.specs.Boundary.{ahead}

@@ -16,7 +16,8 @@ use Rattle.lists.proofs.ChoiceLaws.{same-truth}
 use Rattle.lists.proofs.ListLaws.{getD-in, in-keep, keep-in}
 use Rattle.frame.specs.Frame.{Chain, here, on, Link, States, SameUnit}
 use Rattle.frame.proofs.Chains.{chain-map}
-use Rattle.grid.specs.Grid.{Grid, next, border}
+use Rattle.grid.specs.declared.Grid.{Grid}
+use Rattle.grid.specs.Grid.{next, border}
 use Rattle.grid.specs.Steps.{Neighbours}
 use Rattle.grid.proofs.Geometry.{step-next}
 use Rattle.borders.proofs.Directions.{Ahead, down-or-right}

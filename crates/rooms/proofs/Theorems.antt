@@ -13,7 +13,8 @@ use Rattle.lists.specs.Lists.{gather}
 use Rattle.lists.proofs.ChoiceLaws.{through-some, none-or-some}
 use Rattle.frame.specs.Frame.{States}
 use Rattle.grid.specs.declared.Direction.the-variants.{Down, Right}
-use Rattle.grid.specs.Grid.{Grid, cells, borderCount}
+use Rattle.grid.specs.declared.Grid.{Grid}
+use Rattle.grid.specs.Grid.{cells, borderCount}
 use Rattle.grid.proofs.Geometry.{border-lt}
 use Rattle.borders.specs.Entry.{Stands, Standing}
 use Rattle.boundary.proofs.Lengths.{when-most, gather-most}

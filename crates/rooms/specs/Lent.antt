@@ -8,7 +8,8 @@ use lib.Dec.{eqb}
 use lib.ListN.{length, getD, take, set, replicate}
 use lib.Seq.{sets}
 use Rattle.lists.specs.Lists.{In}
-use Rattle.grid.specs.Grid.{Grid, Limits, cells, borderCount}
+use Rattle.grid.specs.declared.Grid.{Grid}
+use Rattle.grid.specs.Grid.{Limits, cells, borderCount}
 use Rattle.groups.specs.Turn.{cellsIn, inTurn, startsOf}
 use Rattle.rooms.specs.Rooms.{roomIds, roomCount}
 use Rattle.rooms.specs.RoomGraph.{Spot, place, fromOf, intoOf, borderOf}

@@ -10,7 +10,8 @@ use Rattle.lists.specs.Choice.{both, when, pick, through}
 use Rattle.lists.specs.Lists.{gather}
 use Rattle.grid.specs.declared.Direction.{Direction}
 use Rattle.grid.specs.declared.Direction.the-variants.{Down, Right}
-use Rattle.grid.specs.Grid.{Grid, goesOn, next, border}
+use Rattle.grid.specs.declared.Grid.{Grid}
+use Rattle.grid.specs.Grid.{goesOn, next, border}
 use Rattle.boundary.specs.Boundary.{ahead}
 use Rattle.groups.specs.Groups.{cellsOf}
 use Rattle.room_parts.specs.Graph.{Graph, graph}

@@ -7,7 +7,8 @@ use mathlib.Core.List.{List}
 use lib.ListN.{length, getD}
 use Rattle.lists.specs.Lists.{In}
 use Rattle.frame.specs.Frame.{States, SameUnit}
-use Rattle.grid.specs.Grid.{Grid, Cell}
+use Rattle.grid.specs.declared.Grid.{Grid}
+use Rattle.grid.specs.Grid.{Cell}
 use Rattle.grid.specs.Steps.{Neighbours}
 use Rattle.rooms.specs.Rooms.{isGiven, roomIds}
 

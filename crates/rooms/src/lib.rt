@@ -4,7 +4,7 @@ ghost use Prim.Native.Nat.{ℕ, _+_, _*_, _<_, _≤_};
 ghost use mathlib.Core.List.{map};
 ghost use lib.ListN.{length, getD, take};
 ghost use lib.Seq.{sets};
-ghost use Rattle.grid.specs.Grid.{grid, borderCount};
+ghost use Rattle.grid.specs.Grid.{borderCount};
 ghost use Rattle.groups.specs.Groups.{cellsOf};
 ghost use Rattle.groups.specs.Lent.{Lent};
 ghost use Rattle.groups.specs.Turn.{Keys};
@@ -16,6 +16,7 @@ ghost use Rattle.rooms.specs.Lent.{puts, Below, Given, Roomed, Vertices,
 use city_count::Inconsistency;
 use grid::Beyond;
 use grid::Direction;
+use grid::Grid;
 
 // A 16-bit number as an index.
 fn wide(x: u16) -> usize
@@ -39,22 +40,21 @@ pub fn put(given: &[u16], len: usize, v: u8, xs: &mut [u8])
 
 // Writes each cell's room to `ids`, each room's start to `starts` and the cells of all rooms in turn to `flat`; returns how many rooms there are.
 pub fn rooms_of(
-    height: usize,
-    width: usize,
+    g: Grid,
     given: &[u16],
     len: usize,
     ids: &mut [u16],
     starts: &mut [u16],
     flat: &mut [u16],
 ) -> usize
-    requires { ⌜ Given (grid height width) (now given) len ⌝ }
-    requires { ⌜ Lent (height * width) (now ids) (now starts) (now flat) ⌝ }
+    requires { ⌜ Given g (now given) len ⌝ }
+    requires { ⌜ Lent (g .height * g .width) (now ids) (now starts) (now flat) ⌝ }
     ensures { λ r.
-        ⌜ Roomed (grid height width) (take len (now (given .entry))) (now (ids .entry)) (now (starts .entry)) (now (flat .entry)) (now (ids .exit)) (now (starts .exit)) (now (flat .exit)) r ⌝ }
+        ⌜ Roomed g (take len (now (given .entry))) (now (ids .entry)) (now (starts .entry)) (now (flat .entry)) (now (ids .exit)) (now (starts .exit)) (now (flat .exit)) r ⌝ }
 {
     let mut walls = [0u8; 1984];
     put(given, len, 2, &mut walls);
-    groups::groups_of(&walls, height, width, true, ids, starts, flat)
+    groups::groups_of(&walls, g, true, ids, starts, flat)
 }
 
 // Writes each cell's vertex to `vertex`. `next` has a place for each room, with 0 at first.
@@ -75,8 +75,7 @@ pub fn vertices(ids: &[u16], n: usize, next: &mut [u16], vertex: &mut [u16])
 
 // Looks from a cell of the room in a direction, and writes an edge that is there behind the first m; returns how many there are then.
 fn edge<'a>(
-    height: usize,
-    width: usize,
+    g: Grid,
     marks: &'a [u8],
     ids: &'a [u16],
     vertex: &'a [u16],
@@ -88,13 +87,13 @@ fn edge<'a>(
     borders: &mut [u16],
     m: usize,
 ) -> usize
-    requires { ⌜ Housed (grid height width) (now marks) (now ids) (now vertex) ⌝ }
-    requires { ⌜ (cell < height * width) × (getD (now ids) cell 0 ≡ room) ⌝ }
+    requires { ⌜ Housed g (now marks) (now ids) (now vertex) ⌝ }
+    requires { ⌜ (cell < g .height * g .width) × (getD (now ids) cell 0 ≡ room) ⌝ }
     requires { ⌜ Space (now us) (now vs) (now borders) (m + 1) ⌝ }
     ensures { λ r.
-        ⌜ Written (grid height width) (now (ids .entry)) room (spotsAt (grid height width) (markedIn (now (marks .entry))) (now (ids .entry)) room cell direction) (now (us .entry)) (now (vs .entry)) (now (borders .entry)) m (now (us .exit)) (now (vs .exit)) (now (borders .exit)) r ⌝ }
+        ⌜ Written g (now (ids .entry)) room (spotsAt g (markedIn (now (marks .entry))) (now (ids .entry)) room cell direction) (now (us .entry)) (now (vs .entry)) (now (borders .entry)) m (now (us .exit)) (now (vs .exit)) (now (borders .exit)) r ⌝ }
 {
-    let Beyond::At(next, border) = grid::step(height, width, cell, direction) else {
+    let Beyond::At(next, border) = grid::step(g, cell, direction) else {
         return m;
     };
     if wide(ids[next]) != room {
@@ -111,8 +110,7 @@ fn edge<'a>(
 
 // Writes the edges of a room, whose cells are handed in, and returns how many there are.
 fn edges<'a>(
-    height: usize,
-    width: usize,
+    g: Grid,
     marks: &'a [u8],
     ids: &'a [u16],
     vertex: &'a [u16],
@@ -122,19 +120,18 @@ fn edges<'a>(
     vs: &mut [u16],
     borders: &mut [u16],
 ) -> usize
-    requires { ⌜ Housed (grid height width) (now marks) (now ids) (now vertex) ⌝ }
-    requires { ⌜ now cells ≡ cellsOf (grid height width) (now ids) room ⌝ }
+    requires { ⌜ Housed g (now marks) (now ids) (now vertex) ⌝ }
+    requires { ⌜ now cells ≡ cellsOf g (now ids) room ⌝ }
     requires { ⌜ Space (now us) (now vs) (now borders) 2048 ⌝ }
     ensures { λ r.
-        ⌜ Written (grid height width) (now (ids .entry)) room (spots (grid height width) (markedIn (now (marks .entry))) (now (ids .entry)) room) (now (us .entry)) (now (vs .entry)) (now (borders .entry)) 0 (now (us .exit)) (now (vs .exit)) (now (borders .exit)) r ⌝ }
+        ⌜ Written g (now (ids .entry)) room (spots g (markedIn (now (marks .entry))) (now (ids .entry)) room) (now (us .entry)) (now (vs .entry)) (now (borders .entry)) 0 (now (us .exit)) (now (vs .exit)) (now (borders .exit)) r ⌝ }
 {
     let mut m = 0;
     let mut i = 0;
     while i < cells.len() {
         let cell = wide(cells[i]);
         m = edge(
-            height,
-            width,
+            g,
             marks,
             ids,
             vertex,
@@ -147,8 +144,7 @@ fn edges<'a>(
             m,
         );
         m = edge(
-            height,
-            width,
+            g,
             marks,
             ids,
             vertex,
@@ -193,8 +189,7 @@ fn on_board(borders: &[u16], k: usize, buf: &mut [u16])
 
 // The count of a room: the list of a fault, in board border numbers, goes to the buffer's front; a clear room leaves the buffer.
 pub fn find_inconsistency<'a>(
-    height: usize,
-    width: usize,
+    g: Grid,
     marks: &'a [u8],
     states: &'a [u8],
     ids: &'a [u16],
@@ -204,19 +199,18 @@ pub fn find_inconsistency<'a>(
     count: usize,
     buf: &mut [u16],
 ) -> Inconsistency
-    requires { ⌜ Housed (grid height width) (now marks) (now ids) (now vertex) ⌝ }
-    requires { ⌜ now cells ≡ cellsOf (grid height width) (now ids) room ⌝ }
-    requires { ⌜ (borderCount (grid height width) ≤ length (now states)) × (borderCount (grid height width) ≤ length (now buf)) ⌝ }
-    ensures { λ r. ⌜ r ≡ foundOf (roomList (grid height width) (markedIn (now (marks .entry))) (now (ids .entry)) room count (stateOf (now (states .entry)))) ⌝ }
+    requires { ⌜ Housed g (now marks) (now ids) (now vertex) ⌝ }
+    requires { ⌜ now cells ≡ cellsOf g (now ids) room ⌝ }
+    requires { ⌜ (borderCount g ≤ length (now states)) × (borderCount g ≤ length (now buf)) ⌝ }
+    ensures { λ r. ⌜ r ≡ foundOf (roomList g (markedIn (now (marks .entry))) (now (ids .entry)) room count (stateOf (now (states .entry)))) ⌝ }
     ensures { λ r.
-        ⌜ now (buf .exit) ≡ sets (now (buf .entry)) 0 (listOf (roomList (grid height width) (markedIn (now (marks .entry))) (now (ids .entry)) room count (stateOf (now (states .entry))))) ⌝ }
+        ⌜ now (buf .exit) ≡ sets (now (buf .entry)) 0 (listOf (roomList g (markedIn (now (marks .entry))) (now (ids .entry)) room count (stateOf (now (states .entry))))) ⌝ }
 {
     let mut us = [0u16; 2048];
     let mut vs = [0u16; 2048];
     let mut borders = [0u16; 2048];
     let m = edges(
-        height,
-        width,
+        g,
         marks,
         ids,
         vertex,

@@ -12,10 +12,11 @@ use Rattle.lists.specs.Choice.{both, either, pick, when, give, orElse}
 use Rattle.lists.specs.Lists.{In, range, keep, any, all, gather, first}
 use Rattle.lists.proofs.ListLaws.{in-range}
 use Rattle.grid.specs.declared.Direction.{Direction}
-use Rattle.grid.specs.Grid.{Grid, cells, Cell, goesOn, next, border}
+use Rattle.grid.specs.declared.Grid.{Grid}
+use Rattle.grid.specs.Grid.{cells, Cell, goesOn, next, border}
 use Rattle.borders.specs.Entry.{connectedEntry, wallEntry}
 use Rattle.borders.proofs.Congruence.{both-same, either-same, holds-same, keep-same, any-same, through-same, gather-same, first-same}
-use Rattle.borders.proofs.Directions.{around, forward}
+use Rattle.grid.specs.Orders.{around, forward}
 use Rattle.borders.proofs.Agreement.{Agree, border-reads, state-reads, stands-reads}
 use Rattle.parts.specs.Parts.{Edge, edge, roots, begunIn, parts}
 use Rattle.groups.specs.Groups.{passes, edgeAt, edgesOver, edges, groupIds, groupCount, cellsOf}

@@ -17,14 +17,16 @@ use Rattle.lists.proofs.ListLaws.{in-left, in-right, in-append, first-some, fir
 use Rattle.frame.specs.Frame.{States, SameUnit, NoInnerWall}
 use Rattle.frame.proofs.Chains.{unit-back}
 use Rattle.grid.specs.declared.Direction.{Direction}
-use Rattle.grid.specs.Grid.{Grid, cells, Cell, next, border}
+use Rattle.grid.specs.declared.Grid.{Grid}
+use Rattle.grid.specs.Grid.{cells, Cell, next, border}
 use Rattle.grid.specs.Steps.{Step, Neighbours}
 use Rattle.grid.proofs.Geometry.{step-next, neighbours-back}
 use Rattle.borders.specs.Entry.{wallEntry, Standing}
 use Rattle.borders.specs.Border.{stateOf, stands}
 use Rattle.borders.proofs.EntryLaws.{stands-wall, wall-stands}
 use Rattle.borders.proofs.BorderLaws.{stands-state, stands-step, step-stands}
-use Rattle.borders.proofs.Directions.{forward, Ahead, down-or-right}
+use Rattle.grid.specs.Orders.{forward}
+use Rattle.borders.proofs.Directions.{Ahead, down-or-right}
 use Rattle.groups.proofs.GroupLaws.{Labels}
 use Rattle.path.specs.Path.{pathOf, pathList}
 use Rattle.path.proofs.PathLaws.{path-list, path-leads, path-stands, leads-joins}

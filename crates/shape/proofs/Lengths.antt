@@ -16,7 +16,8 @@ use Rattle.lists.specs.Lists.{countFrom, range, keep, gather, first}
 use Rattle.lists.proofs.Cases.{eq-or-ne}
 use Rattle.lists.proofs.ChoiceLaws.{give-some, orElse-some}
 use Rattle.lists.proofs.ListLaws.{first-some, range-length}
-use Rattle.grid.specs.Grid.{Grid, cells, next, border}
+use Rattle.grid.specs.declared.Grid.{Grid}
+use Rattle.grid.specs.Grid.{cells, next, border}
 use Rattle.borders.specs.Entry.{wallEntry}
 use Rattle.groups.specs.Groups.{cellsOf}
 use Rattle.boundary.specs.Boundary.{unitBoundary, potentialBoundary}

@@ -5,7 +5,8 @@ use mathlib.Core.Path.{_≡_, sym, _∙_}
 use mathlib.Core.Option.{Option, some, Option·some-injective}
 use Rattle.frame.specs.Offset.{Placement}
 use Rattle.grid.specs.declared.Direction.{Direction}
-use Rattle.grid.specs.Grid.{Grid, Cell, border}
+use Rattle.grid.specs.declared.Grid.{Grid}
+use Rattle.grid.specs.Grid.{Cell, border}
 use Rattle.grid.specs.Steps.{Step, Neighbours}
 
 -- `put` computes the relation T

@@ -18,7 +18,8 @@ use Rattle.lists.proofs.ListLaws.{any-true, true-any, all-true, true-all, first
 use Rattle.frame.specs.Frame.{Relation, States, SameUnit, SamePotential, Adjacent}
 use Rattle.frame.specs.Offset.{Tried, Good, OnWall, OnConnected, Fails}
 use Rattle.grid.specs.declared.Direction.{Direction}
-use Rattle.grid.specs.Grid.{Grid, Cell, goesOn, next, border}
+use Rattle.grid.specs.declared.Grid.{Grid}
+use Rattle.grid.specs.Grid.{Cell, goesOn, next, border}
 use Rattle.grid.specs.Steps.{Neighbours}
 use Rattle.grid.proofs.Geometry.{goes-step, step-goes, step-next, neighbours-back, one-border}
 use Rattle.borders.specs.Entry.{connectedEntry, wallEntry, Stands, Standing}
@@ -26,7 +27,8 @@ use Rattle.borders.specs.Border.{stateOf, stateAt, stands}
 use Rattle.borders.proofs.Choices.{either-false}
 use Rattle.borders.proofs.EntryLaws.{stands-wall, stands-connected, wall-stands, connected-stands}
 use Rattle.borders.proofs.BorderLaws.{stands-state, stands-step, step-stands}
-use Rattle.borders.proofs.Directions.{around, forward, Ahead, down-or-right, in-around}
+use Rattle.grid.specs.Orders.{around, forward}
+use Rattle.borders.proofs.Directions.{Ahead, down-or-right, in-around}
 use Rattle.groups.specs.Groups.{cellsOf}
 use Rattle.groups.proofs.GroupLaws.{Labels, in-cells, cells-in, chain-cell}
 use Rattle.boundary.specs.Boundary.{ahead}

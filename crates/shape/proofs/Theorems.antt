@@ -16,7 +16,8 @@ use Rattle.frame.specs.Frame.{States, Full, NoInnerWall}
 use Rattle.frame.specs.Offset.{Good}
 use Rattle.frame.proofs.Never.{good-move}
 use Rattle.frame.proofs.Partners.{partner-good, good-partner}
-use Rattle.grid.specs.Grid.{Grid, cells, Cell}
+use Rattle.grid.specs.declared.Grid.{Grid}
+use Rattle.grid.specs.Grid.{cells, Cell}
 use Rattle.grid.specs.Steps.{Neighbours}
 use Rattle.grid.proofs.Geometry.{neighbours-back, border-lt}
 use Rattle.borders.specs.Entry.{Standing}

@@ -11,7 +11,8 @@ use Rattle.lists.specs.Choice.{both, through}
 use Rattle.lists.proofs.ChoiceLaws.{both-true, true-both, give-some, through-some}
 use Rattle.grid.specs.declared.Direction.{Direction}
 use Rattle.grid.specs.declared.Direction.the-variants.{Up, Down, Left, Right}
-use Rattle.grid.specs.Grid.{Grid, Cell, row, col}
+use Rattle.grid.specs.declared.Grid.{Grid}
+use Rattle.grid.specs.Grid.{Cell, row, col}
 use Rattle.grid.specs.Steps.{Beside}
 use Rattle.grid.proofs.Geometry.{coords, cell-wide, row-lt, col-lt}
 use Rattle.borders.proofs.Choices.{give-true}

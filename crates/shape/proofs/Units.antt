@@ -16,7 +16,8 @@ use Rattle.lists.proofs.ListLaws.{in-left, in-right, in-append, keep-in, any-tr
 use Rattle.frame.specs.Frame.{Relation, States, on, SameUnit, SamePotential, Adjacent}
 use Rattle.frame.specs.Offset.{Good, Reason}
 use Rattle.frame.proofs.Never.{never-good}
-use Rattle.grid.specs.Grid.{Grid, cells, Cell}
+use Rattle.grid.specs.declared.Grid.{Grid}
+use Rattle.grid.specs.Grid.{cells, Cell}
 use Rattle.grid.specs.Steps.{Neighbours}
 use Rattle.grid.proofs.Geometry.{neighbours-back}
 use Rattle.borders.specs.Entry.{connectedEntry, wallEntry, Standing}

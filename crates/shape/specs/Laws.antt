@@ -4,7 +4,8 @@ use Prim.Native.Nat.{ℕ, _+_, _<_}
 use mathlib.Core.Path.{_≡_}
 use mathlib.Core.Logic.{_⊎_}
 use Rattle.frame.specs.Frame.{States, NoInnerWall, Partner}
-use Rattle.grid.specs.Grid.{Grid, Cell, row, col, borderCount}
+use Rattle.grid.specs.declared.Grid.{Grid}
+use Rattle.grid.specs.Grid.{Cell, row, col, borderCount}
 use Rattle.grid.specs.Steps.{Neighbours}
 
 -- "A board is full when no border is undecided"

@@ -9,8 +9,9 @@ use lib.ListN.{getD}
 use Rattle.lists.specs.Choice.{both, either, pick, give, orElse, holds, through}
 use Rattle.lists.specs.Lists.{range, keep, any, all, gather, first}
 use Rattle.grid.specs.declared.Direction.{Direction}
-use Rattle.grid.specs.declared.Direction.the-variants.{Up, Down, Left, Right}
-use Rattle.grid.specs.Grid.{Grid, cells, row, col, goesOn, next, border}
+use Rattle.grid.specs.Orders.{around, forward}
+use Rattle.grid.specs.declared.Grid.{Grid}
+use Rattle.grid.specs.Grid.{cells, row, col, goesOn, next, border}
 use Rattle.borders.specs.Entry.{connectedEntry, wallEntry}
 use Rattle.borders.specs.Border.{stateAt, stands}
 use Rattle.groups.specs.Groups.{groupIds, groupCount, cellsOf}
@@ -28,7 +29,7 @@ innerAt g states ids c d =
 -- "First, row by row, down before right"
 unfoldable pub innerWall : Grid → List ℕ → List ℕ → Option (List ℕ)
 unfolding first innerAt range
-innerWall g states ids = first (λ c. first (innerAt g states ids c) (Down ∷ Right ∷ [])) (range (cells g))
+innerWall g states ids = first (λ c. first (innerAt g states ids c) forward) (range (cells g))
 
 -- ADJACENCY
 -- a Wall of c, in that direction, has potential unit q behind it
@@ -39,7 +40,7 @@ wallTo g states pids q c d = both (stands g states 2 d c) (ahead g pids q c d)
 -- "Potential units are adjacent if they are one, or a Wall parts them"
 unfoldable pub adjacent : Grid → List ℕ → List ℕ → ℕ → ℕ → Bool
 unfolding any wallTo cellsOf
-adjacent g states pids p q = either (eqb p q) (any (λ c. any (wallTo g states pids q c) (Up ∷ Down ∷ Left ∷ Right ∷ [])) (cellsOf g pids p))
+adjacent g states pids p q = either (eqb p q) (any (λ c. any (wallTo g states pids q c) around) (cellsOf g pids p))
 
 -- OFFSETS
 -- where u falls on a line of n places when f is put on t; nothing where it leaves the line
@@ -106,8 +107,8 @@ unfoldable pub landing : Grid → List ℕ → List ℕ → UnitInfo → (ℕ �
 unfolding orElse first onWall onConnected
 landing g states ids u put =
     orElse
-    (first (λ c. first (onWall g states ids u put c) (Down ∷ Right ∷ [])) (u .cells))
-    (first (λ c. first (onConnected g states put c) (Up ∷ Down ∷ Left ∷ Right ∷ [])) (u .cells))
+    (first (λ c. first (onWall g states ids u put c) forward) (u .cells))
+    (first (λ c. first (onConnected g states put c) around) (u .cells))
 
 -- what comes of an offset
 pub data Try : Type 0 where

@@ -7,7 +7,8 @@ use mathlib.Core.List.{List}
 use native.Mathlib.Omega.{arith}
 use lib.ListN.{length, take}
 use Rattle.lists.specs.Lists.{range, first}
-use Rattle.grid.specs.Grid.{Grid, cells}
+use Rattle.grid.specs.declared.Grid.{Grid}
+use Rattle.grid.specs.Grid.{cells}
 use Rattle.groups.specs.Groups.{groupIds, groupCount}
 use Rattle.groups.specs.Floods.{Fits}
 use Rattle.groups.specs.Lent.{Grouped}

@@ -11,7 +11,8 @@ use native.Mathlib.Numerals.{add-one}
 use borrow.Author.Tests.{ne-eqb}
 use lib.ListN.{getD, length, set, take, drop, length-set, length-append, drop-of-length-le}
 use lib.Seq.{sets, drop-cons, getD-take, length-take-le}
-use Rattle.grid.specs.Grid.{Grid, cells}
+use Rattle.grid.specs.declared.Grid.{Grid}
+use Rattle.grid.specs.Grid.{cells}
 use Rattle.groups.specs.Info.{endOf, part}
 use Rattle.boundary.specs.Appended.{Appended}
 use Rattle.boundary.specs.Boundary.{unitBoundary, potentialBoundary}

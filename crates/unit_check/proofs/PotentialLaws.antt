@@ -9,7 +9,8 @@ use native.Mathlib.Omega.{arith}
 use lib.ListN.{length, take, replicate, length-replicate, getD-replicate, List·getD-eq-default}
 use Rattle.lists.specs.Lists.{range, first}
 use Rattle.lists.proofs.Cases.{le-or-lt}
-use Rattle.grid.specs.Grid.{Grid, cells}
+use Rattle.grid.specs.declared.Grid.{Grid}
+use Rattle.grid.specs.Grid.{cells}
 use Rattle.groups.specs.Groups.{groupIds, groupCount}
 use Rattle.groups.specs.Floods.{Fits}
 use Rattle.groups.specs.Lent.{Grouped}

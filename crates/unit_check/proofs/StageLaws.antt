@@ -7,7 +7,8 @@ use native.Mathlib.Omega.{arith}
 use lib.ListN.{getD, length, drop, length-drop}
 use lib.Seq.{getD-take, getD-drop, length-take-le}
 use Rattle.lists.proofs.ListLaws.{getD-in}
-use Rattle.grid.specs.Grid.{Grid, cells, Cell}
+use Rattle.grid.specs.declared.Grid.{Grid}
+use Rattle.grid.specs.Grid.{cells, Cell}
 use Rattle.grid.proofs.Geometry.{cells-le}
 use Rattle.groups.specs.Groups.{cellsOf}
 use Rattle.groups.specs.Info.{endOf, part}

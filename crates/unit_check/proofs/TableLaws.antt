@@ -10,7 +10,8 @@ use native.Mathlib.Numerals.{add-one}
 use lib.ListN.{getD, length, set, length-set}
 use lib.Seq.{getD-set-same, getD-set-other}
 use Rattle.lists.proofs.Cases.{eq-or-ne}
-use Rattle.grid.specs.Grid.{Grid, Limits, cells, Cell, row, col}
+use Rattle.grid.specs.declared.Grid.{Grid}
+use Rattle.grid.specs.Grid.{Limits, cells, Cell, row, col}
 use Rattle.grid.proofs.Geometry.{coords, row-lt}
 use Rattle.offsets.specs.Reach.{Tables}
 

@@ -13,7 +13,8 @@ use Rattle.lists.specs.Choice.{either}
 use Rattle.lists.specs.Lists.{countFrom, range, any}
 use Rattle.lists.proofs.Cases.{not-both}
 use Rattle.lists.proofs.ListLaws.{countFrom-step, countFrom-end}
-use Rattle.grid.specs.Grid.{Grid, cells}
+use Rattle.grid.specs.declared.Grid.{Grid}
+use Rattle.grid.specs.Grid.{cells}
 use Rattle.boundary.specs.Appended.{Appended}
 use Rattle.shape.specs.Shape.{UnitInfo, tryAt, isGood, entryOf, fits, failures}
 use Rattle.shape.specs.Shape.{Try as Outcome}

@@ -13,7 +13,8 @@ use Rattle.lists.specs.Choice.{pick, when, give}
 use Rattle.lists.specs.Lists.{range, keep, gather}
 use Rattle.lists.proofs.ListLaws.{in-range}
 use Rattle.borders.proofs.Congruence.{gather-same}
-use Rattle.grid.specs.Grid.{Grid, cells, Cell}
+use Rattle.grid.specs.declared.Grid.{Grid}
+use Rattle.grid.specs.Grid.{cells, Cell}
 use Rattle.grid.proofs.Geometry.{cells-le}
 use Rattle.boundary.specs.Appended.{Appended}
 use Rattle.boundary.specs.Boundary.{potentialBoundary}

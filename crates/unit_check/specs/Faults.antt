@@ -7,7 +7,8 @@ use lib.Dec.{eqb}
 use lib.ListN.{getD, length, take}
 use Rattle.lists.specs.Choice.{pick}
 use Rattle.lists.specs.Lists.{range, gather}
-use Rattle.grid.specs.Grid.{Grid, Limits, cells, borderCount}
+use Rattle.grid.specs.declared.Grid.{Grid}
+use Rattle.grid.specs.Grid.{Limits, cells, borderCount}
 use Rattle.groups.specs.Groups.{cellsOf}
 use Rattle.boundary.specs.Boundary.{unitBoundary, potentialBoundary}
 use Rattle.adjacency.specs.Turns.{InTurn}

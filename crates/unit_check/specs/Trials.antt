@@ -7,7 +7,7 @@ use mathlib.Core.List.{List, [], _∷_}
 use lib.ListN.{length}
 use lib.Seq.{sets}
 use Rattle.lists.specs.Choice.{pick}
-use Rattle.grid.specs.Grid.{Grid}
+use Rattle.grid.specs.declared.Grid.{Grid}
 use Rattle.shape.specs.Shape.{UnitInfo, fits, failures}
 use Rattle.offsets.specs.declared.Try.{Try}
 use Rattle.offsets.specs.declared.Try.the-variants.{Passed, Good, Failed}

@@ -4,7 +4,8 @@ use Prim.Native.Nat.{ℕ, _*_, _≤_, _<_}
 use mathlib.Core.Path.{_≡_}
 use mathlib.Core.List.{List}
 use lib.ListN.{getD, length}
-use Rattle.grid.specs.Grid.{Grid, Limits, cells, Cell, borderCount}
+use Rattle.grid.specs.declared.Grid.{Grid}
+use Rattle.grid.specs.Grid.{Limits, cells, Cell, borderCount}
 use Rattle.groups.specs.Groups.{cellsOf}
 use Rattle.shape.specs.Shape.{headOr0}
 use Rattle.offsets.specs.Reach.{Tables}

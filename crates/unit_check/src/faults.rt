@@ -3,7 +3,6 @@ ghost use mathlib.Core.Path.{_≡_};
 ghost use Prim.Native.Nat.{_+_, _≤_, _<_};
 ghost use lib.ListN.{length, take};
 ghost use lib.Seq.{sets};
-ghost use Rattle.grid.specs.Grid.{grid};
 ghost use Rattle.boundary.specs.Appended.{Appended};
 ghost use Rattle.unit_check.specs.Faults.{markedBoundary, nearBoundaries, faultList, Near, Writing};
 
@@ -13,6 +12,7 @@ fn wide(x: u16) -> usize
     x as usize
 }
 
+use grid::Grid;
 // Copies the first n entries to the buffer's front.
 fn copy_front(entries: &[u16], n: usize, buffer: &mut [u16])
     requires { ⌜ (n ≤ length (now entries)) × (n ≤ length (now buffer)) ⌝ }
@@ -27,8 +27,7 @@ fn copy_front(entries: &[u16], n: usize, buffer: &mut [u16])
 
 // Appends the boundary list of a potential unit, if it is marked.
 fn append_marked<'a>(
-    height: usize,
-    width: usize,
+    g: Grid,
     states: &'a [u8],
     pids: &'a [u16],
     starts: &'a [u16],
@@ -39,32 +38,23 @@ fn append_marked<'a>(
     buffer: &mut [u16],
     at: usize,
 ) -> usize
-    requires { ⌜ Near (grid height width) (now states) (now pids) count (now starts) (now flat) (now marks) ⌝ }
-    requires { ⌜ (unit < count) × (at + length (markedBoundary (grid height width) (now states) (now pids) (now marks) unit) ≤ length (now buffer)) ⌝ }
-    ensures { λ r. ⌜ Appended (now (buffer .entry)) at (markedBoundary (grid height width) (now (states .entry)) (now (pids .entry)) (now (marks .entry)) unit) (now (buffer .exit)) r ⌝ }
+    requires { ⌜ Near g (now states) (now pids) count (now starts) (now flat) (now marks) ⌝ }
+    requires { ⌜ (unit < count) × (at + length (markedBoundary g (now states) (now pids) (now marks) unit) ≤ length (now buffer)) ⌝ }
+    ensures { λ r. ⌜ Appended (now (buffer .entry)) at (markedBoundary g (now (states .entry)) (now (pids .entry)) (now (marks .entry)) unit) (now (buffer .exit)) r ⌝ }
 {
+    let height = g.height;
+    let width = g.width;
     if marks[unit] == 0 {
         return at;
     }
     let from = wide(starts[unit]);
     let to = groups::end_of(starts, count, height * width, unit);
-    boundary::append_boundary(
-        states,
-        pids,
-        &flat[from..to],
-        height,
-        width,
-        true,
-        unit,
-        buffer,
-        at,
-    )
+    boundary::append_boundary(states, pids, &flat[from..to], g, true, unit, buffer, at)
 }
 
 // Appends the boundary lists of all marked potential units, in rising number.
 fn append_near<'a>(
-    height: usize,
-    width: usize,
+    g: Grid,
     states: &'a [u8],
     pids: &'a [u16],
     starts: &'a [u16],
@@ -74,26 +64,14 @@ fn append_near<'a>(
     buffer: &mut [u16],
     at: usize,
 ) -> usize
-    requires { ⌜ Near (grid height width) (now states) (now pids) count (now starts) (now flat) (now marks) ⌝ }
-    requires { ⌜ at + length (nearBoundaries (grid height width) (now states) (now pids) (now marks) count) ≤ length (now buffer) ⌝ }
-    ensures { λ r. ⌜ Appended (now (buffer .entry)) at (nearBoundaries (grid height width) (now (states .entry)) (now (pids .entry)) (now (marks .entry)) count) (now (buffer .exit)) r ⌝ }
+    requires { ⌜ Near g (now states) (now pids) count (now starts) (now flat) (now marks) ⌝ }
+    requires { ⌜ at + length (nearBoundaries g (now states) (now pids) (now marks) count) ≤ length (now buffer) ⌝ }
+    ensures { λ r. ⌜ Appended (now (buffer .entry)) at (nearBoundaries g (now (states .entry)) (now (pids .entry)) (now (marks .entry)) count) (now (buffer .exit)) r ⌝ }
 {
     let mut n = at;
     let mut unit = 0;
     while unit < count {
-        n = append_marked(
-            height,
-            width,
-            states,
-            pids,
-            starts,
-            flat,
-            count,
-            marks,
-            unit,
-            buffer,
-            n,
-        );
+        n = append_marked(g, states, pids, starts, flat, count, marks, unit, buffer, n);
         unit += 1;
     }
     n
@@ -101,8 +79,7 @@ fn append_near<'a>(
 
 // Writes the whole list, and returns its length.
 pub fn write_list<'a>(
-    height: usize,
-    width: usize,
+    g: Grid,
     states: &'a [u8],
     ids: &'a [u16],
     cells: &'a [u16],
@@ -116,22 +93,11 @@ pub fn write_list<'a>(
     n: usize,
     buffer: &mut [u16],
 ) -> usize
-    requires { ⌜ Writing (grid height width) (now states) (now ids) (now cells) (now pids) count (now starts) (now flat) (now marks) unit (now failed) n (now buffer) ⌝ }
+    requires { ⌜ Writing g (now states) (now ids) (now cells) (now pids) count (now starts) (now flat) (now marks) unit (now failed) n (now buffer) ⌝ }
     ensures { λ r.
-        ⌜ Appended (now (buffer .entry)) 0 (faultList (grid height width) (now (states .entry)) (now (ids .entry)) (now (pids .entry)) count (now (marks .entry)) unit (now (failed .entry)) n) (now (buffer .exit)) r ⌝ }
+        ⌜ Appended (now (buffer .entry)) 0 (faultList g (now (states .entry)) (now (ids .entry)) (now (pids .entry)) count (now (marks .entry)) unit (now (failed .entry)) n) (now (buffer .exit)) r ⌝ }
 {
     copy_front(failed, n, buffer);
-    let at = boundary::append_boundary(states, ids, cells, height, width, false, unit, buffer, n);
-    append_near(
-        height,
-        width,
-        states,
-        pids,
-        starts,
-        flat,
-        count,
-        marks,
-        buffer,
-        at,
-    )
+    let at = boundary::append_boundary(states, ids, cells, g, false, unit, buffer, n);
+    append_near(g, states, pids, starts, flat, count, marks, buffer, at)
 }

@@ -4,13 +4,13 @@ ghost use mathlib.Core.Bool.{true};
 ghost use Prim.Native.Nat.{_*_, _≤_, _<_};
 ghost use lib.ListN.{length};
 ghost use Rattle.lists.specs.Lists.{range, first as firstOf};
-ghost use Rattle.grid.specs.Grid.{grid};
 ghost use Rattle.groups.specs.Groups.{groupIds, groupCount};
 ghost use Rattle.shape.specs.Shape.{unitFault};
 ghost use Rattle.adjacency.specs.Turns.{InTurn};
 ghost use Rattle.adjacency.specs.Adjacency.{Unmarked};
 ghost use Rattle.inner_walls.specs.Found.{Told};
 ghost use Rattle.unit_check.specs.Units.{Marked, Units, Staged, Scratch};
+use grid::Grid;
 use inner_walls::Found;
 use trials::Tried;
 
@@ -26,8 +26,7 @@ fn wide(x: u16) -> usize
 
 // A unit whose adjacent potential units are marked.
 fn try_unit<'a>(
-    height: usize,
-    width: usize,
+    g: Grid,
     states: &'a [u8],
     ids: &'a [u16],
     cells: &'a [u16],
@@ -43,13 +42,12 @@ fn try_unit<'a>(
     failed: &mut [u16],
     buffer: &mut [u16],
 ) -> Found
-    requires { ⌜ Marked (grid height width) (now states) (now ids) (now cells) unit first (now rows) (now cols) (now pids) (now pstarts) (now pflat) pcount (now marks) (now failed) (now buffer) ⌝ }
+    requires { ⌜ Marked g (now states) (now ids) (now cells) unit first (now rows) (now cols) (now pids) (now pstarts) (now pflat) pcount (now marks) (now failed) (now buffer) ⌝ }
     ensures { λ r.
-        ⌜ Told (unitFault (grid height width) (now (states .entry)) (now (ids .entry)) (now (pids .entry)) pcount unit) (now (buffer .entry)) (now (buffer .exit)) r ⌝ }
+        ⌜ Told (unitFault g (now (states .entry)) (now (ids .entry)) (now (pids .entry)) pcount unit) (now (buffer .entry)) (now (buffer .exit)) r ⌝ }
 {
     let Tried::Fails(n) = trials::try_all(
-        height,
-        width,
+        g,
         unit as u16,
         first,
         cells,
@@ -64,8 +62,7 @@ fn try_unit<'a>(
         return Found::Clear;
     };
     Found::Fault(faults::write_list(
-        height,
-        width,
+        g,
         states,
         ids,
         cells,
@@ -83,8 +80,7 @@ fn try_unit<'a>(
 
 // A unit: the potential units adjacent to its own are marked for it, and the marks taken away again.
 fn check_unit<'a>(
-    height: usize,
-    width: usize,
+    g: Grid,
     states: &'a [u8],
     ids: &'a [u16],
     starts: &'a [u16],
@@ -103,21 +99,22 @@ fn check_unit<'a>(
     failed: &mut [u16],
     buffer: &mut [u16],
 ) -> Found
-    requires { ⌜ Units (grid height width) (now states) (now ids) (now starts) (now flat) count (now rows) (now cols) (now pids) (now pstarts) (now pflat) pcount (now nstarts) (now near) (length (now marks)) (length (now failed)) (length (now buffer)) ⌝ }
+    requires { ⌜ Units g (now states) (now ids) (now starts) (now flat) count (now rows) (now cols) (now pids) (now pstarts) (now pflat) pcount (now nstarts) (now near) (length (now marks)) (length (now failed)) (length (now buffer)) ⌝ }
     requires { ⌜ Unmarked (now marks) ⌝ }
     requires { ⌜ unit < count ⌝ }
     ensures { λ r.
-        ⌜ Told (unitFault (grid height width) (now (states .entry)) (now (ids .entry)) (now (pids .entry)) pcount unit) (now (buffer .entry)) (now (buffer .exit)) r ⌝ }
+        ⌜ Told (unitFault g (now (states .entry)) (now (ids .entry)) (now (pids .entry)) pcount unit) (now (buffer .entry)) (now (buffer .exit)) r ⌝ }
     ensures { λ _. ⌜ Unmarked (now (marks .exit)) ⌝ }
 {
+    let height = g.height;
+    let width = g.width;
     let from = wide(starts[unit]);
     let to = groups::end_of(starts, count, height * width, unit);
     let first = wide(flat[from]);
     let own = wide(pids[first]);
     adjacency::mark_adjacent(own, nstarts, near, marks);
     let f = try_unit(
-        height,
-        width,
+        g,
         states,
         ids,
         &flat[from..to],
@@ -139,8 +136,7 @@ fn check_unit<'a>(
 
 // All units in order.
 fn check_all<'a>(
-    height: usize,
-    width: usize,
+    g: Grid,
     states: &'a [u8],
     ids: &'a [u16],
     starts: &'a [u16],
@@ -158,16 +154,15 @@ fn check_all<'a>(
     failed: &mut [u16],
     buffer: &mut [u16],
 ) -> Found
-    requires { ⌜ Units (grid height width) (now states) (now ids) (now starts) (now flat) count (now rows) (now cols) (now pids) (now pstarts) (now pflat) pcount (now nstarts) (now near) (length (now marks)) (length (now failed)) (length (now buffer)) ⌝ }
+    requires { ⌜ Units g (now states) (now ids) (now starts) (now flat) count (now rows) (now cols) (now pids) (now pstarts) (now pflat) pcount (now nstarts) (now near) (length (now marks)) (length (now failed)) (length (now buffer)) ⌝ }
     requires { ⌜ Unmarked (now marks) ⌝ }
     ensures { λ r.
-        ⌜ Told (firstOf (unitFault (grid height width) (now (states .entry)) (now (ids .entry)) (now (pids .entry)) pcount) (range count)) (now (buffer .entry)) (now (buffer .exit)) r ⌝ }
+        ⌜ Told (firstOf (unitFault g (now (states .entry)) (now (ids .entry)) (now (pids .entry)) pcount) (range count)) (now (buffer .entry)) (now (buffer .exit)) r ⌝ }
 {
     let mut unit = 0;
     while unit < count {
         let f = check_unit(
-            height,
-            width,
+            g,
             states,
             ids,
             starts,
@@ -196,8 +191,7 @@ fn check_all<'a>(
 
 // All units in order, with tables, lists and marks that the caller lends.
 fn check_with<'a>(
-    height: usize,
-    width: usize,
+    g: Grid,
     states: &'a [u8],
     ids: &'a [u16],
     starts: &'a [u16],
@@ -215,16 +209,15 @@ fn check_with<'a>(
     failed: &mut [u16],
     buffer: &mut [u16],
 ) -> Found
-    requires { ⌜ Staged (grid height width) (now states) (now ids) (now starts) (now flat) count (length (now buffer)) ⌝ }
-    requires { ⌜ InTurn (grid height width) (now pids) pcount (now pstarts) (now pflat) ⌝ }
-    requires { ⌜ Scratch (height * width) (now marks) (now nstarts) (now near) (now rows) (now cols) (now failed) ⌝ }
+    requires { ⌜ Staged g (now states) (now ids) (now starts) (now flat) count (length (now buffer)) ⌝ }
+    requires { ⌜ InTurn g (now pids) pcount (now pstarts) (now pflat) ⌝ }
+    requires { ⌜ Scratch (g .height * g .width) (now marks) (now nstarts) (now near) (now rows) (now cols) (now failed) ⌝ }
     ensures { λ r.
-        ⌜ Told (firstOf (unitFault (grid height width) (now (states .entry)) (now (ids .entry)) (now (pids .entry)) pcount) (range count)) (now (buffer .entry)) (now (buffer .exit)) r ⌝ }
+        ⌜ Told (firstOf (unitFault g (now (states .entry)) (now (ids .entry)) (now (pids .entry)) pcount) (range count)) (now (buffer .entry)) (now (buffer .exit)) r ⌝ }
 {
     adjacency::list_adjacent(
         states,
-        height,
-        width,
+        g,
         pids,
         pstarts,
         pflat,
@@ -233,10 +226,9 @@ fn check_with<'a>(
         nstarts,
         near,
     );
-    tables::fill(height, width, rows, cols);
+    tables::fill(g, rows, cols);
     check_all(
-        height,
-        width,
+        g,
         states,
         ids,
         starts,
@@ -258,8 +250,7 @@ fn check_with<'a>(
 
 // The same on a board of at most 64 cells.
 fn check_small<'a>(
-    height: usize,
-    width: usize,
+    g: Grid,
     states: &'a [u8],
     ids: &'a [u16],
     starts: &'a [u16],
@@ -271,11 +262,11 @@ fn check_small<'a>(
     pcount: usize,
     buffer: &mut [u16],
 ) -> Found
-    requires { ⌜ Staged (grid height width) (now states) (now ids) (now starts) (now flat) count (length (now buffer)) ⌝ }
-    requires { ⌜ InTurn (grid height width) (now pids) pcount (now pstarts) (now pflat) ⌝ }
-    requires { ⌜ height * width ≤ 64 ⌝ }
+    requires { ⌜ Staged g (now states) (now ids) (now starts) (now flat) count (length (now buffer)) ⌝ }
+    requires { ⌜ InTurn g (now pids) pcount (now pstarts) (now pflat) ⌝ }
+    requires { ⌜ g .height * g .width ≤ 64 ⌝ }
     ensures { λ r.
-        ⌜ Told (firstOf (unitFault (grid height width) (now (states .entry)) (now (ids .entry)) (now (pids .entry)) pcount) (range count)) (now (buffer .entry)) (now (buffer .exit)) r ⌝ }
+        ⌜ Told (firstOf (unitFault g (now (states .entry)) (now (ids .entry)) (now (pids .entry)) pcount) (range count)) (now (buffer .entry)) (now (buffer .exit)) r ⌝ }
 {
     let mut marks = [0u8; 64];
     let mut nstarts = [0usize; 65];
@@ -284,8 +275,7 @@ fn check_small<'a>(
     let mut cols = [0usize; 64];
     let mut failed = [0u16; 64];
     check_with(
-        height,
-        width,
+        g,
         states,
         ids,
         starts,
@@ -307,8 +297,7 @@ fn check_small<'a>(
 
 // The same on a board of at most 1,024 cells.
 fn check_large<'a>(
-    height: usize,
-    width: usize,
+    g: Grid,
     states: &'a [u8],
     ids: &'a [u16],
     starts: &'a [u16],
@@ -320,10 +309,10 @@ fn check_large<'a>(
     pcount: usize,
     buffer: &mut [u16],
 ) -> Found
-    requires { ⌜ Staged (grid height width) (now states) (now ids) (now starts) (now flat) count (length (now buffer)) ⌝ }
-    requires { ⌜ InTurn (grid height width) (now pids) pcount (now pstarts) (now pflat) ⌝ }
+    requires { ⌜ Staged g (now states) (now ids) (now starts) (now flat) count (length (now buffer)) ⌝ }
+    requires { ⌜ InTurn g (now pids) pcount (now pstarts) (now pflat) ⌝ }
     ensures { λ r.
-        ⌜ Told (firstOf (unitFault (grid height width) (now (states .entry)) (now (ids .entry)) (now (pids .entry)) pcount) (range count)) (now (buffer .entry)) (now (buffer .exit)) r ⌝ }
+        ⌜ Told (firstOf (unitFault g (now (states .entry)) (now (ids .entry)) (now (pids .entry)) pcount) (range count)) (now (buffer .entry)) (now (buffer .exit)) r ⌝ }
 {
     let mut marks = [0u8; 1024];
     let mut nstarts = [0usize; 1025];
@@ -332,8 +321,7 @@ fn check_large<'a>(
     let mut cols = [0usize; 1024];
     let mut failed = [0u16; 1024];
     check_with(
-        height,
-        width,
+        g,
         states,
         ids,
         starts,
@@ -355,8 +343,7 @@ fn check_large<'a>(
 
 // The units of a board, whose cells stand in `flat`. A small board has short arrays, since all of an array is zeroed.
 pub fn check_units<'a>(
-    height: usize,
-    width: usize,
+    g: Grid,
     states: &'a [u8],
     ids: &'a [u16],
     starts: &'a [u16],
@@ -364,27 +351,20 @@ pub fn check_units<'a>(
     count: usize,
     buffer: &mut [u16],
 ) -> Found
-    requires { ⌜ Staged (grid height width) (now states) (now ids) (now starts) (now flat) count (length (now buffer)) ⌝ }
+    requires { ⌜ Staged g (now states) (now ids) (now starts) (now flat) count (length (now buffer)) ⌝ }
     ensures { λ r.
-        ⌜ Told (firstOf (unitFault (grid height width) (now (states .entry)) (now (ids .entry)) (groupIds (grid height width) (now (states .entry)) true) (groupCount (grid height width) (now (states .entry)) true)) (range count)) (now (buffer .entry)) (now (buffer .exit)) r ⌝ }
+        ⌜ Told (firstOf (unitFault g (now (states .entry)) (now (ids .entry)) (groupIds g (now (states .entry)) true) (groupCount g (now (states .entry)) true)) (range count)) (now (buffer .entry)) (now (buffer .exit)) r ⌝ }
 {
+    let height = g.height;
+    let width = g.width;
     let n = height * width;
     let mut pids = [0u16; 1024];
     let mut pstarts = [0u16; 1024];
     let mut pflat = [0u16; 1024];
-    let pcount = groups::groups_of(
-        states,
-        height,
-        width,
-        true,
-        &mut pids,
-        &mut pstarts,
-        &mut pflat,
-    );
+    let pcount = groups::groups_of(states, g, true, &mut pids, &mut pstarts, &mut pflat);
     if n <= 64 {
         return check_small(
-            height,
-            width,
+            g,
             states,
             ids,
             starts,
@@ -398,8 +378,7 @@ pub fn check_units<'a>(
         );
     }
     check_large(
-        height,
-        width,
+        g,
         states,
         ids,
         starts,

@@ -1,14 +1,17 @@
 // Tables of each cell's row and column, so that no offset divides.
 ghost use Prim.Native.Nat.{_*_, _≤_};
 ghost use lib.ListN.{length};
-ghost use Rattle.grid.specs.Grid.{grid, Limits};
+ghost use Rattle.grid.specs.Grid.{Limits};
 ghost use Rattle.offsets.specs.Reach.{Tables};
+use grid::Grid;
 
-pub fn fill(height: usize, width: usize, rows: &mut [usize], cols: &mut [usize])
-    requires { ⌜ Limits (grid height width) ⌝ }
-    requires { ⌜ (height * width ≤ length (now rows)) × (height * width ≤ length (now cols)) ⌝ }
-    ensures { λ _. ⌜ Tables (grid height width) (now (rows .exit)) (now (cols .exit)) ⌝ }
+pub fn fill(g: Grid, rows: &mut [usize], cols: &mut [usize])
+    requires { ⌜ Limits g ⌝ }
+    requires { ⌜ (g .height * g .width ≤ length (now rows)) × (g .height * g .width ≤ length (now cols)) ⌝ }
+    ensures { λ _. ⌜ Tables g (now (rows .exit)) (now (cols .exit)) ⌝ }
 {
+    let height = g.height;
+    let width = g.width;
     let n = height * width;
     let mut cell = 0;
     let mut y = 0;

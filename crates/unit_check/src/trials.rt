@@ -1,11 +1,12 @@
 // A unit at all offsets, up to the first good one.
 ghost use Prim.Native.Nat.{ℕ, _+_, _*_, _≤_};
 ghost use lib.ListN.{length};
-ghost use Rattle.grid.specs.Grid.{grid, Cell};
+ghost use Rattle.grid.specs.Grid.{Cell};
 ghost use Rattle.shape.specs.Shape.{unitOf};
 ghost use Rattle.boundary.specs.Appended.{Appended};
 ghost use Rattle.offsets.specs.Trial.{Trial};
 ghost use Rattle.unit_check.specs.Trials.{entryIn, Collected};
+use grid::Grid;
 use offsets::Try;
 
 // Whether a unit fits somewhere; if not, how many landings failed.
@@ -28,8 +29,7 @@ fn note(t: Try, failed: &mut [u16], len: usize) -> usize
 
 // Puts the unit's first cell on each cell in row order, and collects failed landings, up to the first good offset.
 pub fn try_all<'a>(
-    height: usize,
-    width: usize,
+    g: Grid,
     unit: u16,
     first: usize,
     cells: &'a [u16],
@@ -41,18 +41,19 @@ pub fn try_all<'a>(
     marks: &'a [u8],
     failed: &mut [u16],
 ) -> Tried
-    requires { ⌜ ((to : ℕ) → Cell (grid height width) to → Trial (grid height width) (now states) (now ids) (now pids) unit first to (now cells) (now rows) (now cols) (now marks)) ⌝ }
-    requires { ⌜ (height * width ≤ 1024) × (height * width ≤ length (now failed)) ⌝ }
+    requires { ⌜ ((to : ℕ) → Cell g to → Trial g (now states) (now ids) (now pids) unit first to (now cells) (now rows) (now cols) (now marks)) ⌝ }
+    requires { ⌜ (g .height * g .width ≤ 1024) × (g .height * g .width ≤ length (now failed)) ⌝ }
     ensures { λ r.
-        ⌜ Collected (grid height width) (now (states .entry)) (now (ids .entry)) (now (pids .entry)) (unitOf (grid height width) (now (ids .entry)) (now (pids .entry)) unit) (now (failed .entry)) (now (failed .exit)) r ⌝ }
+        ⌜ Collected g (now (states .entry)) (now (ids .entry)) (now (pids .entry)) (unitOf g (now (ids .entry)) (now (pids .entry)) unit) (now (failed .entry)) (now (failed .exit)) r ⌝ }
 {
+    let height = g.height;
+    let width = g.width;
     let n = height * width;
     let mut len = 0;
     let mut to = 0;
     while to < n {
         let t = offsets::try_at(
-            height,
-            width,
+            g,
             unit,
             first,
             to,

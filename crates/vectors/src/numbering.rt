@@ -14,9 +14,9 @@ fn border(beyond: Beyond) -> usize {
 }
 
 fn replay_cell(s: &[u8], c: Counts, height: usize, width: usize, cell: usize) -> Counts {
-    let right = border(grid::neighbour(height, width, cell, Direction::Right));
+    let right = border(grid::sizes::neighbour(height, width, cell, Direction::Right));
     let one = case::compared(c, right == sample::word(s, c.next), 2);
-    let under = border(grid::neighbour(height, width, cell, Direction::Down));
+    let under = border(grid::sizes::neighbour(height, width, cell, Direction::Down));
     case::compared(one, under == sample::word(s, one.next), 2)
 }
 

@@ -90,8 +90,8 @@ slice-write-buffer c =
     let p = k .before .before .before .before .pre in
     omega (arith, short (p .0) (p .1) _ (k .step .ensures) (c .before .before .before .before .before .before .before .before .before .before .next .given .1) (c .before .before .before .before .before .before .before .if1 .left) (c .before .before .list-joined .ensures .0), p .0 .room, c .before .before .list-joined .kept)
 
-add-t15 : tie.Need-add-t15
-add-t15 c =
+add-t14 : tie.Need-add-t14
+add-t14 c =
     let k = c .before .before .before .before .before .before .before .before .before .before .before .before in
     let p = k .before .before .before .before .pre in
     omega (arith, short (p .0) (p .1) _ (k .step .ensures) (c .before .before .before .before .before .before .before .before .before .before .next .given .1) (c .before .before .before .before .before .before .before .if1 .left) (c .before .before .list-joined .ensures .0), cells-le _ (p .0 .limits))
@@ -125,6 +125,6 @@ inner-at-spec =
     cast-buffer
     mul-buffer-2
     slice-write-buffer
-    add-t15
+    add-t14
     same-length
     returns-4)

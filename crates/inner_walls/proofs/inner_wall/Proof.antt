@@ -1,13 +1,11 @@
 -- `inner_walls::inner_wall` meets its contract: the loop's invariant is that the cells passed found nothing. Assumes nothing.
 use Prim.Native.Nat.{_-_, _*_}
-use mathlib.Core.List.{[], _∷_}
 use mathlib.Core.Path.{ap, _∙_}
 use native.Mathlib.Omega.{arith}
 use borrow.Author.Needs.{needs}
 use lib.ListN.{length}
 use Rattle.lists.specs.Lists.{first}
-use Rattle.grid.specs.declared.Direction.the-variants.{Down, Right}
-use Rattle.grid.specs.Grid.{grid}
+use Rattle.grid.specs.Orders.{forward}
 use Rattle.grid.proofs.Geometry.{cells-le}
 use Rattle.shape.specs.Shape.{innerAt, innerWall}
 use Rattle.inner_walls.proofs.FoundLaws.{told-long, Searched, searched-none, search-fault, search-on, search-over}
@@ -15,14 +13,14 @@ use Rattle.inner_walls.proofs.inner_wall.Statement.{statement}
 use Rattle.inner_walls.proofs.inner_wall.Tie as tie
 
 abbrev Inv-loop : tie.InvT-loop
-Inv-loop height width states ids buffer₀ n cell₀ buffer cell =
-    Searched (λ c. first (innerAt (grid height width) states ids c) (Down ∷ Right ∷ [])) (height * width) buffer₀ buffer cell
+Inv-loop g states ids buffer₀ n cell₀ buffer cell =
+    Searched (λ c. first (innerAt g states ids c) forward) (g .height * g .width) buffer₀ buffer cell
 
 abbrev μ-loop : tie.MeasureT-loop
-μ-loop height width states ids buffer₀ n cell₀ buffer cell = n - cell
+μ-loop g states ids buffer₀ n cell₀ buffer cell = n - cell
 
 mul-n : tie.Need-mul-n Inv-loop μ-loop
-mul-n c = let p = c .before .before .before .pre in omega (arith, cells-le _ (p .limits))
+mul-n c = let p = c .before .before .before .before .pre in omega (arith, cells-le _ (p .limits))
 
 loop-holds : tie.Need-loop-holds Inv-loop μ-loop
 loop-holds c = searched-none _ _ _
@@ -30,7 +28,7 @@ loop-holds c = searched-none _ _ _
 inner-cell-requires : tie.Need-inner-cell-requires Inv-loop μ-loop
 inner-cell-requires c κs =
     let l = c .before .before in
-    let p = l .before .before .before .before .pre in
+    let p = l .before .before .before .before .before .pre in
     let e = ap length (l .loop .inv .same) in
     (record { limits = p .limits; states-long = p .states-long; ids-long = p .ids-long; room = omega (arith, p .room) }, c .before .loop-test .taken)
 

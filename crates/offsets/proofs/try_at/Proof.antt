@@ -4,7 +4,6 @@ use mathlib.Core.Path.{_≡_, refl, sym, ap, subst, _∙_}
 use mathlib.Core.Bool.{true, false}
 use borrow.Author.Tests.{not-true, not-false}
 use denote.Ref.{now}
-use Rattle.grid.specs.Grid.{grid}
 use Rattle.offsets.specs.declared.reach.Shift.{Shift}
 use Rattle.offsets.specs.Reach.{Reaching, reachesOf}
 use Rattle.offsets.specs.Landings.{Falling, failOf, firstFail}
@@ -13,41 +12,41 @@ use borrow.Author.Needs.{needs}
 use Rattle.offsets.proofs.try_at.Statement.{statement}
 use Rattle.offsets.proofs.try_at.Tie as tie
 
-mul-t18 : tie.Need-mul-t18
-mul-t18 c = search needs
+mul-t17 : tie.Need-mul-t17
+mul-t17 c = search needs
 
-shared-slice-read-t20 : tie.Need-shared-slice-read-t20
-shared-slice-read-t20 c = search needs
+shared-slice-read-t19 : tie.Need-shared-slice-read-t19
+shared-slice-read-t19 c = search needs
 
-mul-t21 : tie.Need-mul-t21
-mul-t21 c = search needs
+mul-t20 : tie.Need-mul-t20
+mul-t20 c = search needs
 
-shared-slice-read-t23 : tie.Need-shared-slice-read-t23
-shared-slice-read-t23 c = search needs
+shared-slice-read-t22 : tie.Need-shared-slice-read-t22
+shared-slice-read-t22 c = search needs
 
-mul-t24 : tie.Need-mul-t24
-mul-t24 c = search needs
+mul-t23 : tie.Need-mul-t23
+mul-t23 c = search needs
 
-shared-slice-read-t26 : tie.Need-shared-slice-read-t26
-shared-slice-read-t26 c = search needs
+shared-slice-read-t25 : tie.Need-shared-slice-read-t25
+shared-slice-read-t25 c = search needs
 
-mul-t27 : tie.Need-mul-t27
-mul-t27 c = search needs
+mul-t26 : tie.Need-mul-t26
+mul-t26 c = search needs
 
-shared-slice-read-t29 : tie.Need-shared-slice-read-t29
-shared-slice-read-t29 c = search needs
+shared-slice-read-t28 : tie.Need-shared-slice-read-t28
+shared-slice-read-t28 c = search needs
 
 reaches-requires : tie.Need-reaches-requires
 reaches-requires c κs =
     let s = c .before .before .before .before .before .before .before .before .before .before .before in
-    let g = grid (s .args .height) (s .args .width) in
+    let g = s .args .g in
     let e = shift-is g (now (s .args .states)) (now (s .args .ids)) (now (s .args .pids)) (s .args .unit) (s .args .first) (s .args .to) (now (s .args .cells)) (now (s .args .rows)) (now (s .args .cols)) (now (s .args .marks)) (s .pre) _ _ _ _ refl refl refl refl in
     subst (λ (z : Shift). Reaching g z (now (s .args .cells)) (now (s .args .rows)) (now (s .args .cols)) (now (s .args .ids)) (now (s .args .pids)) (now (s .args .marks))) (sym e) (reaching g (now (s .args .states)) (now (s .args .ids)) (now (s .args .pids)) (s .args .unit) (s .args .first) (s .args .to) (now (s .args .cells)) (now (s .args .rows)) (now (s .args .cols)) (now (s .args .marks)) (s .pre))
 
 returns : tie.Need-returns
 returns c =
     let s = c .before .before .before .before .before .before .before .before .before .before .before .before .before in
-    let g = grid (s .args .height) (s .args .width) in
+    let g = s .args .g in
     let e = shift-is g (now (s .args .states)) (now (s .args .ids)) (now (s .args .pids)) (s .args .unit) (s .args .first) (s .args .to) (now (s .args .cells)) (now (s .args .rows)) (now (s .args .cols)) (now (s .args .marks)) (s .pre) _ _ _ _ refl refl refl refl in
     let q = sym (ap (λ (z : Shift). reachesOf g z (s .args .unit) (now (s .args .ids)) (now (s .args .pids)) (now (s .args .marks)) (now (s .args .cells))) e) ∙ sym (c .before .reaches .ensures) ∙ not-true (c .before .reaches .result) (c .if1 .taken) in
     trial-passed g (now (s .args .states)) (now (s .args .ids)) (now (s .args .pids)) (s .args .unit) (s .args .first) (s .args .to) (now (s .args .cells)) (now (s .args .rows)) (now (s .args .cols)) (now (s .args .marks)) (s .pre) q
@@ -55,7 +54,7 @@ returns c =
 first-fail-requires : tie.Need-first-fail-requires
 first-fail-requires c κs =
     let s = c .before .before .before .before .before .before .before .before .before .before .before .before .before in
-    let g = grid (s .args .height) (s .args .width) in
+    let g = s .args .g in
     let e = shift-is g (now (s .args .states)) (now (s .args .ids)) (now (s .args .pids)) (s .args .unit) (s .args .first) (s .args .to) (now (s .args .cells)) (now (s .args .rows)) (now (s .args .cols)) (now (s .args .marks)) (s .pre) _ _ _ _ refl refl refl refl in
     let q = sym (ap (λ (z : Shift). reachesOf g z (s .args .unit) (now (s .args .ids)) (now (s .args .pids)) (now (s .args .marks)) (now (s .args .cells))) e) ∙ sym (c .before .reaches .ensures) ∙ not-false (c .before .reaches .result) (c .if1 .left) in
     subst (λ (z : Shift). Falling g z (now (s .args .states)) (now (s .args .ids)) (now (s .args .rows)) (now (s .args .cols)) (now (s .args .cells))) (sym e) (falling g (now (s .args .states)) (now (s .args .ids)) (now (s .args .pids)) (s .args .unit) (s .args .first) (s .args .to) (now (s .args .cells)) (now (s .args .rows)) (now (s .args .cols)) (now (s .args .marks)) (s .pre) q)
@@ -66,7 +65,7 @@ enum-known-inner c = search needs
 returns-2 : tie.Need-returns-2
 returns-2 c =
     let s = c .before .before .before .before .before .before .before .before .before .before .before .before .before .before .before .before .before in
-    let g = grid (s .args .height) (s .args .width) in
+    let g = s .args .g in
     let e = shift-is g (now (s .args .states)) (now (s .args .ids)) (now (s .args .pids)) (s .args .unit) (s .args .first) (s .args .to) (now (s .args .cells)) (now (s .args .rows)) (now (s .args .cols)) (now (s .args .marks)) (s .pre) _ _ _ _ refl refl refl refl in
     let q = sym (ap (λ (z : Shift). reachesOf g z (s .args .unit) (now (s .args .ids)) (now (s .args .pids)) (now (s .args .marks)) (now (s .args .cells))) e) ∙ sym (c .before .before .before .before .before .reaches .ensures) ∙ not-false (c .before .before .before .before .before .reaches .result) (c .before .before .before .before .if1 .left) in
     trial-inner g (now (s .args .states)) (now (s .args .ids)) (now (s .args .pids)) (s .args .unit) (s .args .first) (s .args .to) (now (s .args .cells)) (now (s .args .rows)) (now (s .args .cols)) (now (s .args .marks)) (s .pre) q (c .before .inner .given .0 .0) (sym (c .before .inner .given .1) ∙ c .before .before .before .first-fail .ensures ∙ ap (λ (z : Shift). failOf (firstFail g z (now (s .args .states)) (now (s .args .ids)) true (s .args .unit) (now (s .args .cells)))) e)
@@ -77,7 +76,7 @@ enum-told c = search needs
 first-fail-requires-2 : tie.Need-first-fail-requires-2
 first-fail-requires-2 c κs =
     let s = c .before .before .before .before .before .before .before .before .before .before .before .before .before .before .before .before in
-    let g = grid (s .args .height) (s .args .width) in
+    let g = s .args .g in
     let e = shift-is g (now (s .args .states)) (now (s .args .ids)) (now (s .args .pids)) (s .args .unit) (s .args .first) (s .args .to) (now (s .args .cells)) (now (s .args .rows)) (now (s .args .cols)) (now (s .args .marks)) (s .pre) _ _ _ _ refl refl refl refl in
     let q = sym (ap (λ (z : Shift). reachesOf g z (s .args .unit) (now (s .args .ids)) (now (s .args .pids)) (now (s .args .marks)) (now (s .args .cells))) e) ∙ sym (c .before .before .before .before .reaches .ensures) ∙ not-false (c .before .before .before .before .reaches .result) (c .before .before .before .if1 .left) in
     subst (λ (z : Shift). Falling g z (now (s .args .states)) (now (s .args .ids)) (now (s .args .rows)) (now (s .args .cols)) (now (s .args .cells))) (sym e) (falling g (now (s .args .states)) (now (s .args .ids)) (now (s .args .pids)) (s .args .unit) (s .args .first) (s .args .to) (now (s .args .cells)) (now (s .args .rows)) (now (s .args .cols)) (now (s .args .marks)) (s .pre) q)
@@ -88,7 +87,7 @@ enum-known-outer c = search needs
 returns-3 : tie.Need-returns-3
 returns-3 c =
     let s = c .before .before .before .before .before .before .before .before .before .before .before .before .before .before .before .before .before .before .before .before in
-    let g = grid (s .args .height) (s .args .width) in
+    let g = s .args .g in
     let e = shift-is g (now (s .args .states)) (now (s .args .ids)) (now (s .args .pids)) (s .args .unit) (s .args .first) (s .args .to) (now (s .args .cells)) (now (s .args .rows)) (now (s .args .cols)) (now (s .args .marks)) (s .pre) _ _ _ _ refl refl refl refl in
     let q = sym (ap (λ (z : Shift). reachesOf g z (s .args .unit) (now (s .args .ids)) (now (s .args .pids)) (now (s .args .marks)) (now (s .args .cells))) e) ∙ sym (c .before .before .before .before .before .before .before .before .reaches .ensures) ∙ not-false (c .before .before .before .before .before .before .before .before .reaches .result) (c .before .before .before .before .before .before .before .if1 .left) in
     let m = sym (c .before .before .before .before .enum-told .given .1) ∙ c .before .before .before .before .before .before .first-fail .ensures ∙ ap (λ (z : Shift). failOf (firstFail g z (now (s .args .states)) (now (s .args .ids)) true (s .args .unit) (now (s .args .cells)))) e in
@@ -100,7 +99,7 @@ enum-told-2 c = search needs
 returns-4 : tie.Need-returns-4
 returns-4 c =
     let s = c .before .before .before .before .before .before .before .before .before .before .before .before .before .before .before .before .before .before .before in
-    let g = grid (s .args .height) (s .args .width) in
+    let g = s .args .g in
     let e = shift-is g (now (s .args .states)) (now (s .args .ids)) (now (s .args .pids)) (s .args .unit) (s .args .first) (s .args .to) (now (s .args .cells)) (now (s .args .rows)) (now (s .args .cols)) (now (s .args .marks)) (s .pre) _ _ _ _ refl refl refl refl in
     let q = sym (ap (λ (z : Shift). reachesOf g z (s .args .unit) (now (s .args .ids)) (now (s .args .pids)) (now (s .args .marks)) (now (s .args .cells))) e) ∙ sym (c .before .before .before .before .before .before .before .reaches .ensures) ∙ not-false (c .before .before .before .before .before .before .before .reaches .result) (c .before .before .before .before .before .before .if1 .left) in
     let m = sym (c .before .before .before .enum-told .given .1) ∙ c .before .before .before .before .before .first-fail .ensures ∙ ap (λ (z : Shift). failOf (firstFail g z (now (s .args .states)) (now (s .args .ids)) true (s .args .unit) (now (s .args .cells)))) e in
@@ -110,14 +109,14 @@ pub try-at-spec : {M : Type 1} → statement M
 try-at-spec =
     tie.close
     (tie.spec
-    mul-t18
-    shared-slice-read-t20
-    mul-t21
-    shared-slice-read-t23
-    mul-t24
-    shared-slice-read-t26
-    mul-t27
-    shared-slice-read-t29
+    mul-t17
+    shared-slice-read-t19
+    mul-t20
+    shared-slice-read-t22
+    mul-t23
+    shared-slice-read-t25
+    mul-t26
+    shared-slice-read-t28
     reaches-requires
     returns
     first-fail-requires

@@ -1,7 +1,6 @@
 -- `path::list_joined` meets its contract: each case of what `list` answers. Assumes nothing.
 use denote.Ref.{now}
 use borrow.Author.Needs.{needs}
-use Rattle.grid.specs.Grid.{grid}
 use Rattle.path.specs.Path.{pathOf, pathList}
 use Rattle.path.proofs.Answers.{length-told, nothing-told}
 use Rattle.path.proofs.list_joined.Statement.{statement}
@@ -24,7 +23,7 @@ unfolding pathList
 returns c =
     let k = c .before .before .before .before in
     let s = k .before .before .before .before in
-    nothing-told (now (s .args .buffer)) _ _ (pathOf (grid (s .args .height) (s .args .width)) (now (s .args .states)) (s .args .start) (s .args .target)) _ (k .list .ensures) (c .enum-told .given .1)
+    nothing-told (now (s .args .buffer)) _ _ (pathOf (s .args .g) (now (s .args .states)) (s .args .start) (s .args .target)) _ (k .list .ensures) (c .enum-told .given .1)
 
 same-length-2 : tie.Need-same-length-2
 same-length-2 c = search needs
@@ -34,7 +33,7 @@ unfolding pathList
 returns-2 c =
     let k = c .before .before .before .before .before in
     let s = k .before .before .before .before in
-    length-told (now (s .args .buffer)) _ _ (pathOf (grid (s .args .height) (s .args .width)) (now (s .args .states)) (s .args .start) (s .args .target)) _ (k .list .ensures) (c .before .n .given .1)
+    length-told (now (s .args .buffer)) _ _ (pathOf (s .args .g) (now (s .args .states)) (s .args .start) (s .args .target)) _ (k .list .ensures) (c .before .n .given .1)
 
 pub list-joined-spec : {M : Type 1} → statement M
 list-joined-spec =

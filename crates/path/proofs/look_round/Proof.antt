@@ -2,18 +2,17 @@
 use Prim.Native.Nat.{_-_}
 use mathlib.Core.Path.{sym, _∙_}
 use native.Mathlib.Omega.{arith}
-use Rattle.grid.specs.Grid.{grid}
 use Rattle.path.specs.Path.{lookAll}
 use Rattle.path.proofs.Trace.{looks-on, Round, round-start, round-on, round-end}
 use Rattle.path.proofs.look_round.Statement.{statement}
 use Rattle.path.proofs.look_round.Tie as tie
 
 abbrev Inv-loop : tie.InvT-loop
-Inv-loop states height width cell finders₀ entries₀ queue₀ tail order end₀ i₀ finders entries queue end i =
-    Round (grid height width) states cell order finders₀ entries₀ queue₀ tail i finders entries queue end
+Inv-loop states g cell finders₀ entries₀ queue₀ tail order end₀ i₀ finders entries queue end i =
+    Round g states cell order finders₀ entries₀ queue₀ tail i finders entries queue end
 
 abbrev μ-loop : tie.MeasureT-loop
-μ-loop states height width cell finders₀ entries₀ queue₀ tail order end₀ i₀ finders entries queue end i = 4 - i
+μ-loop states g cell finders₀ entries₀ queue₀ tail order end₀ i₀ finders entries queue end i = 4 - i
 
 loop-holds : tie.Need-loop-holds Inv-loop μ-loop
 loop-holds c = round-start

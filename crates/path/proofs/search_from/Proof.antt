@@ -3,19 +3,18 @@
 use Prim.Native.Nat.{_*_, _-_}
 use mathlib.Core.Path.{sym, _∙_}
 use native.Mathlib.Omega.{arith}
-use Rattle.grid.specs.Grid.{grid}
 use Rattle.grid.proofs.Geometry.{cells-le}
 use Rattle.path.proofs.Loop.{Going, going-start, going-end, going-found, going-look, going-on, head-fits}
 use Rattle.path.proofs.search_from.Statement.{statement}
 use Rattle.path.proofs.search_from.Tie as tie
 
 abbrev Inv-loop : tie.InvT-loop
-Inv-loop states height width start target finders₀ entries₀ queue₀ head₀ tail₀ finders entries queue head tail =
-    Going (grid height width) states start target finders entries queue head tail
+Inv-loop states g start target finders₀ entries₀ queue₀ head₀ tail₀ finders entries queue head tail =
+    Going g states start target finders entries queue head tail
 
 abbrev μ-loop : tie.MeasureT-loop
-μ-loop states height width start target finders₀ entries₀ queue₀ head₀ tail₀ finders entries queue head tail =
-    height * width - head
+μ-loop states g start target finders₀ entries₀ queue₀ head₀ tail₀ finders entries queue head tail =
+    g .height * g .width - head
 
 mul-finders : tie.Need-mul-finders Inv-loop μ-loop
 mul-finders c = omega (arith, c .before .before .before .before .pre .0 .start-cell, cells-le _ (c .before .before .before .before .pre .0 .limits))

@@ -1,7 +1,6 @@
 -- `rooms::edge` meets its contract: a law of `EdgeLaws` for each way out. Assumes nothing.
 use native.Mathlib.Omega.{arith}
 use denote.Ref.{now}
-use Rattle.grid.specs.Grid.{grid}
 use Rattle.grid.proofs.Geometry.{cells-le}
 use Rattle.grid.proofs.Told.{end-told}
 use Rattle.rooms.proofs.EdgeLaws.{at-end, cell-lt, cell-fits, vertex-fits, border-fits, border-small, other-room, wall-there, edge-written}
@@ -18,17 +17,17 @@ enum-known-next c = search needs
 returns : tie.Need-returns
 returns c =
     let s = c .before .before .before .before .before .before .before .before in
-    at-end (grid (s .args .height) (s .args .width)) (now (s .args .marks)) (now (s .args .ids)) (now (s .args .vertex)) (s .args .room) (s .args .cell) (s .args .direction) (now (s .args .us)) (now (s .args .vs)) (now (s .args .borders)) (s .args .m) (end-told _ _ _ (c .before .step .ensures) (c .match .keys2))
+    at-end (s .args .g) (now (s .args .marks)) (now (s .args .ids)) (now (s .args .vertex)) (s .args .room) (s .args .cell) (s .args .direction) (now (s .args .us)) (now (s .args .vs)) (now (s .args .borders)) (s .args .m) (end-told _ _ _ (c .before .step .ensures) (c .match .keys2))
 
 mul-wide : tie.Need-mul-wide
 mul-wide c =
     let s = c .before .before .before .before .before .before .before .before .before .before in
-    omega (arith, cells-le _ (s .pre .0 .limits), cell-lt (grid (s .args .height) (s .args .width)) (now (s .args .marks)) (now (s .args .ids)) (now (s .args .vertex)) (s .args .room) (s .args .cell) (s .args .direction) (now (s .args .us)) (now (s .args .vs)) (now (s .args .borders)) (s .args .m) (s .pre .0) (s .pre .1 .0 .0) (s .pre .1 .0 .1) (c .before .before .before .step .ensures) (c .before .next .given .1))
+    omega (arith, cells-le _ (s .pre .0 .limits), cell-lt (s .args .g) (now (s .args .marks)) (now (s .args .ids)) (now (s .args .vertex)) (s .args .room) (s .args .cell) (s .args .direction) (now (s .args .us)) (now (s .args .vs)) (now (s .args .borders)) (s .args .m) (s .pre .0) (s .pre .1 .0 .0) (s .pre .1 .0 .1) (c .before .before .before .step .ensures) (c .before .next .given .1))
 
 shared-slice-read-wide : tie.Need-shared-slice-read-wide
 shared-slice-read-wide c =
     let s = c .before .before .before .before .before .before .before .before .before .before .before in
-    cell-fits (grid (s .args .height) (s .args .width)) (now (s .args .marks)) (now (s .args .ids)) (now (s .args .vertex)) (s .args .room) (s .args .cell) (s .args .direction) (now (s .args .us)) (now (s .args .vs)) (now (s .args .borders)) (s .args .m) (s .pre .0) (s .pre .1 .0 .0) (s .pre .1 .0 .1) (c .before .before .before .before .step .ensures) (c .before .before .next .given .1)
+    cell-fits (s .args .g) (now (s .args .marks)) (now (s .args .ids)) (now (s .args .vertex)) (s .args .room) (s .args .cell) (s .args .direction) (now (s .args .us)) (now (s .args .vs)) (now (s .args .borders)) (s .args .m) (s .pre .0) (s .pre .1 .0 .0) (s .pre .1 .0 .1) (c .before .before .before .before .step .ensures) (c .before .before .next .given .1)
 
 wide-requires : tie.Need-wide-requires
 wide-requires c κs = search needs
@@ -36,17 +35,17 @@ wide-requires c κs = search needs
 returns-2 : tie.Need-returns-2
 returns-2 c =
     let s = c .before .before .before .before .before .before .before .before .before .before .before .before .before in
-    other-room (grid (s .args .height) (s .args .width)) (now (s .args .marks)) (now (s .args .ids)) (now (s .args .vertex)) (s .args .room) (s .args .cell) (s .args .direction) (now (s .args .us)) (now (s .args .vs)) (now (s .args .borders)) (s .args .m) (s .pre .0) (s .pre .1 .0 .0) (s .pre .1 .0 .1) (c .before .before .before .before .before .before .step .ensures) (c .before .before .before .before .next .given .1) (rw (c .before .wide .ensures) at (c .if1 .taken))
+    other-room (s .args .g) (now (s .args .marks)) (now (s .args .ids)) (now (s .args .vertex)) (s .args .room) (s .args .cell) (s .args .direction) (now (s .args .us)) (now (s .args .vs)) (now (s .args .borders)) (s .args .m) (s .pre .0) (s .pre .1 .0 .0) (s .pre .1 .0 .1) (c .before .before .before .before .before .before .step .ensures) (c .before .before .before .before .next .given .1) (rw (c .before .wide .ensures) at (c .if1 .taken))
 
 shared-slice-read-if2 : tie.Need-shared-slice-read-if2
 shared-slice-read-if2 c =
     let s = c .before .before .before .before .before .before .before .before .before .before .before .before .before .before in
-    border-fits (grid (s .args .height) (s .args .width)) (now (s .args .marks)) (now (s .args .ids)) (now (s .args .vertex)) (s .args .room) (s .args .cell) (s .args .direction) (now (s .args .us)) (now (s .args .vs)) (now (s .args .borders)) (s .args .m) (s .pre .0) (s .pre .1 .0 .0) (s .pre .1 .0 .1) (c .before .before .before .before .before .before .before .step .ensures) (c .before .before .before .before .before .next .given .1)
+    border-fits (s .args .g) (now (s .args .marks)) (now (s .args .ids)) (now (s .args .vertex)) (s .args .room) (s .args .cell) (s .args .direction) (now (s .args .us)) (now (s .args .vs)) (now (s .args .borders)) (s .args .m) (s .pre .0) (s .pre .1 .0 .0) (s .pre .1 .0 .1) (c .before .before .before .before .before .before .before .step .ensures) (c .before .before .before .before .before .next .given .1)
 
 returns-3 : tie.Need-returns-3
 returns-3 c =
     let s = c .before .before .before .before .before .before .before .before .before .before .before .before .before .before .before in
-    wall-there (grid (s .args .height) (s .args .width)) (now (s .args .marks)) (now (s .args .ids)) (now (s .args .vertex)) (s .args .room) (s .args .cell) (s .args .direction) (now (s .args .us)) (now (s .args .vs)) (now (s .args .borders)) (s .args .m) (s .pre .0) (s .pre .1 .0 .0) (s .pre .1 .0 .1) (c .before .before .before .before .before .before .before .before .step .ensures) (c .before .before .before .before .before .before .next .given .1) (rw (c .before .before .before .wide .ensures) at (c .before .before .if1 .left)) (c .if2 .taken)
+    wall-there (s .args .g) (now (s .args .marks)) (now (s .args .ids)) (now (s .args .vertex)) (s .args .room) (s .args .cell) (s .args .direction) (now (s .args .us)) (now (s .args .vs)) (now (s .args .borders)) (s .args .m) (s .pre .0) (s .pre .1 .0 .0) (s .pre .1 .0 .1) (c .before .before .before .before .before .before .before .before .step .ensures) (c .before .before .before .before .before .before .next .given .1) (rw (c .before .before .before .wide .ensures) at (c .before .before .if1 .left)) (c .if2 .taken)
 
 mul-us : tie.Need-mul-us
 mul-us c = search needs
@@ -63,12 +62,12 @@ slice-write-us c = search needs
 mul-vs : tie.Need-mul-vs
 mul-vs c =
     let s = c .before .before .before .before .before .before .before .before .before .before .before .before .before .before .before .before in
-    omega (arith, cells-le _ (s .pre .0 .limits), cell-lt (grid (s .args .height) (s .args .width)) (now (s .args .marks)) (now (s .args .ids)) (now (s .args .vertex)) (s .args .room) (s .args .cell) (s .args .direction) (now (s .args .us)) (now (s .args .vs)) (now (s .args .borders)) (s .args .m) (s .pre .0) (s .pre .1 .0 .0) (s .pre .1 .0 .1) (c .before .before .before .before .before .before .before .before .before .step .ensures) (c .before .before .before .before .before .before .before .next .given .1))
+    omega (arith, cells-le _ (s .pre .0 .limits), cell-lt (s .args .g) (now (s .args .marks)) (now (s .args .ids)) (now (s .args .vertex)) (s .args .room) (s .args .cell) (s .args .direction) (now (s .args .us)) (now (s .args .vs)) (now (s .args .borders)) (s .args .m) (s .pre .0) (s .pre .1 .0 .0) (s .pre .1 .0 .1) (c .before .before .before .before .before .before .before .before .before .step .ensures) (c .before .before .before .before .before .before .before .next .given .1))
 
 shared-slice-read-vs : tie.Need-shared-slice-read-vs
 shared-slice-read-vs c =
     let s = c .before .before .before .before .before .before .before .before .before .before .before .before .before .before .before .before .before in
-    vertex-fits (grid (s .args .height) (s .args .width)) (now (s .args .marks)) (now (s .args .ids)) (now (s .args .vertex)) (s .args .room) (s .args .cell) (s .args .direction) (now (s .args .us)) (now (s .args .vs)) (now (s .args .borders)) (s .args .m) (s .pre .0) (s .pre .1 .0 .0) (s .pre .1 .0 .1) (c .before .before .before .before .before .before .before .before .before .before .step .ensures) (c .before .before .before .before .before .before .before .before .next .given .1)
+    vertex-fits (s .args .g) (now (s .args .marks)) (now (s .args .ids)) (now (s .args .vertex)) (s .args .room) (s .args .cell) (s .args .direction) (now (s .args .us)) (now (s .args .vs)) (now (s .args .borders)) (s .args .m) (s .pre .0) (s .pre .1 .0 .0) (s .pre .1 .0 .1) (c .before .before .before .before .before .before .before .before .before .before .step .ensures) (c .before .before .before .before .before .before .before .before .next .given .1)
 
 mul-vs-2 : tie.Need-mul-vs-2
 mul-vs-2 c = search needs
@@ -79,7 +78,7 @@ slice-write-vs c = search needs
 cast-borders : tie.Need-cast-borders
 cast-borders c =
     let s = c .before .before .before .before .before .before .before .before .before .before .before .before .before .before .before .before .before in
-    omega (arith, border-small (grid (s .args .height) (s .args .width)) (now (s .args .marks)) (now (s .args .ids)) (now (s .args .vertex)) (s .args .room) (s .args .cell) (s .args .direction) (now (s .args .us)) (now (s .args .vs)) (now (s .args .borders)) (s .args .m) (s .pre .0) (s .pre .1 .0 .0) (s .pre .1 .0 .1) (c .before .before .before .before .before .before .before .before .before .before .step .ensures) (c .before .before .before .before .before .before .before .before .next .given .1))
+    omega (arith, border-small (s .args .g) (now (s .args .marks)) (now (s .args .ids)) (now (s .args .vertex)) (s .args .room) (s .args .cell) (s .args .direction) (now (s .args .us)) (now (s .args .vs)) (now (s .args .borders)) (s .args .m) (s .pre .0) (s .pre .1 .0 .0) (s .pre .1 .0 .1) (c .before .before .before .before .before .before .before .before .before .before .step .ensures) (c .before .before .before .before .before .before .before .before .next .given .1))
 
 mul-borders : tie.Need-mul-borders
 mul-borders c = search needs
@@ -102,7 +101,7 @@ same-length-3 c = search needs
 returns-4 : tie.Need-returns-4
 returns-4 c =
     let s = c .before .before .before .before .before .before .before .before .before .before .before .before .before .before .before .before .before in
-    edge-written (grid (s .args .height) (s .args .width)) (now (s .args .marks)) (now (s .args .ids)) (now (s .args .vertex)) (s .args .room) (s .args .cell) (s .args .direction) (now (s .args .us)) (now (s .args .vs)) (now (s .args .borders)) (s .args .m) (s .pre .0) (s .pre .1 .0 .0) (s .pre .1 .0 .1) (c .before .before .before .before .before .before .before .before .before .before .step .ensures) (c .before .before .before .before .before .before .before .before .next .given .1) (rw (c .before .before .before .before .before .wide .ensures) at (c .before .before .before .before .if1 .left)) (c .before .before .if2 .left)
+    edge-written (s .args .g) (now (s .args .marks)) (now (s .args .ids)) (now (s .args .vertex)) (s .args .room) (s .args .cell) (s .args .direction) (now (s .args .us)) (now (s .args .vs)) (now (s .args .borders)) (s .args .m) (s .pre .0) (s .pre .1 .0 .0) (s .pre .1 .0 .1) (c .before .before .before .before .before .before .before .before .before .before .step .ensures) (c .before .before .before .before .before .before .before .before .next .given .1) (rw (c .before .before .before .before .before .wide .ensures) at (c .before .before .before .before .if1 .left)) (c .before .before .if2 .left)
 
 pub edge-spec : {M : Type 1} → statement M
 edge-spec =

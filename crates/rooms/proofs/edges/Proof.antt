@@ -5,7 +5,6 @@ use native.Mathlib.Omega.{arith}
 use borrow.Author.Needs.{needs}
 use denote.Ref.{now}
 use lib.ListN.{length, getD}
-use Rattle.grid.specs.Grid.{grid}
 use Rattle.grid.specs.declared.Direction.the-variants.{Down}
 use Rattle.grid.proofs.Geometry.{cells-le}
 use Rattle.boundary.proofs.BoundaryLaws.{cells-most}
@@ -16,11 +15,11 @@ use Rattle.rooms.proofs.edges.Statement.{statement}
 use Rattle.rooms.proofs.edges.Tie as tie
 
 abbrev Inv-loop : tie.InvT-loop
-Inv-loop height width marks ids vertex cells room us₀ vs₀ borders₀ m₀ i₀ us vs borders m i =
-    Writing (grid height width) (markedIn marks) ids room us₀ vs₀ borders₀ us vs borders m i
+Inv-loop g marks ids vertex cells room us₀ vs₀ borders₀ m₀ i₀ us vs borders m i =
+    Writing g (markedIn marks) ids room us₀ vs₀ borders₀ us vs borders m i
 
 abbrev μ-loop : tie.MeasureT-loop
-μ-loop height width marks ids vertex cells room us₀ vs₀ borders₀ m₀ i₀ us vs borders m i = length cells - i
+μ-loop g marks ids vertex cells room us₀ vs₀ borders₀ m₀ i₀ us vs borders m i = length cells - i
 
 loop-holds : tie.Need-loop-holds Inv-loop μ-loop
 loop-holds c = writing-none _ _ _ _ _ _ _
@@ -38,29 +37,29 @@ edge-requires : tie.Need-edge-requires Inv-loop μ-loop
 edge-requires c κs =
     let s = c .before .before .before .before .before .before .before .before .before .before .before .before .before .before in
     let a = c .before .before .before .before .before .before in
-    let g = grid (s .args .height) (s .args .width) in
+    let g = s .args .g in
     let cs = cellsOf g (now (s .args .ids)) (s .args .room) in
     let h : a .loop .i < length cs = rw (s .pre .1 .0) at (c .before .before .before .before .before .loop-test .taken) in
     let e : c .before .before .before .wide .result ≡ getD cs (a .loop .i) 0 = c .before .before .before .wide .ensures ∙ ap (λ l. getD l (a .loop .i) 0) (s .pre .1 .0) in
-    let o = writing-cell (grid (s .args .height) (s .args .width)) (markedIn (now (s .args .marks))) (now (s .args .ids)) (s .args .room) _ _ _ _ _ _ (a .loop .m) (a .loop .i) (a .loop .inv) h in
-    (s .pre .0, ((rw e (o .0), rw e (o .1)), space-first (grid (s .args .height) (s .args .width)) (markedIn (now (s .args .marks))) (now (s .args .ids)) (s .args .room) _ _ _ _ _ _ (a .loop .m) (a .loop .i) (a .loop .inv) h (cells-le g (s .pre .0 .limits)) (s .pre .1 .1)))
+    let o = writing-cell (s .args .g) (markedIn (now (s .args .marks))) (now (s .args .ids)) (s .args .room) _ _ _ _ _ _ (a .loop .m) (a .loop .i) (a .loop .inv) h in
+    (s .pre .0, ((rw e (o .0), rw e (o .1)), space-first (s .args .g) (markedIn (now (s .args .marks))) (now (s .args .ids)) (s .args .room) _ _ _ _ _ _ (a .loop .m) (a .loop .i) (a .loop .inv) h (cells-le g (s .pre .0 .limits)) (s .pre .1 .1)))
 
 edge-requires-2 : tie.Need-edge-requires-2 Inv-loop μ-loop
 edge-requires-2 c κs =
     let s = c .before .before .before .before .before .before .before .before .before .before .before .before .before .before .before .before .before .before .before .before .before .before .before .before in
     let a = c .before .before .before .before .before .before .before .before .before .before .before .before .before .before .before .before in
-    let g = grid (s .args .height) (s .args .width) in
+    let g = s .args .g in
     let cs = cellsOf g (now (s .args .ids)) (s .args .room) in
     let h : a .loop .i < length cs = rw (s .pre .1 .0) at (c .before .before .before .before .before .before .before .before .before .before .before .before .before .before .before .loop-test .taken) in
     let e : c .before .before .before .before .before .before .before .before .before .before .before .before .before .wide .result ≡ getD cs (a .loop .i) 0 = c .before .before .before .before .before .before .before .before .before .before .before .before .before .wide .ensures ∙ ap (λ l. getD l (a .loop .i) 0) (s .pre .1 .0) in
-    let o = writing-cell (grid (s .args .height) (s .args .width)) (markedIn (now (s .args .marks))) (now (s .args .ids)) (s .args .room) _ _ _ _ _ _ (a .loop .m) (a .loop .i) (a .loop .inv) h in
-    (s .pre .0, ((rw e (o .0), rw e (o .1)), space-second (grid (s .args .height) (s .args .width)) (markedIn (now (s .args .marks))) (now (s .args .ids)) (s .args .room) _ _ _ _ _ _ (a .loop .m) (a .loop .i) (a .loop .inv) h (cells-le g (s .pre .0 .limits)) (s .pre .1 .1) (c .before .before .before .before .before .before .before .before .before .before .before .before .before .wide .result) Down _ _ _ _ (c .before .before .before .before .before .before .before .before .before .edge .ensures)))
+    let o = writing-cell (s .args .g) (markedIn (now (s .args .marks))) (now (s .args .ids)) (s .args .room) _ _ _ _ _ _ (a .loop .m) (a .loop .i) (a .loop .inv) h in
+    (s .pre .0, ((rw e (o .0), rw e (o .1)), space-second (s .args .g) (markedIn (now (s .args .marks))) (now (s .args .ids)) (s .args .room) _ _ _ _ _ _ (a .loop .m) (a .loop .i) (a .loop .inv) h (cells-le g (s .pre .0 .limits)) (s .pre .1 .1) (c .before .before .before .before .before .before .before .before .before .before .before .before .before .wide .result) Down _ _ _ _ (c .before .before .before .before .before .before .before .before .before .edge .ensures)))
 
 add-i : tie.Need-add-i Inv-loop μ-loop
 add-i c =
     let s = c .before .before .before .before .before .before .before .before .before .before .before .before .before .before .before .before .before .before .before .before .before .before .before .before .before .before .before .before .before .before .before in
     let a = c .before .before .before .before .before .before .before .before .before .before .before .before .before .before .before .before .before .before .before .before .before .before .before in
-    let g = grid (s .args .height) (s .args .width) in
+    let g = s .args .g in
     let h : a .loop .i < length (cellsOf g (now (s .args .ids)) (s .args .room)) = rw (s .pre .1 .0) at (c .before .before .before .before .before .before .before .before .before .before .before .before .before .before .before .before .before .before .before .before .before .before .loop-test .taken) in
     omega (arith, cells-most g (now (s .args .ids)) (s .args .room), cells-le g (s .pre .0 .limits))
 
@@ -71,11 +70,11 @@ loop-again : tie.Need-loop-again Inv-loop μ-loop
 loop-again c =
     let s = c .before .before .before .before .before .before .before .before .before .before .before .before .before .before .before .before .before .before .before .before .before .before .before .before .before .before .before .before .before .before .before in
     let a = c .before .before .before .before .before .before .before .before .before .before .before .before .before .before .before .before .before .before .before .before .before .before .before in
-    let g = grid (s .args .height) (s .args .width) in
+    let g = s .args .g in
     let cs = cellsOf g (now (s .args .ids)) (s .args .room) in
     let h : a .loop .i < length cs = rw (s .pre .1 .0) at (c .before .before .before .before .before .before .before .before .before .before .before .before .before .before .before .before .before .before .before .before .before .before .loop-test .taken) in
     let e : c .before .before .before .before .before .before .before .before .before .before .before .before .before .before .before .before .before .before .before .before .wide .result ≡ getD cs (a .loop .i) 0 = c .before .before .before .before .before .before .before .before .before .before .before .before .before .before .before .before .before .before .before .before .wide .ensures ∙ ap (λ l. getD l (a .loop .i) 0) (s .pre .1 .0) in
-    writing-turn (grid (s .args .height) (s .args .width)) (markedIn (now (s .args .marks))) (now (s .args .ids)) (s .args .room) _ _ _ _ _ _ (a .loop .m) (a .loop .i) (a .loop .inv) h _ _ _ _ _ _ _ _ (rw e at (c .before .before .before .before .before .before .before .before .before .before .before .before .before .before .before .before .edge .ensures)) (rw e at (c .before .before .before .before .before .before .edge2 .ensures))
+    writing-turn (s .args .g) (markedIn (now (s .args .marks))) (now (s .args .ids)) (s .args .room) _ _ _ _ _ _ (a .loop .m) (a .loop .i) (a .loop .inv) h _ _ _ _ _ _ _ _ (rw e at (c .before .before .before .before .before .before .before .before .before .before .before .before .before .before .before .before .edge .ensures)) (rw e at (c .before .before .before .before .before .before .edge2 .ensures))
 
 same-length : tie.Need-same-length Inv-loop μ-loop
 same-length c = c .before .loop .inv .us-long
@@ -90,7 +89,7 @@ returns : tie.Need-returns Inv-loop μ-loop
 returns c =
     let s = c .before .before .before .before .before .before .before .before .before in
     let a = c .before in
-    writing-all (grid (s .args .height) (s .args .width)) (markedIn (now (s .args .marks))) (now (s .args .ids)) (s .args .room) _ _ _ _ _ _ (a .loop .m) (a .loop .i) (a .loop .inv) (rw (s .pre .1 .0) at (c .loop-test .left))
+    writing-all (s .args .g) (markedIn (now (s .args .marks))) (now (s .args .ids)) (s .args .room) _ _ _ _ _ _ (a .loop .m) (a .loop .i) (a .loop .inv) (rw (s .pre .1 .0) at (c .loop-test .left))
 
 pub edges-spec : {M : Type 1} → statement M
 edges-spec =

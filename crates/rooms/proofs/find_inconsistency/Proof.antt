@@ -6,7 +6,6 @@ use native.Mathlib.Omega.{arith}
 use denote.Ref.{now}
 use lib.ListN.{length, take}
 use lib.Seq.{length-sets}
-use Rattle.grid.specs.Grid.{grid}
 use Rattle.borders.specs.Border.{stateOf}
 use Rattle.city_count.proofs.RoomLaws.{nothing-found}
 use Rattle.rooms.specs.Lent.{blank, markedIn}
@@ -40,7 +39,7 @@ unfolding blank
 edge-states-requires c κs =
     let s = c .before .before .before .before .before .before .before .before .before .before .before .before .before .before .before in
     let e = c .before .before .before .before .before in
-    (borders-below (grid (s .args .height) (s .args .width)) (s .pre .0 .limits) (markedIn (now (s .args .marks))) (now (s .args .ids)) (s .args .room) blank blank blank _ _ _ (e .edges .result) (e .edges .ensures) blank-space _ (s .pre .1 .1 .0), omega (arith, few (grid (s .args .height) (s .args .width)) (s .pre .0 .limits) (markedIn (now (s .args .marks))) (now (s .args .ids)) (s .args .room) blank blank blank _ _ _ (e .edges .result) (e .edges .ensures) blank-space))
+    (borders-below (s .args .g) (s .pre .0 .limits) (markedIn (now (s .args .marks))) (now (s .args .ids)) (s .args .room) blank blank blank _ _ _ (e .edges .result) (e .edges .ensures) blank-space _ (s .pre .1 .1 .0), omega (arith, few (s .args .g) (s .pre .0 .limits) (markedIn (now (s .args .marks))) (now (s .args .ids)) (s .args .room) blank blank blank _ _ _ (e .edges .result) (e .edges .ensures) blank-space))
 
 slice-aggregate-find-inconsistency : tie.Need-slice-aggregate-find-inconsistency
 slice-aggregate-find-inconsistency c = search needs
@@ -58,7 +57,7 @@ find-inconsistency-requires c κs =
     let e = c .before .before .before .before .before .before .before .before .before .before .before in
     let h = c .before .before .before .before .before in
     let long = ap length (h .edge-states .ensures) ∙ length-sets blank 0 (map (stateOf (now (s .args .states))) (take (e .edges .result) _)) in
-    (rw (s .pre .1 .0) (array-lent (grid (s .args .height) (s .args .width)) (s .pre .0 .limits) (markedIn (now (s .args .marks))) (now (s .args .ids)) (s .args .room) blank blank blank _ _ _ (e .edges .result) (e .edges .ensures) blank-space _ (omega (arith, long, blank-length))), omega (arith, few-borders (grid (s .args .height) (s .args .width)) (s .pre .0 .limits) (markedIn (now (s .args .marks))) (now (s .args .ids)) (s .args .room) blank blank blank _ _ _ (e .edges .result) (e .edges .ensures) blank-space, s .pre .1 .1 .1))
+    (rw (s .pre .1 .0) (array-lent (s .args .g) (s .pre .0 .limits) (markedIn (now (s .args .marks))) (now (s .args .ids)) (s .args .room) blank blank blank _ _ _ (e .edges .result) (e .edges .ensures) blank-space _ (omega (arith, long, blank-length))), omega (arith, few-borders (s .args .g) (s .pre .0 .limits) (markedIn (now (s .args .marks))) (now (s .args .ids)) (s .args .room) blank blank blank _ _ _ (e .edges .result) (e .edges .ensures) blank-space, s .pre .1 .1 .1))
 
 enum-known-found : tie.Need-enum-known-found
 enum-known-found c = search needs
@@ -77,7 +76,7 @@ returns c =
     let h = c .before .before .before .before .before .before .before .before .before .before in
     let f = c .before .before .before .before in
     let r = rw (s .pre .1 .0) at (f .find-inconsistency .ensures) in
-    clear-room (grid (s .args .height) (s .args .width)) (s .pre .0 .limits) (markedIn (now (s .args .marks))) (now (s .args .ids)) (s .args .room) blank blank blank _ _ _ (e .edges .result) (e .edges .ensures) blank-space (s .args .count) (now (s .args .states)) blank _ (omega (arith, blank-length)) (h .edge-states .ensures) (now (s .args .buf)) _ (found-none _ (sym (nothing-found (f .find-inconsistency .result) (c .before .match .keys2)) ∙ r .0)) (r .1)
+    clear-room (s .args .g) (s .pre .0 .limits) (markedIn (now (s .args .marks))) (now (s .args .ids)) (s .args .room) blank blank blank _ _ _ (e .edges .result) (e .edges .ensures) blank-space (s .args .count) (now (s .args .states)) blank _ (omega (arith, blank-length)) (h .edge-states .ensures) (now (s .args .buf)) _ (found-none _ (sym (nothing-found (f .find-inconsistency .result) (c .before .match .keys2)) ∙ r .0)) (r .1)
 
 slice-aggregate-on-board : tie.Need-slice-aggregate-on-board
 slice-aggregate-on-board c = search needs
@@ -91,7 +90,7 @@ on-board-requires c κs =
     let f = c .before .before .before .before .before .before .before in
     let r = rw (s .pre .1 .0) at (f .find-inconsistency .ensures) in
     let o = found-some _ (c .before .before .before .found .given .0 .0) (sym (c .before .before .before .found .given .1) ∙ r .0) in
-    rw (o .2) (entries-listed (grid (s .args .height) (s .args .width)) (s .pre .0 .limits) (markedIn (now (s .args .marks))) (now (s .args .ids)) (s .args .room) blank blank blank _ _ _ (e .edges .result) (e .edges .ensures) blank-space (s .args .count) (now (s .args .states)) blank _ (omega (arith, blank-length)) (h .edge-states .ensures) (o .0) (o .1) (now (s .args .buf)) _ (r .1) (omega (arith, few-borders (grid (s .args .height) (s .args .width)) (s .pre .0 .limits) (markedIn (now (s .args .marks))) (now (s .args .ids)) (s .args .room) blank blank blank _ _ _ (e .edges .result) (e .edges .ensures) blank-space, s .pre .1 .1 .1)) blank-at)
+    rw (o .2) (entries-listed (s .args .g) (s .pre .0 .limits) (markedIn (now (s .args .marks))) (now (s .args .ids)) (s .args .room) blank blank blank _ _ _ (e .edges .result) (e .edges .ensures) blank-space (s .args .count) (now (s .args .states)) blank _ (omega (arith, blank-length)) (h .edge-states .ensures) (o .0) (o .1) (now (s .args .buf)) _ (r .1) (omega (arith, few-borders (s .args .g) (s .pre .0 .limits) (markedIn (now (s .args .marks))) (now (s .args .ids)) (s .args .room) blank blank blank _ _ _ (e .edges .result) (e .edges .ensures) blank-space, s .pre .1 .1 .1)) blank-at)
 
 same-length-2 : tie.Need-same-length-2
 same-length-2 c = search needs
@@ -105,7 +104,7 @@ returns-2 c =
     let f = c .before .before .before .before .before .before .before .before .before .before in
     let r = rw (s .pre .1 .0) at (f .find-inconsistency .ensures) in
     let o = found-some _ (c .before .before .before .before .before .before .found .given .0 .0) (sym (c .before .before .before .before .before .before .found .given .1) ∙ r .0) in
-    rw (o .2) (room-listed (grid (s .args .height) (s .args .width)) (s .pre .0 .limits) (markedIn (now (s .args .marks))) (now (s .args .ids)) (s .args .room) blank blank blank _ _ _ (e .edges .result) (e .edges .ensures) blank-space (s .args .count) (now (s .args .states)) blank _ (omega (arith, blank-length)) (h .edge-states .ensures) (o .0) (o .1) (now (s .args .buf)) _ (r .1) (omega (arith, few-borders (grid (s .args .height) (s .args .width)) (s .pre .0 .limits) (markedIn (now (s .args .marks))) (now (s .args .ids)) (s .args .room) blank blank blank _ _ _ (e .edges .result) (e .edges .ensures) blank-space, s .pre .1 .1 .1)) blank-at _ (rw (o .2) at (c .before .before .on-board .ensures)))
+    rw (o .2) (room-listed (s .args .g) (s .pre .0 .limits) (markedIn (now (s .args .marks))) (now (s .args .ids)) (s .args .room) blank blank blank _ _ _ (e .edges .result) (e .edges .ensures) blank-space (s .args .count) (now (s .args .states)) blank _ (omega (arith, blank-length)) (h .edge-states .ensures) (o .0) (o .1) (now (s .args .buf)) _ (r .1) (omega (arith, few-borders (s .args .g) (s .pre .0 .limits) (markedIn (now (s .args .marks))) (now (s .args .ids)) (s .args .room) blank blank blank _ _ _ (e .edges .result) (e .edges .ensures) blank-space, s .pre .1 .1 .1)) blank-at _ (rw (o .2) at (c .before .before .on-board .ensures)))
 
 pub find-inconsistency-spec : {M : Type 1} → statement M
 find-inconsistency-spec =

@@ -1,7 +1,6 @@
 -- `rooms::rooms_of` meets its contract: the rooms are the potential units of a board with the given walls alone. Assumes nothing.
 use borrow.Author.Needs.{needs}
 use denote.Ref.{now}
-use Rattle.grid.specs.Grid.{grid}
 use Rattle.rooms.specs.Lent.{unmarked}
 use Rattle.rooms.proofs.PutLaws.{walls-fit, marks-fit, roomed}
 use Rattle.rooms.proofs.rooms_of.Statement.{statement}
@@ -14,7 +13,7 @@ put-requires : tie.Need-put-requires
 unfolding unmarked
 put-requires c κs =
     let s = c .before .before .before .before .before in
-    walls-fit (grid (s .args .height) (s .args .width)) (now (s .args .given)) (s .args .len) (s .pre .0)
+    walls-fit (s .args .g) (now (s .args .given)) (s .args .len) (s .pre .0)
 
 slice-aggregate-groups-of : tie.Need-slice-aggregate-groups-of
 slice-aggregate-groups-of c = search needs
@@ -23,7 +22,7 @@ groups-of-requires : tie.Need-groups-of-requires
 unfolding unmarked
 groups-of-requires c κs =
     let s = c .before .before .before .before .before .before .before .before .before .before .before in
-    (rw (c .before .before .before .before .before .put .ensures) (marks-fit (grid (s .args .height) (s .args .width)) (now (s .args .given)) (s .args .len) (s .pre .0) 2), s .pre .1)
+    (rw (c .before .before .before .before .before .put .ensures) (marks-fit (s .args .g) (now (s .args .given)) (s .args .len) (s .pre .0) 2), s .pre .1)
 
 same-length : tie.Need-same-length
 same-length c = search needs
@@ -39,7 +38,7 @@ unfolding unmarked
 returns c =
     let s = c .before .before .before .before .before .before .before .before .before .before .before .before .before .before .before .before .before .before in
     let o = c .before .before .before .before .before .before in
-    roomed (grid (s .args .height) (s .args .width)) (now (s .args .given)) (s .args .len) (s .pre .0) _ _ _ _ _ _ (o .groups-of .result)
+    roomed (s .args .g) (now (s .args .given)) (s .args .len) (s .pre .0) _ _ _ _ _ _ (o .groups-of .result)
     (rw (o .before .before .before .before .before .before .put .ensures) at (o .groups-of .ensures))
 
 pub rooms-of-spec : {M : Type 1} → statement M

@@ -5,7 +5,6 @@ use mathlib.Core.Path.{_≡_, refl, ap, _∙_}
 use native.Mathlib.Omega.{arith}
 use borrow.Author.Needs.{needs}
 use lib.ListN.{length}
-use Rattle.grid.specs.Grid.{grid}
 use Rattle.grid.proofs.Geometry.{cells-le}
 use Rattle.shape.specs.Shape.{unitFault}
 use Rattle.adjacency.specs.Adjacency.{Unmarked}
@@ -15,11 +14,11 @@ use Rattle.unit_check.proofs.check_all.Statement.{statement}
 use Rattle.unit_check.proofs.check_all.Tie as tie
 
 abbrev Inv-loop : tie.InvT-loop
-Inv-loop height width states ids starts flat count rows cols pids pstarts pflat pcount nstarts near marks₀ failed₀ buffer₀ unit₀ marks failed buffer unit =
-    Searched (unitFault (grid height width) states ids pids pcount) count buffer₀ buffer unit × Unmarked marks × (length marks ≡ length marks₀) × (length failed ≡ length failed₀)
+Inv-loop g states ids starts flat count rows cols pids pstarts pflat pcount nstarts near marks₀ failed₀ buffer₀ unit₀ marks failed buffer unit =
+    Searched (unitFault g states ids pids pcount) count buffer₀ buffer unit × Unmarked marks × (length marks ≡ length marks₀) × (length failed ≡ length failed₀)
 
 abbrev μ-loop : tie.MeasureT-loop
-μ-loop height width states ids starts flat count rows cols pids pstarts pflat pcount nstarts near marks₀ failed₀ buffer₀ unit₀ marks failed buffer unit = count - unit
+μ-loop g states ids starts flat count rows cols pids pstarts pflat pcount nstarts near marks₀ failed₀ buffer₀ unit₀ marks failed buffer unit = count - unit
 
 loop-holds : tie.Need-loop-holds Inv-loop μ-loop
 loop-holds c = (searched-none _ _ _, c .before .before .before .before .before .before .before .before .before .before .before .before .before .before .pre .1, refl, refl)
@@ -39,14 +38,14 @@ same-length c =
     let k = c .before .before .before .before .before .before .before .before .before in
     let i = k .before .before .before .before in
     let l = i .before in
-    (k .check-unit .kept .1 .1 .1 .1 .1 .1 .1 .1 .1 .1 .1 .1 .1 .1 .1 .1 .0) ∙ l .loop .inv .2
+    (k .check-unit .kept .1 .1 .1 .1 .1 .1 .1 .1 .1 .1 .1 .1 .1 .1 .1 .0) ∙ l .loop .inv .2
 
 same-length-2 : tie.Need-same-length-2 Inv-loop μ-loop
 same-length-2 c =
     let k = c .before .before .before .before .before .before .before .before .before in
     let i = k .before .before .before .before in
     let l = i .before in
-    (k .check-unit .kept .1 .1 .1 .1 .1 .1 .1 .1 .1 .1 .1 .1 .1 .1 .1 .1 .1 .0) ∙ l .loop .inv .3
+    (k .check-unit .kept .1 .1 .1 .1 .1 .1 .1 .1 .1 .1 .1 .1 .1 .1 .1 .1 .0) ∙ l .loop .inv .3
 
 same-length-3 : tie.Need-same-length-3 Inv-loop μ-loop
 same-length-3 c =
@@ -80,7 +79,7 @@ loop-again c =
     let k = c .before .before .before .before .before .before .before .before in
     let i = k .before .before .before .before in
     let l = i .before in
-    (search-on _ _ (l .loop .inv .0) (i .loop-test .taken) (k .check-unit .ensures .0) (c .enum-told .given .1), k .check-unit .ensures .1, (k .check-unit .kept .1 .1 .1 .1 .1 .1 .1 .1 .1 .1 .1 .1 .1 .1 .1 .1 .0) ∙ l .loop .inv .2, (k .check-unit .kept .1 .1 .1 .1 .1 .1 .1 .1 .1 .1 .1 .1 .1 .1 .1 .1 .1 .0) ∙ l .loop .inv .3)
+    (search-on _ _ (l .loop .inv .0) (i .loop-test .taken) (k .check-unit .ensures .0) (c .enum-told .given .1), k .check-unit .ensures .1, (k .check-unit .kept .1 .1 .1 .1 .1 .1 .1 .1 .1 .1 .1 .1 .1 .1 .1 .0) ∙ l .loop .inv .2, (k .check-unit .kept .1 .1 .1 .1 .1 .1 .1 .1 .1 .1 .1 .1 .1 .1 .1 .1 .0) ∙ l .loop .inv .3)
 
 same-length-4 : tie.Need-same-length-4 Inv-loop μ-loop
 same-length-4 c = c .before .loop .inv .2

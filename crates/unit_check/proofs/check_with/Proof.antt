@@ -14,7 +14,7 @@ check-all-requires : tie.Need-check-all-requires
 check-all-requires c κs =
     let p = c .before .before .before .before .before .before .before .before .before .before .before .before .before .before .before .before .before .before .before .before .before .before .before .before .before .before .before .before .before .before .before .before .before .before .before .before .before .before .pre in
     let l = c .before .before .before .before .before .before .before .before .before .before .before .before .before .before .before .before .before .before .before .before .list-adjacent in
-    (units (p .0) (p .1 .0) (p .1 .1) (c .before .before .before .before .before .before .before .before .before .before .before .fill .ensures) (l .ensures .0) (l .kept .1 .1 .1 .1 .1 .1 .1 .0), l .ensures .1)
+    (units (p .0) (p .1 .0) (p .1 .1) (c .before .before .before .before .before .before .before .before .before .before .before .fill .ensures) (l .ensures .0) (l .kept .1 .1 .1 .1 .1 .1 .0), l .ensures .1)
 
 same-length : tie.Need-same-length
 same-length c = search needs

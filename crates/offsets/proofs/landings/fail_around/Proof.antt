@@ -4,7 +4,6 @@ use mathlib.Core.Bool.{true, false}
 use mathlib.Core.List.{[], _∷_}
 use denote.Ref.{now}
 use Rattle.grid.specs.declared.Direction.the-variants.{Up, Down, Left, Right}
-use Rattle.grid.specs.Grid.{grid}
 use Rattle.offsets.specs.Landings.{failOf, failAt}
 use Rattle.offsets.proofs.FailLaws.{fail-hit, fail-miss, fail-last}
 use borrow.Author.Needs.{needs}
@@ -20,7 +19,7 @@ enum-known-up c = search needs
 returns : tie.Need-returns
 returns c =
     let s = c .before .before .before .before .before .before in
-    let f = failAt (grid (s .args .height) (s .args .width)) (s .args .s) (now (s .args .states)) (now (s .args .ids)) false (s .args .unit) (s .args .c) in
+    let f = failAt (s .args .g) (s .args .s) (now (s .args .states)) (now (s .args .ids)) false (s .args .unit) (s .args .c) in
     fail-hit f Up (Down ∷ Left ∷ Right ∷ []) (c .before .up .given .0 .0) (sym (c .before .up .given .1) ∙ c .before .before .before .fails .ensures)
 
 enum-told : tie.Need-enum-told
@@ -35,7 +34,7 @@ enum-known-down c = search needs
 returns-2 : tie.Need-returns-2
 returns-2 c =
     let s = c .before .before .before .before .before .before .before .before .before in
-    let f = failAt (grid (s .args .height) (s .args .width)) (s .args .s) (now (s .args .states)) (now (s .args .ids)) false (s .args .unit) (s .args .c) in
+    let f = failAt (s .args .g) (s .args .s) (now (s .args .states)) (now (s .args .ids)) false (s .args .unit) (s .args .c) in
     let m1 = fail-miss f Up (Down ∷ Left ∷ Right ∷ []) (sym (c .before .before .before .before .enum-told .given .1) ∙ c .before .before .before .before .before .before .fails .ensures) in
     fail-hit f Down (Left ∷ Right ∷ []) (c .before .down .given .0 .0) (sym (c .before .down .given .1) ∙ c .before .before .before .fails2 .ensures) ∙ ap failOf m1
 
@@ -51,7 +50,7 @@ enum-known-left c = search needs
 returns-3 : tie.Need-returns-3
 returns-3 c =
     let s = c .before .before .before .before .before .before .before .before .before .before .before .before in
-    let f = failAt (grid (s .args .height) (s .args .width)) (s .args .s) (now (s .args .states)) (now (s .args .ids)) false (s .args .unit) (s .args .c) in
+    let f = failAt (s .args .g) (s .args .s) (now (s .args .states)) (now (s .args .ids)) false (s .args .unit) (s .args .c) in
     let m1 = fail-miss f Up (Down ∷ Left ∷ Right ∷ []) (sym (c .before .before .before .before .before .before .before .enum-told .given .1) ∙ c .before .before .before .before .before .before .before .before .before .fails .ensures) in
     let m2 = fail-miss f Down (Left ∷ Right ∷ []) (sym (c .before .before .before .before .enum-told2 .given .1) ∙ c .before .before .before .before .before .before .fails2 .ensures) in
     fail-hit f Left (Right ∷ []) (c .before .left .given .0 .0) (sym (c .before .left .given .1) ∙ c .before .before .before .fails3 .ensures) ∙ ap failOf (m2 ∙ m1)
@@ -65,7 +64,7 @@ fails-requires-4 c κs = search needs
 returns-4 : tie.Need-returns-4
 returns-4 c =
     let s = c .before .before .before .before .before .before .before .before .before .before .before .before in
-    let f = failAt (grid (s .args .height) (s .args .width)) (s .args .s) (now (s .args .states)) (now (s .args .ids)) false (s .args .unit) (s .args .c) in
+    let f = failAt (s .args .g) (s .args .s) (now (s .args .states)) (now (s .args .ids)) false (s .args .unit) (s .args .c) in
     let m1 = fail-miss f Up (Down ∷ Left ∷ Right ∷ []) (sym (c .before .before .before .before .before .before .before .enum-told .given .1) ∙ c .before .before .before .before .before .before .before .before .before .fails .ensures) in
     let m2 = fail-miss f Down (Left ∷ Right ∷ []) (sym (c .before .before .before .before .enum-told2 .given .1) ∙ c .before .before .before .before .before .before .fails2 .ensures) in
     let m3 = fail-miss f Left (Right ∷ []) (sym (c .before .enum-told3 .given .1) ∙ c .before .before .before .fails3 .ensures) in

@@ -4,7 +4,6 @@ use mathlib.Core.Bool.{true, false}
 use mathlib.Core.List.{[], _∷_}
 use denote.Ref.{now}
 use Rattle.grid.specs.declared.Direction.the-variants.{Up, Down, Left, Right}
-use Rattle.grid.specs.Grid.{grid}
 use Rattle.offsets.specs.Landings.{failOf, failAt}
 use Rattle.offsets.proofs.FailLaws.{fail-hit, fail-miss, fail-last}
 use borrow.Author.Needs.{needs}
@@ -20,7 +19,7 @@ enum-known-down c = search needs
 returns : tie.Need-returns
 returns c =
     let s = c .before .before .before .before .before .before in
-    let f = failAt (grid (s .args .height) (s .args .width)) (s .args .s) (now (s .args .states)) (now (s .args .ids)) true (s .args .unit) (s .args .c) in
+    let f = failAt (s .args .g) (s .args .s) (now (s .args .states)) (now (s .args .ids)) true (s .args .unit) (s .args .c) in
     fail-hit f Down (Right ∷ []) (c .before .down .given .0 .0) (sym (c .before .down .given .1) ∙ c .before .before .before .fails .ensures)
 
 enum-told : tie.Need-enum-told
@@ -32,7 +31,7 @@ fails-requires-2 c κs = search needs
 returns-2 : tie.Need-returns-2
 returns-2 c =
     let s = c .before .before .before .before .before .before in
-    let f = failAt (grid (s .args .height) (s .args .width)) (s .args .s) (now (s .args .states)) (now (s .args .ids)) true (s .args .unit) (s .args .c) in
+    let f = failAt (s .args .g) (s .args .s) (now (s .args .states)) (now (s .args .ids)) true (s .args .unit) (s .args .c) in
     c .fails2 .ensures ∙ ap failOf (fail-last f Right ∙ fail-miss f Down (Right ∷ []) (sym (c .before .enum-told .given .1) ∙ c .before .before .before .fails .ensures))
 
 pub fail-forward-spec : {M : Type 1} → statement M

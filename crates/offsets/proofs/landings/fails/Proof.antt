@@ -3,7 +3,6 @@ use mathlib.Core.Path.{sym, ap, _∙_}
 use native.Mathlib.Omega.{arith}
 use denote.Ref.{now}
 use borrow.Author.Tests.{not-true, not-false}
-use Rattle.grid.specs.Grid.{grid}
 use Rattle.offsets.specs.Landings.{landingOf}
 use Rattle.offsets.proofs.ReachLaws.{fell}
 use Rattle.offsets.proofs.LandingLaws.{landing-is, lands-on, lands-off, not-kept, lands-outside, lands-badly, lands-well, landed-border, turning-landing}
@@ -18,7 +17,7 @@ returns : tie.Need-returns
 returns c =
     let v = c .before in
     let s = v .before .before .before in
-    let g = grid (s .args .height) (s .args .width) in
+    let g = s .args .g in
     let z = s .pre .falls .0 in
     let q = s .pre .falls .1 in
     not-kept g (s .args .s) (now (s .args .states)) (now (s .args .ids)) (s .args .inner) (s .args .unit) (s .args .c) (s .args .direction) z q (sym (v .kept .ensures) ∙ not-true (v .kept .result) (c .if1 .taken))
@@ -36,7 +35,7 @@ returns-2 : tie.Need-returns-2
 returns-2 c =
     let v = c .before .before .before .before in
     let s = v .before .before .before in
-    let g = grid (s .args .height) (s .args .width) in
+    let g = s .args .g in
     let z = s .pre .falls .0 in
     let q = s .pre .falls .1 in
     let f = c .before .before in
@@ -47,7 +46,7 @@ shared-slice-read-bad : tie.Need-shared-slice-read-bad
 shared-slice-read-bad c =
     let v = c .before .before .before .before .before .before in
     let s = v .before .before .before in
-    let g = grid (s .args .height) (s .args .width) in
+    let g = s .args .g in
     let z = s .pre .falls .0 in
     let q = s .pre .falls .1 in
     let o = c .before in
@@ -64,7 +63,7 @@ entry-requires : tie.Need-entry-requires
 entry-requires c κs =
     let v = c .before .before .before .before .before .before .before .before in
     let s = v .before .before .before in
-    let g = grid (s .args .height) (s .args .width) in
+    let g = s .args .g in
     let z = s .pre .falls .0 in
     let q = s .pre .falls .1 in
     let o = c .before .before .before in
@@ -78,7 +77,7 @@ returns-3 : tie.Need-returns-3
 returns-3 c =
     let v = c .before .before .before .before .before .before .before .before .before in
     let s = v .before .before .before in
-    let g = grid (s .args .height) (s .args .width) in
+    let g = s .args .g in
     let z = s .pre .falls .0 in
     let q = s .pre .falls .1 in
     let o = c .before .before .before .before in
@@ -93,7 +92,7 @@ returns-4 : tie.Need-returns-4
 returns-4 c =
     let v = c .before .before .before .before .before .before .before .before in
     let s = v .before .before .before in
-    let g = grid (s .args .height) (s .args .width) in
+    let g = s .args .g in
     let z = s .pre .falls .0 in
     let q = s .pre .falls .1 in
     let o = c .before .before .before in

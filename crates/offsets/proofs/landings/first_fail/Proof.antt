@@ -6,7 +6,6 @@ use borrow.Author.Needs.{needs}
 use denote.Ref.{now}
 use lib.ListN.{length, drop, drop-of-length-le}
 use Rattle.lists.specs.Lists.{first}
-use Rattle.grid.specs.Grid.{grid}
 use Rattle.offsets.specs.Landings.{failOf, failCell, firstFail}
 use Rattle.offsets.proofs.ReachLaws.{next-cell}
 use Rattle.offsets.proofs.FailLaws.{fail-hit, fail-miss, first-end, walk-small, walk-turning}
@@ -14,10 +13,10 @@ use Rattle.offsets.proofs.landings.first_fail.Statement.{statement}
 use Rattle.offsets.proofs.landings.first_fail.Tie as tie
 
 abbrev Inv-loop : tie.InvT-loop
-Inv-loop height width inner s unit cells rows cols states ids i₀ i = (i ≤ length cells) × (first (failCell (grid height width) s states ids inner unit) (drop i cells) ≡ firstFail (grid height width) s states ids inner unit cells)
+Inv-loop g inner s unit cells rows cols states ids i₀ i = (i ≤ length cells) × (first (failCell g s states ids inner unit) (drop i cells) ≡ firstFail g s states ids inner unit cells)
 
 abbrev μ-loop : tie.MeasureT-loop
-μ-loop height width inner s unit cells rows cols states ids i₀ i = length cells - i
+μ-loop g inner s unit cells rows cols states ids i₀ i = length cells - i
 
 loop-holds : tie.Need-loop-holds Inv-loop μ-loop
 unfolding firstFail
@@ -38,7 +37,7 @@ mul-fail-cell c =
     let t = v .before .before in
     let a = t .before in
     let s = a .before .before .before .before .before .before in
-    let g = grid (s .args .height) (s .args .width) in
+    let g = s .args .g in
     let cs = now (s .args .cells) in
     let f = failCell g (s .args .s) (now (s .args .states)) (now (s .args .ids)) (s .args .inner) (s .args .unit) in
     let x = v .wide .result in
@@ -51,7 +50,7 @@ shared-slice-read-fail-cell c =
     let t = v .before .before in
     let a = t .before in
     let s = a .before .before .before .before .before .before in
-    let g = grid (s .args .height) (s .args .width) in
+    let g = s .args .g in
     let cs = now (s .args .cells) in
     let f = failCell g (s .args .s) (now (s .args .states)) (now (s .args .ids)) (s .args .inner) (s .args .unit) in
     let x = v .wide .result in
@@ -64,7 +63,7 @@ mul-fail-cell-2 c =
     let t = v .before .before in
     let a = t .before in
     let s = a .before .before .before .before .before .before in
-    let g = grid (s .args .height) (s .args .width) in
+    let g = s .args .g in
     let cs = now (s .args .cells) in
     let f = failCell g (s .args .s) (now (s .args .states)) (now (s .args .ids)) (s .args .inner) (s .args .unit) in
     let x = v .wide .result in
@@ -77,7 +76,7 @@ shared-slice-read-fail-cell-2 c =
     let t = v .before .before in
     let a = t .before in
     let s = a .before .before .before .before .before .before in
-    let g = grid (s .args .height) (s .args .width) in
+    let g = s .args .g in
     let cs = now (s .args .cells) in
     let f = failCell g (s .args .s) (now (s .args .states)) (now (s .args .ids)) (s .args .inner) (s .args .unit) in
     let x = v .wide .result in
@@ -90,7 +89,7 @@ fail-cell-requires c κs =
     let t = v .before .before in
     let a = t .before in
     let s = a .before .before .before .before .before .before in
-    let g = grid (s .args .height) (s .args .width) in
+    let g = s .args .g in
     let cs = now (s .args .cells) in
     let f = failCell g (s .args .s) (now (s .args .states)) (now (s .args .ids)) (s .args .inner) (s .args .unit) in
     let x = v .wide .result in
@@ -106,7 +105,7 @@ returns c =
     let t = v .before .before in
     let a = t .before in
     let s = a .before .before .before .before .before .before in
-    let g = grid (s .args .height) (s .args .width) in
+    let g = s .args .g in
     let cs = now (s .args .cells) in
     let f = failCell g (s .args .s) (now (s .args .states)) (now (s .args .ids)) (s .args .inner) (s .args .unit) in
     let x = v .wide .result in
@@ -129,7 +128,7 @@ loop-again c =
     let t = v .before .before in
     let a = t .before in
     let s = a .before .before .before .before .before .before in
-    let g = grid (s .args .height) (s .args .width) in
+    let g = s .args .g in
     let cs = now (s .args .cells) in
     let f = failCell g (s .args .s) (now (s .args .states)) (now (s .args .ids)) (s .args .inner) (s .args .unit) in
     let x = v .wide .result in
@@ -141,7 +140,7 @@ returns-2 : tie.Need-returns-2 Inv-loop μ-loop
 returns-2 c =
     let a = c .before in
     let s = a .before .before .before .before .before .before in
-    let f = failCell (grid (s .args .height) (s .args .width)) (s .args .s) (now (s .args .states)) (now (s .args .ids)) (s .args .inner) (s .args .unit) in
+    let f = failCell (s .args .g) (s .args .s) (now (s .args .states)) (now (s .args .ids)) (s .args .inner) (s .args .unit) in
     first-end f ∙ ap failOf (sym (ap (first f) (drop-of-length-le (now (s .args .cells)) (c .loop-test .left))) ∙ a .loop .inv .1)
 
 pub first-fail-spec : {M : Type 1} → statement M

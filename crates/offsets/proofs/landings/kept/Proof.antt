@@ -2,7 +2,6 @@
 use mathlib.Core.Path.{sym, _∙_}
 use native.Mathlib.Omega.{arith}
 use denote.Ref.{now}
-use Rattle.grid.specs.Grid.{grid}
 use Rattle.offsets.proofs.LandingLaws.{step-at, step-end, kept-end, kept-inner, kept-shut, seen-at}
 use borrow.Author.Needs.{needs}
 use Rattle.offsets.proofs.landings.kept.Statement.{statement}
@@ -18,14 +17,14 @@ returns : tie.Need-returns
 returns c =
     let v = c .before in
     let s = v .before .before .before in
-    let g = grid (s .args .height) (s .args .width) in
+    let g = s .args .g in
     kept-end g (now (s .args .states)) (now (s .args .ids)) (s .args .inner) (s .args .unit) (s .args .c) (s .args .direction) (step-end g (s .args .direction) (s .args .c) (v .step .result) (c .match .keys2) (v .step .ensures))
 
 mul-result : tie.Need-mul-result
 mul-result c =
     let v = c .before .before .before .before in
     let s = v .before .before .before in
-    let g = grid (s .args .height) (s .args .width) in
+    let g = s .args .g in
     let o = c .before in
     let n = o .before .n .given .0 .0 in
     let e = o .before .n .given .0 .1 .0 in
@@ -36,7 +35,7 @@ shared-slice-read-result : tie.Need-shared-slice-read-result
 shared-slice-read-result c =
     let v = c .before .before .before .before .before in
     let s = v .before .before .before in
-    let g = grid (s .args .height) (s .args .width) in
+    let g = s .args .g in
     let o = c .before .before in
     let n = o .before .n .given .0 .0 in
     let e = o .before .n .given .0 .1 .0 in
@@ -47,7 +46,7 @@ returns-2 : tie.Need-returns-2
 returns-2 c =
     let v = c .before .before .before .before .before in
     let s = v .before .before .before in
-    let g = grid (s .args .height) (s .args .width) in
+    let g = s .args .g in
     let o = c .before .before in
     let n = o .before .n .given .0 .0 in
     let e = o .before .n .given .0 .1 .0 in
@@ -58,7 +57,7 @@ shared-slice-read-result-2 : tie.Need-shared-slice-read-result-2
 shared-slice-read-result-2 c =
     let v = c .before .before .before .before .before in
     let s = v .before .before .before in
-    let g = grid (s .args .height) (s .args .width) in
+    let g = s .args .g in
     let o = c .before .before in
     let n = o .before .n .given .0 .0 in
     let e = o .before .n .given .0 .1 .0 in
@@ -69,7 +68,7 @@ returns-3 : tie.Need-returns-3
 returns-3 c =
     let v = c .before .before .before .before .before in
     let s = v .before .before .before in
-    let g = grid (s .args .height) (s .args .width) in
+    let g = s .args .g in
     let o = c .before .before in
     let n = o .before .n .given .0 .0 in
     let e = o .before .n .given .0 .1 .0 in

@@ -3,7 +3,6 @@ use mathlib.Core.Path.{sym, ap, ap₂, _∙_}
 use borrow.Author.Needs.{sfits-of}
 use mir.Syntax.{w32}
 use mir.ValLaws.{toZ-ofZ}
-use Rattle.grid.specs.Grid.{grid}
 use Rattle.offsets.specs.Places.{coordinateOf, landOf}
 use Rattle.offsets.proofs.LandingLaws.{ahead-y, ahead-x, ahead-small}
 use borrow.Author.Needs.{needs}
@@ -34,7 +33,7 @@ returns c =
     let j = k .before .before in
     let a = j .before .before in
     let s = a .before in
-    let g = grid (s .args .height) (s .args .width) in
+    let g = s .args .g in
     c .land .ensures
     ∙ ap₂ (landOf g)
     (toZ-ofZ w32 (j .coordinate .result) (sfits-of (j .coordinate .ok))

@@ -2,7 +2,6 @@
 use Prim.Native.Nat.{_+_, _*_, _/_}
 use mathlib.Core.Path.{sym, ap, _∙_}
 use native.Mathlib.Omega.{arith}
-use Rattle.grid.specs.Grid.{grid}
 use Rattle.grid.proofs.Geometry.{cells-le}
 use Rattle.offsets.specs.Places.{borderOf}
 use Rattle.offsets.proofs.PlaceLaws.{off-rows, off-cols, odd-row, even-row, halved-cell}
@@ -19,7 +18,7 @@ sub-if1 c = search needs
 returns : tie.Need-returns
 returns c =
     let s = c .before in
-    let g = grid (s .args .height) (s .args .width) in
+    let g = s .args .g in
     sym (off-rows g (s .pre) (s .args .y) (s .args .x) (c .if1 .taken))
 
 mul-if2 : tie.Need-mul-if2
@@ -31,25 +30,25 @@ sub-if2 c = search needs
 returns-2 : tie.Need-returns-2
 returns-2 c =
     let s = c .before .before in
-    let g = grid (s .args .height) (s .args .width) in
+    let g = s .args .g in
     sym (off-cols g (s .pre) (s .args .y) (s .args .x) (c .before .if1 .left) (c .if2 .taken))
 
 mul-cell : tie.Need-mul-cell
 mul-cell c =
     let s = c .before .before in
-    let g = grid (s .args .height) (s .args .width) in
+    let g = s .args .g in
     omega (arith, halved-cell g (s .pre) (s .args .y) (s .args .x) (c .before .if1 .left) (c .if2 .left), cells-le g (s .pre))
 
 add-cell : tie.Need-add-cell
 add-cell c =
     let s = c .before .before in
-    let g = grid (s .args .height) (s .args .width) in
+    let g = s .args .g in
     omega (arith, halved-cell g (s .pre) (s .args .y) (s .args .x) (c .before .if1 .left) (c .if2 .left), cells-le g (s .pre))
 
 step-requires : tie.Need-step-requires
 step-requires c κs =
     let s = c .before .before .before in
-    let g = grid (s .args .height) (s .args .width) in
+    let g = s .args .g in
     record { limits = s .pre; cell = halved-cell g (s .pre) (s .args .y) (s .args .x) (c .before .before .if1 .left) (c .before .if2 .left) }
 
 border-of-requires : tie.Need-border-of-requires
@@ -58,14 +57,14 @@ border-of-requires c κs = search needs
 returns-3 : tie.Need-returns-3
 returns-3 c =
     let s = c .before .before .before .before .before in
-    let g = grid (s .args .height) (s .args .width) in
+    let g = s .args .g in
     let e = c .before .before in
     c .border-of .ensures ∙ ap borderOf (c .before .step .ensures) ∙ sym (odd-row g (s .pre) (s .args .y) (s .args .x) (e .before .before .if1 .left) (e .before .if2 .left) (e .if3 .taken))
 
 step-requires-2 : tie.Need-step-requires-2
 step-requires-2 c κs =
     let s = c .before .before .before in
-    let g = grid (s .args .height) (s .args .width) in
+    let g = s .args .g in
     record { limits = s .pre; cell = halved-cell g (s .pre) (s .args .y) (s .args .x) (c .before .before .if1 .left) (c .before .if2 .left) }
 
 border-of-requires-2 : tie.Need-border-of-requires-2
@@ -74,7 +73,7 @@ border-of-requires-2 c κs = search needs
 returns-4 : tie.Need-returns-4
 returns-4 c =
     let s = c .before .before .before .before .before in
-    let g = grid (s .args .height) (s .args .width) in
+    let g = s .args .g in
     let e = c .before .before in
     c .border-of2 .ensures ∙ ap borderOf (c .before .step2 .ensures) ∙ sym (even-row g (s .pre) (s .args .y) (s .args .x) (e .before .before .if1 .left) (e .before .if2 .left) (e .if3 .left))
 

@@ -1,7 +1,6 @@
 -- `offsets::places::land` meets its contract: a negative place is outside, and the casts come after the sign tests. Assumes nothing.
 use mathlib.Core.Path.{sym, ap, ap₂, _∙_}
 use lib.IntN.{ℤ}
-use Rattle.grid.specs.Grid.{grid}
 use Rattle.offsets.specs.Places.{landOf}
 use Rattle.offsets.proofs.Signed.{negative, cast-fits, cast-is}
 use Rattle.offsets.proofs.PlaceLaws.{above, beside}
@@ -12,12 +11,12 @@ use Rattle.offsets.proofs.places.land.Tie as tie
 returns : tie.Need-returns
 returns c =
     let s = c .before in
-    above (grid (s .args .height) (s .args .width)) (s .args .y) (s .args .x) (negative (s .args .y) (s .fits .y) (c .if1 .taken))
+    above (s .args .g) (s .args .y) (s .args .x) (negative (s .args .y) (s .fits .y) (c .if1 .taken))
 
 returns-2 : tie.Need-returns-2
 returns-2 c =
     let s = c .before .before in
-    beside (grid (s .args .height) (s .args .width)) (s .args .y) (s .args .x) (negative (s .args .x) (s .fits .x) (c .if2 .taken))
+    beside (s .args .g) (s .args .y) (s .args .x) (negative (s .args .x) (s .fits .x) (c .if2 .taken))
 
 cast-border-at : tie.Need-cast-border-at
 cast-border-at c =
@@ -37,7 +36,7 @@ unfolding landOf
 returns-3 c =
     let e = c .before in
     let s = e .before .before in
-    let g = grid (s .args .height) (s .args .width) in
+    let g = s .args .g in
     c .border-at .ensures
     ∙ ap₂ (landOf g) (sym (cast-is (s .args .y) (s .fits .y) (e .before .if1 .left))) (sym (cast-is (s .args .x) (s .fits .x) (e .if2 .left)))
 

@@ -1,7 +1,6 @@
 -- `offsets::reach::fall_of` meets its contract: the row and then the column are moved, and each is tested. Assumes nothing.
 use Prim.Native.Nat.{_+_, _-_, _*_}
 use native.Mathlib.Omega.{arith}
-use Rattle.grid.specs.Grid.{grid}
 use Rattle.offsets.proofs.ReachLaws.{before-start, behind-end, on-line, off-row, off-col, on-cell, small-cell}
 use borrow.Author.Needs.{needs}
 use Rattle.offsets.proofs.reach.fall_of.Statement.{statement}
@@ -13,7 +12,7 @@ add-if1 c = search needs
 returns : tie.Need-returns
 returns c =
     let a = c .before .before .before in
-    let g = grid (a .args .height) (a .args .width) in
+    let g = a .args .g in
     let s = a .args .s in
     let y = a .args .row in
     let x = a .args .col in
@@ -28,7 +27,7 @@ sub-y c = search needs
 returns-2 : tie.Need-returns-2
 returns-2 c =
     let a = c .before .before .before .before .before .before in
-    let g = grid (a .args .height) (a .args .width) in
+    let g = a .args .g in
     let s = a .args .s in
     let y = a .args .row in
     let x = a .args .col in
@@ -40,7 +39,7 @@ add-if3 c = search needs
 returns-3 : tie.Need-returns-3
 returns-3 c =
     let a = c .before .before .before .before .before .before .before .before .before in
-    let g = grid (a .args .height) (a .args .width) in
+    let g = a .args .g in
     let s = a .args .s in
     let y = a .args .row in
     let x = a .args .col in
@@ -55,25 +54,25 @@ sub-x c = search needs
 returns-4 : tie.Need-returns-4
 returns-4 c =
     let a = c .before .before .before .before .before .before .before .before .before .before .before .before in
-    let g = grid (a .args .height) (a .args .width) in
+    let g = a .args .g in
     let s = a .args .s in
     let y = a .args .row in
     let x = a .args .col in
     off-col g s y x (y + s .«to_row» - s .«from_row») (on-line (g .height) (s .«from_row») (s .«to_row») y (c .before .before .before .before .before .before .before .before .before .if1 .left) (c .before .before .before .before .before .before .if2 .left)) (behind-end (g .width) (s .«from_col») (s .«to_col») x (c .before .before .before .if3 .left) (c .if4 .taken))
 
-mul-t8 : tie.Need-mul-t8
-mul-t8 c =
+mul-t9 : tie.Need-mul-t9
+mul-t9 c =
     let a = c .before .before .before .before .before .before .before .before .before .before .before .before in
-    let g = grid (a .args .height) (a .args .width) in
+    let g = a .args .g in
     let s = a .args .s in
     let y = a .args .row in
     let x = a .args .col in
     omega (arith, small-cell g (a .pre .limits) (y + s .«to_row» - s .«from_row») (x + s .«to_col» - s .«from_col») (c .before .before .before .before .before .before .if2 .left) (c .if4 .left))
 
-add-t10 : tie.Need-add-t10
-add-t10 c =
+add-t11 : tie.Need-add-t11
+add-t11 c =
     let a = c .before .before .before .before .before .before .before .before .before .before .before .before in
-    let g = grid (a .args .height) (a .args .width) in
+    let g = a .args .g in
     let s = a .args .s in
     let y = a .args .row in
     let x = a .args .col in
@@ -82,7 +81,7 @@ add-t10 c =
 returns-5 : tie.Need-returns-5
 returns-5 c =
     let a = c .before .before .before .before .before .before .before .before .before .before .before .before in
-    let g = grid (a .args .height) (a .args .width) in
+    let g = a .args .g in
     let s = a .args .s in
     let y = a .args .row in
     let x = a .args .col in
@@ -102,6 +101,6 @@ fall-of-spec =
     add-x
     sub-x
     returns-4
-    mul-t8
-    add-t10
+    mul-t9
+    add-t11
     returns-5)

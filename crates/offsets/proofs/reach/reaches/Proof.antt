@@ -7,7 +7,6 @@ use native.Mathlib.Omega.{arith}
 use borrow.Author.Needs.{needs}
 use denote.Ref.{now}
 use lib.ListN.{length, getD, drop, drop-of-length-le}
-use Rattle.grid.specs.Grid.{grid}
 use Rattle.offsets.proofs.ReachLaws.{
   left,
   left-start,
@@ -29,15 +28,15 @@ use Rattle.offsets.proofs.reach.reaches.Statement.{statement}
 use Rattle.offsets.proofs.reach.reaches.Tie as tie
 
 abbrev Inv-loop : tie.InvT-loop
-Inv-loop height width s unit cells rows cols ids pids marks met₀ i₀ met i = Walk (grid height width) s unit ids pids marks cells met i
+Inv-loop g s unit cells rows cols ids pids marks met₀ i₀ met i = Walk g s unit ids pids marks cells met i
 
 abbrev μ-loop : tie.MeasureT-loop
-μ-loop height width s unit cells rows cols ids pids marks met₀ i₀ met i = length cells - i
+μ-loop g s unit cells rows cols ids pids marks met₀ i₀ met i = length cells - i
 
 loop-holds : tie.Need-loop-holds Inv-loop μ-loop
 loop-holds c =
     let s = c .before .before .before .before .before .before in
-    record { within = omega arith; rest = left-start (grid (s .args .height) (s .args .width)) (s .args .s) (s .args .unit) (now (s .args .ids)) (now (s .args .pids)) (now (s .args .marks)) (now (s .args .cells)) }
+    record { within = omega arith; rest = left-start (s .args .g) (s .args .s) (s .args .unit) (now (s .args .ids)) (now (s .args .pids)) (now (s .args .marks)) (now (s .args .cells)) }
 
 mul-wide : tie.Need-mul-wide Inv-loop μ-loop
 mul-wide c = omega arith
@@ -54,7 +53,7 @@ mul-fall-of c =
     let t = v .before .before in
     let a = t .before in
     let s = a .before .before .before .before .before .before .before in
-    let g = grid (s .args .height) (s .args .width) in
+    let g = s .args .g in
     let cs = now (s .args .cells) in
     let ids = now (s .args .ids) in
     let pids = now (s .args .pids) in
@@ -70,7 +69,7 @@ shared-slice-read-fall-of c =
     let t = v .before .before in
     let a = t .before in
     let s = a .before .before .before .before .before .before .before in
-    let g = grid (s .args .height) (s .args .width) in
+    let g = s .args .g in
     let cs = now (s .args .cells) in
     let ids = now (s .args .ids) in
     let pids = now (s .args .pids) in
@@ -86,7 +85,7 @@ mul-fall-of-2 c =
     let t = v .before .before in
     let a = t .before in
     let s = a .before .before .before .before .before .before .before in
-    let g = grid (s .args .height) (s .args .width) in
+    let g = s .args .g in
     let cs = now (s .args .cells) in
     let ids = now (s .args .ids) in
     let pids = now (s .args .pids) in
@@ -102,7 +101,7 @@ shared-slice-read-fall-of-2 c =
     let t = v .before .before in
     let a = t .before in
     let s = a .before .before .before .before .before .before .before in
-    let g = grid (s .args .height) (s .args .width) in
+    let g = s .args .g in
     let cs = now (s .args .cells) in
     let ids = now (s .args .ids) in
     let pids = now (s .args .pids) in
@@ -118,7 +117,7 @@ fall-of-requires c κs =
     let t = v .before .before in
     let a = t .before in
     let s = a .before .before .before .before .before .before .before in
-    let g = grid (s .args .height) (s .args .width) in
+    let g = s .args .g in
     let cs = now (s .args .cells) in
     let ids = now (s .args .ids) in
     let pids = now (s .args .pids) in
@@ -140,7 +139,7 @@ returns c =
     let t = v .before .before in
     let a = t .before in
     let s = a .before .before .before .before .before .before .before in
-    let g = grid (s .args .height) (s .args .width) in
+    let g = s .args .g in
     let cs = now (s .args .cells) in
     let ids = now (s .args .ids) in
     let pids = now (s .args .pids) in
@@ -160,7 +159,7 @@ mul-if1 c =
     let t = v .before .before in
     let a = t .before in
     let s = a .before .before .before .before .before .before .before in
-    let g = grid (s .args .height) (s .args .width) in
+    let g = s .args .g in
     let cs = now (s .args .cells) in
     let ids = now (s .args .ids) in
     let pids = now (s .args .pids) in
@@ -182,7 +181,7 @@ shared-slice-read-if1 c =
     let t = v .before .before in
     let a = t .before in
     let s = a .before .before .before .before .before .before .before in
-    let g = grid (s .args .height) (s .args .width) in
+    let g = s .args .g in
     let cs = now (s .args .cells) in
     let ids = now (s .args .ids) in
     let pids = now (s .args .pids) in
@@ -204,7 +203,7 @@ returns-2 c =
     let t = v .before .before in
     let a = t .before in
     let s = a .before .before .before .before .before .before .before in
-    let g = grid (s .args .height) (s .args .width) in
+    let g = s .args .g in
     let cs = now (s .args .cells) in
     let ids = now (s .args .ids) in
     let pids = now (s .args .pids) in
@@ -228,7 +227,7 @@ mul-wide-2 c =
     let t = v .before .before in
     let a = t .before in
     let s = a .before .before .before .before .before .before .before in
-    let g = grid (s .args .height) (s .args .width) in
+    let g = s .args .g in
     let cs = now (s .args .cells) in
     let ids = now (s .args .ids) in
     let pids = now (s .args .pids) in
@@ -250,7 +249,7 @@ shared-slice-read-wide-2 c =
     let t = v .before .before in
     let a = t .before in
     let s = a .before .before .before .before .before .before .before in
-    let g = grid (s .args .height) (s .args .width) in
+    let g = s .args .g in
     let cs = now (s .args .cells) in
     let ids = now (s .args .ids) in
     let pids = now (s .args .pids) in
@@ -275,7 +274,7 @@ shared-slice-read-if2 c =
     let t = v .before .before in
     let a = t .before in
     let s = a .before .before .before .before .before .before .before in
-    let g = grid (s .args .height) (s .args .width) in
+    let g = s .args .g in
     let cs = now (s .args .cells) in
     let ids = now (s .args .ids) in
     let pids = now (s .args .pids) in
@@ -303,7 +302,7 @@ loop-again c =
     let t = v .before .before in
     let a = t .before in
     let s = a .before .before .before .before .before .before .before in
-    let g = grid (s .args .height) (s .args .width) in
+    let g = s .args .g in
     let cs = now (s .args .cells) in
     let ids = now (s .args .ids) in
     let pids = now (s .args .pids) in
@@ -334,7 +333,7 @@ returns-3 : tie.Need-returns-3 Inv-loop μ-loop
 returns-3 c =
     let a = c .before in
     let s = a .before .before .before .before .before .before .before in
-    let g = grid (s .args .height) (s .args .width) in
+    let g = s .args .g in
     let L = left g (s .args .s) (s .args .unit) (now (s .args .ids)) (now (s .args .pids)) (now (s .args .marks)) in
     sym (left-end g (s .args .s) (s .args .unit) (now (s .args .ids)) (now (s .args .pids)) (now (s .args .marks)) (a .loop .met)) ∙ sym (ap (L (a .loop .met)) (drop-of-length-le (now (s .args .cells)) (c .loop-test .left))) ∙ a .loop .inv .rest
 

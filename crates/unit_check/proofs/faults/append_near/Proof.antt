@@ -1,18 +1,17 @@
 -- `unit_check::faults::append_near` meets its contract: the loop's invariant is what is left to append. Assumes nothing.
 use Prim.Native.Nat.{_-_, _≤_}
 use native.Mathlib.Omega.{arith}
-use Rattle.grid.specs.Grid.{grid}
 use Rattle.unit_check.specs.Faults.{markedBoundary, nearBoundaries}
 use Rattle.unit_check.proofs.RestLaws.{Left, left-all, left-room, left-on, left-end}
 use Rattle.unit_check.proofs.faults.append_near.Statement.{statement}
 use Rattle.unit_check.proofs.faults.append_near.Tie as tie
 
 abbrev Inv-loop : tie.InvT-loop
-Inv-loop height width states pids starts flat count marks buffer₀ at n₀ unit₀ buffer n unit =
-    (unit ≤ count) × Left (markedBoundary (grid height width) states pids marks) count buffer₀ at buffer n unit
+Inv-loop g states pids starts flat count marks buffer₀ at n₀ unit₀ buffer n unit =
+    (unit ≤ count) × Left (markedBoundary g states pids marks) count buffer₀ at buffer n unit
 
 abbrev μ-loop : tie.MeasureT-loop
-μ-loop height width states pids starts flat count marks buffer₀ at n₀ unit₀ buffer n unit = count - unit
+μ-loop g states pids starts flat count marks buffer₀ at n₀ unit₀ buffer n unit = count - unit
 
 loop-holds : tie.Need-loop-holds Inv-loop μ-loop
 loop-holds c = (omega arith, left-all _ _ _ _)

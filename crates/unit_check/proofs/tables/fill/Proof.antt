@@ -3,17 +3,17 @@
 use Prim.Native.Nat.{_-_}
 use mathlib.Core.Logic.{⊎-elim, inl, inr}
 use native.Mathlib.Omega.{arith}
-use Rattle.grid.specs.Grid.{grid}
 use Rattle.grid.proofs.Geometry.{cells-le}
 use Rattle.unit_check.proofs.TableLaws.{Filling, filling-none, low-row, low-column, filling-turn, filling-end}
+use Rattle.grid.specs.Grid.{grid}
 use Rattle.unit_check.proofs.tables.fill.Statement.{statement}
 use Rattle.unit_check.proofs.tables.fill.Tie as tie
 
 abbrev Inv-loop : tie.InvT-loop
-Inv-loop height width rows₀ cols₀ n cell₀ y₀ x₀ rows cols cell y x = Filling (grid height width) rows₀ cols₀ rows cols cell y x
+Inv-loop rows₀ cols₀ height width n cell₀ y₀ x₀ rows cols cell y x = Filling (grid height width) rows₀ cols₀ rows cols cell y x
 
 abbrev μ-loop : tie.MeasureT-loop
-μ-loop height width rows₀ cols₀ n cell₀ y₀ x₀ rows cols cell y x = n - cell
+μ-loop rows₀ cols₀ height width n cell₀ y₀ x₀ rows cols cell y x = n - cell
 
 mul-n : tie.Need-mul-n Inv-loop μ-loop
 mul-n c = omega (arith, cells-le _ (c .pre .0))

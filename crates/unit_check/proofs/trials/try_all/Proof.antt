@@ -2,18 +2,17 @@
 use Prim.Native.Nat.{_-_}
 use native.Mathlib.Omega.{arith}
 use borrow.Author.Needs.{needs}
-use Rattle.grid.specs.Grid.{grid}
 use Rattle.shape.specs.Shape.{unitOf}
 use Rattle.unit_check.proofs.TrialLaws.{Trying, trying-first, trial-good, trial-room, trial-on, trials-over}
 use Rattle.unit_check.proofs.trials.try_all.Statement.{statement}
 use Rattle.unit_check.proofs.trials.try_all.Tie as tie
 
 abbrev Inv-loop : tie.InvT-loop
-Inv-loop height width unit first cells rows cols states ids pids marks failed₀ n len₀ to₀ failed len to =
-    Trying (grid height width) states ids pids (unitOf (grid height width) ids pids unit) failed₀ failed len to
+Inv-loop g unit first cells rows cols states ids pids marks failed₀ height width n len₀ to₀ failed len to =
+    Trying g states ids pids (unitOf g ids pids unit) failed₀ failed len to
 
 abbrev μ-loop : tie.MeasureT-loop
-μ-loop height width unit first cells rows cols states ids pids marks failed₀ n len₀ to₀ failed len to = n - to
+μ-loop g unit first cells rows cols states ids pids marks failed₀ height width n len₀ to₀ failed len to = n - to
 
 mul-n : tie.Need-mul-n Inv-loop μ-loop
 mul-n c = omega (arith, c .before .before .before .before .before .before .before .before .pre .1 .0)
