@@ -2,7 +2,9 @@
 -- Assumes nothing.
 use Prim.Native.Nat.{ℕ, _+_, _*_, _/_, _%_}
 use mathlib.Core.Path.{_≡_}
+use mathlib.Core.Bool.{Bool}
 use mathlib.Core.List.{List}
+use Rattle.lists.specs.Choice.{pick}
 use Rattle.lists.specs.Lists.{In}
 
 -- "2 × border + 1 for Wall, 2 × border for Connected"
@@ -11,6 +13,9 @@ connectedEntry e = 2 * e
 
 abbrev pub wallEntry : ℕ → ℕ
 wallEntry e = 2 * e + 1
+
+abbrev pub entryOf : Bool → ℕ → ℕ
+entryOf wall e = pick wall (wallEntry e) (connectedEntry e)
 
 -- the entry stands as listed, where border e has the state s e
 abbrev pub Stands : (ℕ → ℕ) → ℕ → Type 0

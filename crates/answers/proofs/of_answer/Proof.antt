@@ -1,0 +1,25 @@
+-- `answers::of_answer` meets its contract: each arm knows which case it took apart. Assumes nothing.
+use borrow.Author.Needs.{needs}
+use Rattle.answers.proofs.of_answer.Statement.{statement}
+use Rattle.answers.proofs.of_answer.Tie as tie
+
+enum-told : tie.Need-enum-told
+enum-told c = search needs
+
+enum-known-answer : tie.Need-enum-known-answer
+enum-known-answer c = search needs
+
+enum-known-answer-2 : tie.Need-enum-known-answer-2
+enum-known-answer-2 c = search needs
+
+returns : tie.Need-returns
+returns c = rw (c .enum-told .given .1)
+
+returns-2 : tie.Need-returns-2
+returns-2 c = rw (c .before .answer .given .1)
+
+returns-3 : tie.Need-returns-3
+returns-3 c = rw (c .before .answer2 .given .1)
+
+pub of-answer-spec : {M : Type 1} → statement M
+of-answer-spec = tie.close (tie.spec enum-told enum-known-answer enum-known-answer-2 returns returns-2 returns-3)

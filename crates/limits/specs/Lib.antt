@@ -1,0 +1,2 @@
+-- Defined here: the numbers that bound every record (`Limits`).
+pub mod Limits
