@@ -56,11 +56,3 @@ module _ (given : List ℕ) (len : ℕ) (long : len ≤ length given) where
         short [] k = unfold rises in refl
         short (x ∷ []) k = unfold rises in refl
         short (x ∷ y ∷ l) k = absurd (omega arith)
-
--- COPYING
-module _ (from to : List ℕ) (i : ℕ) where
-  pub copy-turn : i < length from → sets to i (drop i from) ≡ sets (set to i (getD from i 0)) (i + 1) (drop (i + 1) from)
-  copy-turn h = rw (drop-cons from i 0 h, add-one)
-
-  pub copy-end : length from ≤ i → sets to i (drop i from) ≡ to
-  copy-end h = rw (drop-of-length-le from {i = i} h)

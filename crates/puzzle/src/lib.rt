@@ -6,7 +6,6 @@ ghost use lib.ListN.{length, take};
 ghost use lib.Seq.{sets};
 ghost use Rattle.lists.specs.Choice.{either};
 ghost use Rattle.lists.specs.Lists.{all};
-ghost use Rattle.grid.specs.Grid.{grid};
 ghost use Rattle.puzzle.specs.Fault.{faultOf};
 ghost use Rattle.puzzle.specs.Lists.{allFit, Sizes, Lists, clueList, roomsFault, roomsIn, Arrays, Housing, Asking, Finding};
 ghost use Rattle.borders.specs.Border.{stateOf};
@@ -17,6 +16,7 @@ ghost use Rattle.rooms.specs.Lent.{Below, Given, Roomed, markedIn};
 ghost use Rattle.puzzle.specs.Puzzle.{rises, listsCode, noClues, freshBoard, freshPuzzle, zeroPuzzle, answer, makeOf, puzzleOf, puzzleCode, onto as withBoard, decideOf, undoOf, says, writes, askOf};
 use board::Board;
 use city_count::Inconsistency;
+use grid::Grid;
 use inner_walls::Found;
 
 // The board has the given walls as Wall; its ledger names none of them. The first `given_len` places of `given` are the given walls,
@@ -50,13 +50,6 @@ pub enum Answer {
     Refused(u8),
 }
 
-// A 16-bit number as an index.
-fn wide(x: u16) -> usize
-    ensures { λ r. ⌜ r ≡ x ⌝ }
-{
-    x as usize
-}
-
 // Question 3: each of the first `len` given walls is below n.
 fn exist(given: &[u16], len: usize, n: usize) -> bool
     requires { ⌜ len ≤ length (now given) ⌝ }
@@ -64,7 +57,7 @@ fn exist(given: &[u16], len: usize, n: usize) -> bool
 {
     let mut i = 0;
     while i < len {
-        if n <= wide(given[i]) {
+        if n <= lists::wide(given[i]) {
             return false;
         }
         i += 1;
@@ -104,8 +97,8 @@ fn clues_fit<'a>(clues: &'a [u16], starts: &'a [u16], count: usize, n: usize) ->
 {
     let mut room = 0;
     while room < count {
-        let size = groups::end_of(starts, count, n, room) - wide(starts[room]);
-        if !clue_fits(wide(clues[room]), size) {
+        let size = groups::end_of(starts, count, n, room) - lists::wide(starts[room]);
+        if !clue_fits(lists::wide(clues[room]), size) {
             return false;
         }
         room += 1;
@@ -115,8 +108,7 @@ fn clues_fit<'a>(clues: &'a [u16], starts: &'a [u16], count: usize, n: usize) ->
 
 // Questions 3, 7, 8 and 9 of given walls and clues: 01's number, or 0. Where it is 0, the rooms stand in the lent slices.
 fn lists_code<'a>(
-    height: usize,
-    width: usize,
+    g: Grid,
     given: &'a [u16],
     given_len: usize,
     clues: &'a [u16],
@@ -125,19 +117,21 @@ fn lists_code<'a>(
     starts: &mut [u16],
     flat: &mut [u16],
 ) -> u8
-    requires { ⌜ Lists (grid height width) (now given) «given_len» (now clues) «clues_len» ⌝ }
-    requires { ⌜ Lent (height * width) (now ids) (now starts) (now flat) ⌝ }
-    ensures { λ r. ⌜ r ≡ listsCode (grid height width) (take «given_len» (now (given .entry))) (take «clues_len» (now (clues .entry))) ⌝ }
+    requires { ⌜ Lists g (now given) «given_len» (now clues) «clues_len» ⌝ }
+    requires { ⌜ Lent (g .height * g .width) (now ids) (now starts) (now flat) ⌝ }
+    ensures { λ r. ⌜ r ≡ listsCode g (take «given_len» (now (given .entry))) (take «clues_len» (now (clues .entry))) ⌝ }
     ensures { λ r.
-        ⌜ (r ≡ 0 → Roomed (grid height width) (take «given_len» (now (given .entry))) (now (ids .entry)) (now (starts .entry)) (now (flat .entry)) (now (ids .exit)) (now (starts .exit)) (now (flat .exit)) «clues_len») ⌝ }
+        ⌜ (r ≡ 0 → Roomed g (take «given_len» (now (given .entry))) (now (ids .entry)) (now (starts .entry)) (now (flat .entry)) (now (ids .exit)) (now (starts .exit)) (now (flat .exit)) «clues_len») ⌝ }
 {
-    if !exist(given, given_len, grid::sizes::border_count(height, width)) {
+    let height = g.height;
+    let width = g.width;
+    if !exist(given, given_len, grid::border_count(g)) {
         return 3;
     }
     if !rise(given, given_len) {
         return 7;
     }
-    let count = rooms::rooms_of(height, width, given, given_len, ids, starts, flat);
+    let count = rooms::rooms_of(g, given, given_len, ids, starts, flat);
     if clues_len != count {
         return 8;
     }
@@ -147,23 +141,13 @@ fn lists_code<'a>(
     9
 }
 
-// Copies a slice to the front of another.
-fn copy(from: &[u16], to: &mut [u16])
-    requires { ⌜ length (now from) ≤ length (now to) ⌝ }
-    ensures { λ _. ⌜ now (to .exit) ≡ sets (now (to .entry)) 0 (now (from .entry)) ⌝ }
-{
-    let mut i = 0;
-    while i < from.len() {
-        to[i] = from[i];
-        i += 1;
-    }
-}
-
 // A board with the given walls, and nothing else, decided.
-fn fresh_board(height: usize, width: usize, given: &[u16]) -> Board
+fn fresh_board(g: Grid, given: &[u16]) -> Board
     requires { ⌜ Below 1984 (now given) (length (now given)) ⌝ }
-    ensures { λ r. ⌜ r ≡ freshBoard height width (now (given .entry)) ⌝ }
+    ensures { λ r. ⌜ r ≡ freshBoard (g .height) (g .width) (now (given .entry)) ⌝ }
 {
+    let height = g.height;
+    let width = g.width;
     let mut states = [0u8; 1984];
     rooms::put(given, given.len(), 2, &mut states);
     Board {
@@ -176,16 +160,16 @@ fn fresh_board(height: usize, width: usize, given: &[u16]) -> Board
 }
 
 // A fresh puzzle.
-fn fresh<'a>(height: usize, width: usize, given: &'a [u16], clues: &'a [u16]) -> Puzzle
+fn fresh<'a>(g: Grid, given: &'a [u16], clues: &'a [u16]) -> Puzzle
     requires { ⌜ Below 1984 (now given) (length (now given)) ⌝ }
     requires { ⌜ (length (now given) ≤ 1984) × (length (now clues) ≤ 1024) ⌝ }
-    ensures { λ r. ⌜ r ≡ freshPuzzle height width (now (given .entry)) (now (clues .entry)) ⌝ }
+    ensures { λ r. ⌜ r ≡ freshPuzzle (g .height) (g .width) (now (given .entry)) (now (clues .entry)) ⌝ }
 {
     let mut walls = [0u16; 1984];
-    copy(given, &mut walls);
+    lists::copy(given, &mut walls);
     let mut counts = [0u16; 1024];
-    copy(clues, &mut counts);
-    let board = fresh_board(height, width, given);
+    lists::copy(clues, &mut counts);
+    let board = fresh_board(g, given);
     Puzzle {
         board: board,
         given: walls,
@@ -222,15 +206,18 @@ fn unmade(code: u8) -> Made
 pub fn make<'a>(height: usize, width: usize, given: &'a [u16], clues: &'a [u16]) -> Made
     ensures { λ r. ⌜ r ≡ makeOf height width (now (given .entry)) (now (clues .entry)) ⌝ }
 {
-    if !grid::sizes::sizes_ok(height, width) {
+    let g = Grid {
+        height: height,
+        width: width,
+    };
+    if !grid::sizes_ok(g) {
         return unmade(1);
     }
     let mut ids = [0u16; 1024];
     let mut starts = [0u16; 1024];
     let mut flat = [0u16; 1024];
     let code = lists_code(
-        height,
-        width,
+        g,
         given,
         given.len(),
         clues,
@@ -244,14 +231,13 @@ pub fn make<'a>(height: usize, width: usize, given: &'a [u16], clues: &'a [u16])
     }
     Made {
         code: 0,
-        puzzle: fresh(height, width, given, clues),
+        puzzle: fresh(g, given, clues),
     }
 }
 
 // Questions 1 and 2 of a puzzle's parts: 01's number, or 0. Where it is 0, the rooms stand in the lent slices.
 fn code_of<'a>(
-    height: usize,
-    width: usize,
+    g: Grid,
     states: &'a [u8],
     names: &'a [u16],
     len: usize,
@@ -265,11 +251,11 @@ fn code_of<'a>(
 ) -> u8
     requires { ⌜ Arrays (now states) (now names) (now given) (now clues) ⌝ }
     requires { ⌜ Lent 1024 (now ids) (now starts) (now flat) ⌝ }
-    ensures { λ r. ⌜ r ≡ puzzleCode (puzzleOf height width (now (states .entry)) (now (names .entry)) len (now (given .entry)) «given_len» (now (clues .entry)) «clues_len») ⌝ }
+    ensures { λ r. ⌜ r ≡ puzzleCode (puzzleOf (g .height) (g .width) (now (states .entry)) (now (names .entry)) len (now (given .entry)) «given_len» (now (clues .entry)) «clues_len») ⌝ }
     ensures { λ r.
-        ⌜ (r ≡ 0 → Roomed (grid height width) (take «given_len» (now (given .entry))) (now (ids .entry)) (now (starts .entry)) (now (flat .entry)) (now (ids .exit)) (now (starts .exit)) (now (flat .exit)) «clues_len») ⌝ }
+        ⌜ (r ≡ 0 → Roomed g (take «given_len» (now (given .entry))) (now (ids .entry)) (now (starts .entry)) (now (flat .entry)) (now (ids .exit)) (now (starts .exit)) (now (flat .exit)) «clues_len») ⌝ }
 {
-    if !grid::sizes::sizes_ok(height, width) {
+    if !grid::sizes_ok(g) {
         return 1;
     }
     if 1984 < given_len {
@@ -278,22 +264,10 @@ fn code_of<'a>(
     if 1024 < clues_len {
         return 2;
     }
-    if lists_code(
-        height,
-        width,
-        given,
-        given_len,
-        clues,
-        clues_len,
-        ids,
-        starts,
-        flat,
-    )
-        != 0
-    {
+    if lists_code(g, given, given_len, clues, clues_len, ids, starts, flat) != 0 {
         return 2;
     }
-    let n = grid::sizes::border_count(height, width);
+    let n = grid::border_count(g);
     if n < len {
         return 2;
     }
@@ -307,8 +281,7 @@ fn code_of<'a>(
 
 // The same, where the rooms are not asked for.
 fn parts_code<'a>(
-    height: usize,
-    width: usize,
+    g: Grid,
     states: &'a [u8],
     names: &'a [u16],
     len: usize,
@@ -318,14 +291,13 @@ fn parts_code<'a>(
     clues_len: usize,
 ) -> u8
     requires { ⌜ Arrays (now states) (now names) (now given) (now clues) ⌝ }
-    ensures { λ r. ⌜ r ≡ puzzleCode (puzzleOf height width (now (states .entry)) (now (names .entry)) len (now (given .entry)) «given_len» (now (clues .entry)) «clues_len») ⌝ }
+    ensures { λ r. ⌜ r ≡ puzzleCode (puzzleOf (g .height) (g .width) (now (states .entry)) (now (names .entry)) len (now (given .entry)) «given_len» (now (clues .entry)) «clues_len») ⌝ }
 {
     let mut ids = [0u16; 1024];
     let mut starts = [0u16; 1024];
     let mut flat = [0u16; 1024];
     code_of(
-        height,
-        width,
+        g,
         states,
         names,
         len,
@@ -343,9 +315,12 @@ fn parts_code<'a>(
 pub fn puzzle_code(p: Puzzle) -> u8
     ensures { λ r. ⌜ r ≡ puzzleCode p ⌝ }
 {
+    let g = Grid {
+        height: p.board.height,
+        width: p.board.width,
+    };
     parts_code(
-        p.board.height,
-        p.board.width,
+        g,
         &p.board.states,
         &p.board.ledger,
         p.board.len,
@@ -369,9 +344,12 @@ fn onto(p: Puzzle, b: Board) -> Puzzle
 pub fn decide(p: Puzzle, border: usize, wall: bool) -> Made
     ensures { λ r. ⌜ r ≡ decideOf p border wall ⌝ }
 {
+    let g = Grid {
+        height: p.board.height,
+        width: p.board.width,
+    };
     let code = parts_code(
-        p.board.height,
-        p.board.width,
+        g,
         &p.board.states,
         &p.board.ledger,
         p.board.len,
@@ -387,7 +365,7 @@ pub fn decide(p: Puzzle, border: usize, wall: bool) -> Made
         };
     }
     let b = p.board;
-    if grid::sizes::border_count(b.height, b.width) <= border {
+    if grid::border_count(g) <= border {
         return Made { code: 3, puzzle: p };
     }
     if b.states[border] != 0 {
@@ -403,9 +381,12 @@ pub fn decide(p: Puzzle, border: usize, wall: bool) -> Made
 pub fn undo(p: Puzzle) -> Made
     ensures { λ r. ⌜ r ≡ undoOf p ⌝ }
 {
+    let g = Grid {
+        height: p.board.height,
+        width: p.board.width,
+    };
     let code = parts_code(
-        p.board.height,
-        p.board.width,
+        g,
         &p.board.states,
         &p.board.ledger,
         p.board.len,
@@ -432,8 +413,7 @@ pub fn undo(p: Puzzle) -> Made
 
 // The count of a room, where it has a clue: the list of a fault goes to the buffer's front, else the buffer stays.
 fn check_room<'a>(
-    height: usize,
-    width: usize,
+    g: Grid,
     marks: &'a [u8],
     ids: &'a [u16],
     vertex: &'a [u16],
@@ -445,39 +425,29 @@ fn check_room<'a>(
     room: usize,
     buf: &mut [u16],
 ) -> Inconsistency
-    requires { ⌜ Housing (grid height width) (now marks) (now ids) (now vertex) (now starts) (now flat) count ⌝ }
-    requires { ⌜ Asking (grid height width) (now states) (now clues) count (now buf) ⌝ }
+    requires { ⌜ Housing g (now marks) (now ids) (now vertex) (now starts) (now flat) count ⌝ }
+    requires { ⌜ Asking g (now states) (now clues) count (now buf) ⌝ }
     requires { ⌜ room < count ⌝ }
     ensures { λ r.
-        ⌜ r ≡ foundOf (clueList (grid height width) (markedIn (now (marks .entry))) (now (ids .entry)) (now (clues .entry)) room (stateOf (now (states .entry)))) ⌝ }
+        ⌜ r ≡ foundOf (clueList g (markedIn (now (marks .entry))) (now (ids .entry)) (now (clues .entry)) room (stateOf (now (states .entry)))) ⌝ }
     ensures { λ _.
-        ⌜ now (buf .exit) ≡ sets (now (buf .entry)) 0 (listOf (clueList (grid height width) (markedIn (now (marks .entry))) (now (ids .entry)) (now (clues .entry)) room (stateOf (now (states .entry))))) ⌝ }
+        ⌜ now (buf .exit) ≡ sets (now (buf .entry)) 0 (listOf (clueList g (markedIn (now (marks .entry))) (now (ids .entry)) (now (clues .entry)) room (stateOf (now (states .entry))))) ⌝ }
 {
-    let clue = wide(clues[room]);
+    let height = g.height;
+    let width = g.width;
+    let clue = lists::wide(clues[room]);
     if clue == 65535 {
         return Inconsistency::Nothing;
     }
-    let start = wide(starts[room]);
+    let start = lists::wide(starts[room]);
     let end = groups::end_of(starts, count, height * width, room);
     let cells = &flat[start..end];
-    rooms::find_inconsistency(
-        height,
-        width,
-        marks,
-        states,
-        ids,
-        vertex,
-        cells,
-        room,
-        clue,
-        buf,
-    )
+    rooms::find_inconsistency(g, marks, states, ids, vertex, cells, room, clue, buf)
 }
 
 // The counts of the clued rooms in order, up to the first fault.
 fn check_rooms<'a>(
-    height: usize,
-    width: usize,
+    g: Grid,
     marks: &'a [u8],
     ids: &'a [u16],
     vertex: &'a [u16],
@@ -488,18 +458,17 @@ fn check_rooms<'a>(
     clues: &'a [u16],
     buf: &mut [u16],
 ) -> Answer
-    requires { ⌜ Housing (grid height width) (now marks) (now ids) (now vertex) (now starts) (now flat) count ⌝ }
-    requires { ⌜ Asking (grid height width) (now states) (now clues) count (now buf) ⌝ }
+    requires { ⌜ Housing g (now marks) (now ids) (now vertex) (now starts) (now flat) count ⌝ }
+    requires { ⌜ Asking g (now states) (now clues) count (now buf) ⌝ }
     ensures { λ r.
-        ⌜ r ≡ says 0 (roomsFault (grid height width) (markedIn (now (marks .entry))) (now (ids .entry)) (now (clues .entry)) count (stateOf (now (states .entry)))) ⌝ }
+        ⌜ r ≡ says 0 (roomsFault g (markedIn (now (marks .entry))) (now (ids .entry)) (now (clues .entry)) count (stateOf (now (states .entry)))) ⌝ }
     ensures { λ _.
-        ⌜ now (buf .exit) ≡ writes 0 (roomsFault (grid height width) (markedIn (now (marks .entry))) (now (ids .entry)) (now (clues .entry)) count (stateOf (now (states .entry)))) (now (buf .entry)) ⌝ }
+        ⌜ now (buf .exit) ≡ writes 0 (roomsFault g (markedIn (now (marks .entry))) (now (ids .entry)) (now (clues .entry)) count (stateOf (now (states .entry)))) (now (buf .entry)) ⌝ }
 {
     let mut room = 0;
     while room < count {
         let found = check_room(
-            height,
-            width,
+            g,
             marks,
             ids,
             vertex,
@@ -521,8 +490,7 @@ fn check_rooms<'a>(
 
 // The counts of the clued rooms of a board whose borders have these states.
 fn rooms_fault<'a>(
-    height: usize,
-    width: usize,
+    g: Grid,
     given: &'a [u16],
     len: usize,
     ids: &'a [u16],
@@ -533,14 +501,16 @@ fn rooms_fault<'a>(
     clues: &'a [u16],
     buf: &mut [u16],
 ) -> Answer
-    requires { ⌜ Given (grid height width) (now given) len ⌝ }
-    requires { ⌜ Roomed (grid height width) (take len (now given)) noClues noClues noClues (now ids) (now starts) (now flat) count ⌝ }
-    requires { ⌜ Asking (grid height width) (now states) (now clues) count (now buf) ⌝ }
+    requires { ⌜ Given g (now given) len ⌝ }
+    requires { ⌜ Roomed g (take len (now given)) noClues noClues noClues (now ids) (now starts) (now flat) count ⌝ }
+    requires { ⌜ Asking g (now states) (now clues) count (now buf) ⌝ }
     ensures { λ r.
-        ⌜ r ≡ says 0 (roomsIn (grid height width) (take len (now (given .entry))) (now (clues .entry)) (now (states .entry))) ⌝ }
+        ⌜ r ≡ says 0 (roomsIn g (take len (now (given .entry))) (now (clues .entry)) (now (states .entry))) ⌝ }
     ensures { λ _.
-        ⌜ now (buf .exit) ≡ writes 0 (roomsIn (grid height width) (take len (now (given .entry))) (now (clues .entry)) (now (states .entry))) (now (buf .entry)) ⌝ }
+        ⌜ now (buf .exit) ≡ writes 0 (roomsIn g (take len (now (given .entry))) (now (clues .entry)) (now (states .entry))) (now (buf .entry)) ⌝ }
 {
+    let height = g.height;
+    let width = g.width;
     let n = height * width;
     let mut marks = [0u8; 1984];
     rooms::put(given, len, 1, &mut marks);
@@ -548,8 +518,7 @@ fn rooms_fault<'a>(
     let mut vertex = [0u16; 1024];
     rooms::vertices(&ids[..n], n, &mut next, &mut vertex);
     check_rooms(
-        height,
-        width,
+        g,
         &marks,
         &ids[..n],
         &vertex,
@@ -564,8 +533,7 @@ fn rooms_fault<'a>(
 
 // The shape check, and then the counts of the clued rooms, on a board whose borders have these states.
 fn find<'a>(
-    height: usize,
-    width: usize,
+    g: Grid,
     given: &'a [u16],
     len: usize,
     ids: &'a [u16],
@@ -576,20 +544,19 @@ fn find<'a>(
     count: usize,
     buf: &mut [u16],
 ) -> Answer
-    requires { ⌜ Finding (grid height width) (now given) len (now states) (take count (now clues)) (now buf) ⌝ }
-    requires { ⌜ Roomed (grid height width) (take len (now given)) noClues noClues noClues (now ids) (now starts) (now flat) count ⌝ }
+    requires { ⌜ Finding g (now given) len (now states) (take count (now clues)) (now buf) ⌝ }
+    requires { ⌜ Roomed g (take len (now given)) noClues noClues noClues (now ids) (now starts) (now flat) count ⌝ }
     requires { ⌜ count ≤ length (now clues) ⌝ }
-    ensures { λ r. ⌜ r ≡ says 0 (faultOf (grid height width) (take len (now (given .entry))) (take count (now (clues .entry))) (now (states .entry))) ⌝ }
+    ensures { λ r. ⌜ r ≡ says 0 (faultOf g (take len (now (given .entry))) (take count (now (clues .entry))) (now (states .entry))) ⌝ }
     ensures { λ _.
-        ⌜ now (buf .exit) ≡ writes 0 (faultOf (grid height width) (take len (now (given .entry))) (take count (now (clues .entry))) (now (states .entry))) (now (buf .entry)) ⌝ }
+        ⌜ now (buf .exit) ≡ writes 0 (faultOf g (take len (now (given .entry))) (take count (now (clues .entry))) (now (states .entry))) (now (buf .entry)) ⌝ }
 {
-    let shape = shape_check::shape_fault(height, width, states, buf);
+    let shape = shape_check::shape_fault(g, states, buf);
     if let Found::Fault(n) = shape {
         return Answer::Fault(Check::Shape, n);
     }
     rooms_fault(
-        height,
-        width,
+        g,
         given,
         len,
         ids,
@@ -608,12 +575,15 @@ pub fn ask(p: Puzzle, buf: &mut [u16]) -> Answer
     ensures { λ r. ⌜ r ≡ askOf p (now (buf .entry)) .answer ⌝ }
     ensures { λ _. ⌜ now (buf .exit) ≡ askOf p (now (buf .entry)) .buffer ⌝ }
 {
+    let g = Grid {
+        height: p.board.height,
+        width: p.board.width,
+    };
     let mut ids = [0u16; 1024];
     let mut starts = [0u16; 1024];
     let mut flat = [0u16; 1024];
     let code = code_of(
-        p.board.height,
-        p.board.width,
+        g,
         &p.board.states,
         &p.board.ledger,
         p.board.len,
@@ -632,8 +602,7 @@ pub fn ask(p: Puzzle, buf: &mut [u16]) -> Answer
         return Answer::Refused(6);
     }
     find(
-        p.board.height,
-        p.board.width,
+        g,
         &p.given,
         p.given_len,
         &ids,

@@ -2,12 +2,12 @@
 ghost use mathlib.Core.Path.{_≡_};
 ghost use Prim.Native.Nat.{_*_, _≤_};
 ghost use lib.ListN.{length};
-ghost use Rattle.grid.specs.Grid.{grid};
 ghost use Rattle.groups.specs.Floods.{Fits};
 ghost use Rattle.shape.specs.Shape.{shapeFault};
 ghost use Rattle.inner_walls.specs.Found.{Told};
 ghost use Rattle.shape_check.specs.Answer.{answerOf, written, shapeOutcome};
 use board::Board;
+use grid::Grid;
 use inner_walls::Found;
 
 // Clear, a fault whose list has so many entries, or refused with 01's number.
@@ -18,38 +18,23 @@ pub enum ShapeAnswer {
 }
 
 // The check of borders in these states: inner Walls, and else the units in order.
-pub fn shape_fault(height: usize, width: usize, states: &[u8], buffer: &mut [u16]) -> Found
-    requires { ⌜ Fits (grid height width) (now states) ⌝ }
-    requires { ⌜ 9 * (height * width) ≤ length (now buffer) ⌝ }
-    ensures { λ r. ⌜ Told (shapeFault (grid height width) (now (states .entry))) (now (buffer .entry)) (now (buffer .exit)) r ⌝ }
+pub fn shape_fault(g: Grid, states: &[u8], buffer: &mut [u16]) -> Found
+    requires { ⌜ Fits g (now states) ⌝ }
+    requires { ⌜ 9 * (g .height * g .width) ≤ length (now buffer) ⌝ }
+    ensures { λ r. ⌜ Told (shapeFault g (now (states .entry))) (now (buffer .entry)) (now (buffer .exit)) r ⌝ }
 {
+    let height = g.height;
+    let width = g.width;
     let n = height * width;
     let mut ids = [0u16; 1024];
     let mut starts = [0u16; 1024];
     let mut flat = [0u16; 1024];
-    let count = groups::groups_of(
-        states,
-        height,
-        width,
-        false,
-        &mut ids,
-        &mut starts,
-        &mut flat,
-    );
-    let f = inner_walls::inner_wall(height, width, states, &ids[..n], buffer);
+    let count = groups::groups_of(states, g, false, &mut ids, &mut starts, &mut flat);
+    let f = inner_walls::inner_wall(g, states, &ids[..n], buffer);
     if let Found::Fault(len) = f {
         return Found::Fault(len);
     }
-    unit_check::check_units(
-        height,
-        width,
-        states,
-        &ids[..n],
-        &starts,
-        &flat,
-        count,
-        buffer,
-    )
+    unit_check::check_units(g, states, &ids[..n], &starts, &flat, count, buffer)
 }
 
 // A board's ask: whether its standing borders contradict the laws that concern shape, and by which.
@@ -65,7 +50,11 @@ pub fn find_inconsistency(b: Board, buffer: &mut [u16]) -> ShapeAnswer
     if buffer.len() < 9 * cells {
         return ShapeAnswer::Refused(6);
     }
-    let Found::Fault(n) = shape_fault(b.height, b.width, &b.states, buffer) else {
+    let g = Grid {
+        height: b.height,
+        width: b.width,
+    };
+    let Found::Fault(n) = shape_fault(g, &b.states, buffer) else {
         return ShapeAnswer::Clear;
     };
     ShapeAnswer::Fault(n)

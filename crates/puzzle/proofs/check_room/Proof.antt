@@ -1,7 +1,6 @@
 -- `puzzle::check_room` meets its contract: without a clue nothing is counted; else the room's cells are lent to its count. Assumes nothing.
 use native.Mathlib.Omega.{arith}
 use denote.Ref.{now}
-use Rattle.grid.specs.Grid.{grid}
 use Rattle.grid.proofs.Geometry.{cells-le}
 use Rattle.borders.specs.Border.{stateOf}
 use Rattle.rooms.specs.Lent.{markedIn}
@@ -22,7 +21,7 @@ wide-requires c κs = search needs
 returns : tie.Need-returns
 returns c =
     let s = c .before .before .before .before .before .before .before .before .before .before .before in
-    no-clue (grid (s .args .height) (s .args .width)) (markedIn (now (s .args .marks))) (now (s .args .ids)) (now (s .args .clues)) (stateOf (now (s .args .states))) (s .args .room) (now (s .args .buf)) (rw (c .before .wide .ensures) at (c .if1 .taken))
+    no-clue (s .args .g) (markedIn (now (s .args .marks))) (now (s .args .ids)) (now (s .args .clues)) (stateOf (now (s .args .states))) (s .args .room) (now (s .args .buf)) (rw (c .before .wide .ensures) at (c .if1 .taken))
 
 mul-wide-2 : tie.Need-mul-wide-2
 mul-wide-2 c = search needs
@@ -75,7 +74,7 @@ same-length c = search needs
 returns-2 : tie.Need-returns-2
 returns-2 c =
     let s = c .before .before .before .before .before .before .before .before .before .before .before .before .before .before .before .before .before .before .before in
-    has-clue (grid (s .args .height) (s .args .width)) (markedIn (now (s .args .marks))) (now (s .args .ids)) (now (s .args .clues)) (stateOf (now (s .args .states))) (s .args .room) (now (s .args .buf)) (c .before .before .before .before .before .before .before .before .before .wide .result) _ _ (c .before .before .before .before .before .before .before .before .before .wide .ensures) (c .before .before .before .before .before .before .before .before .if1 .left) (c .before .before .find-inconsistency .ensures)
+    has-clue (s .args .g) (markedIn (now (s .args .marks))) (now (s .args .ids)) (now (s .args .clues)) (stateOf (now (s .args .states))) (s .args .room) (now (s .args .buf)) (c .before .before .before .before .before .before .before .before .before .wide .result) _ _ (c .before .before .before .before .before .before .before .before .before .wide .ensures) (c .before .before .before .before .before .before .before .before .if1 .left) (c .before .before .find-inconsistency .ensures)
 
 pub check-room-spec : {M : Type 1} → statement M
 check-room-spec =

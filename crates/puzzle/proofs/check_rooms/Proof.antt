@@ -5,7 +5,6 @@ use native.Mathlib.Omega.{arith}
 use borrow.Author.Needs.{needs}
 use denote.Ref.{now}
 use lib.ListN.{length}
-use Rattle.grid.specs.Grid.{grid}
 use Rattle.borders.specs.Border.{stateOf}
 use Rattle.city_count.proofs.RoomLaws.{nothing-found}
 use Rattle.rooms.specs.Lent.{markedIn}
@@ -15,16 +14,16 @@ use Rattle.puzzle.proofs.check_rooms.Statement.{statement}
 use Rattle.puzzle.proofs.check_rooms.Tie as tie
 
 abbrev Inv-loop : tie.InvT-loop
-Inv-loop height width marks ids vertex starts flat count states clues buf₀ room₀ buf room =
-    (room ≤ count) × (buf ≡ buf₀) × (rest (grid height width) (markedIn marks) ids clues (stateOf states) count room ≡ roomsFault (grid height width) (markedIn marks) ids clues count (stateOf states))
+Inv-loop g marks ids vertex starts flat count states clues buf₀ room₀ buf room =
+    (room ≤ count) × (buf ≡ buf₀) × (rest g (markedIn marks) ids clues (stateOf states) count room ≡ roomsFault g (markedIn marks) ids clues count (stateOf states))
 
 abbrev μ-loop : tie.MeasureT-loop
-μ-loop height width marks ids vertex starts flat count states clues buf₀ room₀ buf room = count - room
+μ-loop g marks ids vertex starts flat count states clues buf₀ room₀ buf room = count - room
 
 loop-holds : tie.Need-loop-holds Inv-loop μ-loop
 loop-holds c =
     let s = c .before .before .before .before .before .before .before .before in
-    (omega arith, refl, rest-all (grid (s .args .height) (s .args .width)) (markedIn (now (s .args .marks))) (now (s .args .ids)) (now (s .args .clues)) (stateOf (now (s .args .states))) (s .args .count))
+    (omega arith, refl, rest-all (s .args .g) (markedIn (now (s .args .marks))) (now (s .args .ids)) (now (s .args .clues)) (stateOf (now (s .args .states))) (s .args .count))
 
 check-room-requires : tie.Need-check-room-requires Inv-loop μ-loop
 check-room-requires c κs =
@@ -40,14 +39,14 @@ same-length c =
     let s = c .before .before .before .before .before .before .before .before .before .before .before .before .before .before .before .before .before in
     let a = c .before .before .before .before .before .before .before .before in
     let k = c .before .before .before .before .before in
-    kept-long (grid (s .args .height) (s .args .width)) (markedIn (now (s .args .marks))) (now (s .args .ids)) (now (s .args .clues)) (stateOf (now (s .args .states))) (s .args .count) (a .loop .room) (c .before .before .before .before .before .before .before .loop-test .taken) (k .check-room .result) (now (s .args .buf)) (a .loop .buf) _ (a .loop .inv .1) (a .loop .inv .2) (k .check-room .ensures)
+    kept-long (s .args .g) (markedIn (now (s .args .marks))) (now (s .args .ids)) (now (s .args .clues)) (stateOf (now (s .args .states))) (s .args .count) (a .loop .room) (c .before .before .before .before .before .before .before .loop-test .taken) (k .check-room .result) (now (s .args .buf)) (a .loop .buf) _ (a .loop .inv .1) (a .loop .inv .2) (k .check-room .ensures)
 
 returns : tie.Need-returns Inv-loop μ-loop
 returns c =
     let s = c .before .before .before .before .before .before .before .before .before .before .before .before .before .before .before .before .before in
     let a = c .before .before .before .before .before .before .before .before in
     let k = c .before .before .before .before .before in
-    fault-here (grid (s .args .height) (s .args .width)) (markedIn (now (s .args .marks))) (now (s .args .ids)) (now (s .args .clues)) (stateOf (now (s .args .states))) (s .args .count) (a .loop .room) (c .before .before .before .before .before .before .before .loop-test .taken) (k .check-room .result) (now (s .args .buf)) (a .loop .buf) _ (a .loop .inv .1) (a .loop .inv .2) (k .check-room .ensures) (c .before .found .given .0 .0) (c .before .found .given .1)
+    fault-here (s .args .g) (markedIn (now (s .args .marks))) (now (s .args .ids)) (now (s .args .clues)) (stateOf (now (s .args .states))) (s .args .count) (a .loop .room) (c .before .before .before .before .before .before .before .loop-test .taken) (k .check-room .result) (now (s .args .buf)) (a .loop .buf) _ (a .loop .inv .1) (a .loop .inv .2) (k .check-room .ensures) (c .before .found .given .0 .0) (c .before .found .given .1)
 
 enum-told : tie.Need-enum-told Inv-loop μ-loop
 enum-told c = search needs
@@ -63,7 +62,7 @@ loop-again c =
     let s = c .before .before .before .before .before .before .before .before .before .before .before .before .before .before .before .before in
     let a = c .before .before .before .before .before .before .before in
     let k = c .before .before .before .before in
-    let o = clear-here (grid (s .args .height) (s .args .width)) (markedIn (now (s .args .marks))) (now (s .args .ids)) (now (s .args .clues)) (stateOf (now (s .args .states))) (s .args .count) (a .loop .room) (c .before .before .before .before .before .before .loop-test .taken) (k .check-room .result) (now (s .args .buf)) (a .loop .buf) _ (a .loop .inv .1) (a .loop .inv .2) (k .check-room .ensures) (nothing-found (k .check-room .result) (c .before .match .keys2)) in
+    let o = clear-here (s .args .g) (markedIn (now (s .args .marks))) (now (s .args .ids)) (now (s .args .clues)) (stateOf (now (s .args .states))) (s .args .count) (a .loop .room) (c .before .before .before .before .before .before .loop-test .taken) (k .check-room .result) (now (s .args .buf)) (a .loop .buf) _ (a .loop .inv .1) (a .loop .inv .2) (k .check-room .ensures) (nothing-found (k .check-room .result) (c .before .match .keys2)) in
     (omega arith, o .0, o .1)
 
 same-length-2 : tie.Need-same-length-2 Inv-loop μ-loop
@@ -73,7 +72,7 @@ returns-2 : tie.Need-returns-2 Inv-loop μ-loop
 returns-2 c =
     let s = c .before .before .before .before .before .before .before .before .before .before in
     let a = c .before in
-    is-clear _ (now (s .args .buf)) _ (sym (a .loop .inv .2) ∙ rest-end (grid (s .args .height) (s .args .width)) (markedIn (now (s .args .marks))) (now (s .args .ids)) (now (s .args .clues)) (stateOf (now (s .args .states))) (s .args .count) (a .loop .room) (c .loop-test .left)) (a .loop .inv .1)
+    is-clear _ (now (s .args .buf)) _ (sym (a .loop .inv .2) ∙ rest-end (s .args .g) (markedIn (now (s .args .marks))) (now (s .args .ids)) (now (s .args .clues)) (stateOf (now (s .args .states))) (s .args .count) (a .loop .room) (c .loop-test .left)) (a .loop .inv .1)
 
 pub check-rooms-spec : {M : Type 1} → statement M
 check-rooms-spec =

@@ -21,27 +21,27 @@ sizes-ok-requires c κs = search needs
 returns : tie.Need-returns
 returns c =
     let s = c .before .before .before .before .before .before .before .before .before in
-    let p = puzzleOf (s .args .height) (s .args .width) (now (s .args .states)) (now (s .args .names)) (s .args .len) (now (s .args .given)) (s .args .given-len) (now (s .args .clues)) (s .args .clues-len) in
+    let p = puzzleOf (s .args .g .height) (s .args .g .width) (now (s .args .states)) (now (s .args .names)) (s .args .len) (now (s .args .given)) (s .args .given-len) (now (s .args .clues)) (s .args .clues-len) in
     (no-size p (sym (c .before .sizes-ok .ensures) ∙ not-true (c .before .sizes-ok .result) (c .if1 .taken)), λ q. absurd (let z : _≡_ {A = ℕ} 1 0 = q in omega arith))
 
 returns-2 : tie.Need-returns-2
 returns-2 c =
     let s = c .before .before .before .before .before .before .before .before .before .before in
-    let p = puzzleOf (s .args .height) (s .args .width) (now (s .args .states)) (now (s .args .names)) (s .args .len) (now (s .args .given)) (s .args .given-len) (now (s .args .clues)) (s .args .clues-len) in
+    let p = puzzleOf (s .args .g .height) (s .args .g .width) (now (s .args .states)) (now (s .args .names)) (s .args .len) (now (s .args .given)) (s .args .given-len) (now (s .args .clues)) (s .args .clues-len) in
     let ok = sym (c .before .before .sizes-ok .ensures) ∙ not-false (c .before .before .sizes-ok .result) (c .before .if1 .left) in
     (many-walls p ok (c .if2 .taken), λ q. absurd (let z : _≡_ {A = ℕ} 2 0 = q in omega arith))
 
 returns-3 : tie.Need-returns-3
 returns-3 c =
     let s = c .before .before .before .before .before .before .before .before .before .before .before in
-    let p = puzzleOf (s .args .height) (s .args .width) (now (s .args .states)) (now (s .args .names)) (s .args .len) (now (s .args .given)) (s .args .given-len) (now (s .args .clues)) (s .args .clues-len) in
+    let p = puzzleOf (s .args .g .height) (s .args .g .width) (now (s .args .states)) (now (s .args .names)) (s .args .len) (now (s .args .given)) (s .args .given-len) (now (s .args .clues)) (s .args .clues-len) in
     let ok = sym (c .before .before .before .sizes-ok .ensures) ∙ not-false (c .before .before .before .sizes-ok .result) (c .before .before .if1 .left) in
     (many-clues p ok (c .before .if2 .left) (c .if3 .taken), λ q. absurd (let z : _≡_ {A = ℕ} 2 0 = q in omega arith))
 
 lists-code-requires : tie.Need-lists-code-requires
 lists-code-requires c κs =
     let s = c .before .before .before .before .before .before .before .before .before .before .before .before .before .before in
-    let p = puzzleOf (s .args .height) (s .args .width) (now (s .args .states)) (now (s .args .names)) (s .args .len) (now (s .args .given)) (s .args .given-len) (now (s .args .clues)) (s .args .clues-len) in
+    let p = puzzleOf (s .args .g .height) (s .args .g .width) (now (s .args .states)) (now (s .args .names)) (s .args .len) (now (s .args .given)) (s .args .given-len) (now (s .args .clues)) (s .args .clues-len) in
     let ok = sym (c .before .before .before .before .before .before .sizes-ok .ensures) ∙ not-false (c .before .before .before .before .before .before .sizes-ok .result) (c .before .before .before .before .before .if1 .left) in
     let few = (c .before .before .before .before .if2 .left) in
     let few' = (c .before .before .before .if3 .left) in
@@ -59,14 +59,14 @@ same-length-3 c = search needs
 returns-4 : tie.Need-returns-4
 returns-4 c =
     let s = c .before .before .before .before .before .before .before .before .before .before .before .before .before .before .before .before .before .before .before .before .before .before in
-    let p = puzzleOf (s .args .height) (s .args .width) (now (s .args .states)) (now (s .args .names)) (s .args .len) (now (s .args .given)) (s .args .given-len) (now (s .args .clues)) (s .args .clues-len) in
+    let p = puzzleOf (s .args .g .height) (s .args .g .width) (now (s .args .states)) (now (s .args .names)) (s .args .len) (now (s .args .given)) (s .args .given-len) (now (s .args .clues)) (s .args .clues-len) in
     let ok = sym (c .before .before .before .before .before .before .before .before .before .before .before .before .before .before .sizes-ok .ensures) ∙ not-false (c .before .before .before .before .before .before .before .before .before .before .before .before .before .before .sizes-ok .result) (c .before .before .before .before .before .before .before .before .before .before .before .before .before .if1 .left) in
     (bad-lists p ok (c .before .before .before .before .before .before .before .before .before .before .before .before .if2 .left) (c .before .before .before .before .before .before .before .before .before .before .before .if3 .left) (rw (c .before .before .before .before .before .before .before .lists-code .ensures .0) at (c .if4 .taken)), λ q. absurd (let z : _≡_ {A = ℕ} 2 0 = q in omega arith))
 
 border-count-requires : tie.Need-border-count-requires
 border-count-requires c κs =
     let s = c .before .before .before .before .before .before .before .before .before .before .before .before .before .before .before .before .before .before .before .before .before .before in
-    let p = puzzleOf (s .args .height) (s .args .width) (now (s .args .states)) (now (s .args .names)) (s .args .len) (now (s .args .given)) (s .args .given-len) (now (s .args .clues)) (s .args .clues-len) in
+    let p = puzzleOf (s .args .g .height) (s .args .g .width) (now (s .args .states)) (now (s .args .names)) (s .args .len) (now (s .args .given)) (s .args .given-len) (now (s .args .clues)) (s .args .clues-len) in
     let ok = sym (c .before .before .before .before .before .before .before .before .before .before .before .before .before .before .sizes-ok .ensures) ∙ not-false (c .before .before .before .before .before .before .before .before .before .before .before .before .before .before .sizes-ok .result) (c .before .before .before .before .before .before .before .before .before .before .before .before .before .if1 .left) in
     limits (gridOf p) ok
 
@@ -82,7 +82,7 @@ same-length-6 c = search needs
 returns-5 : tie.Need-returns-5
 returns-5 c =
     let s = c .before .before .before .before .before .before .before .before .before .before .before .before .before .before .before .before .before .before .before .before .before .before .before .before in
-    let p = puzzleOf (s .args .height) (s .args .width) (now (s .args .states)) (now (s .args .names)) (s .args .len) (now (s .args .given)) (s .args .given-len) (now (s .args .clues)) (s .args .clues-len) in
+    let p = puzzleOf (s .args .g .height) (s .args .g .width) (now (s .args .states)) (now (s .args .names)) (s .args .len) (now (s .args .given)) (s .args .given-len) (now (s .args .clues)) (s .args .clues-len) in
     let ok = sym (c .before .before .before .before .before .before .before .before .before .before .before .before .before .before .before .before .sizes-ok .ensures) ∙ not-false (c .before .before .before .before .before .before .before .before .before .before .before .before .before .before .before .before .sizes-ok .result) (c .before .before .before .before .before .before .before .before .before .before .before .before .before .before .before .if1 .left) in
     let z = sym (c .before .before .before .before .before .before .before .before .before .lists-code .ensures .0) ∙ c .before .before .if4 .left in
     (long-ledger p ok (c .before .before .before .before .before .before .before .before .before .before .before .before .before .before .if2 .left) (c .before .before .before .before .before .before .before .before .before .before .before .before .before .if3 .left) z (rw (c .before .border-count .ensures) at (c .if5 .taken)), λ q. absurd (let z : _≡_ {A = ℕ} 2 0 = q in omega arith))
@@ -94,7 +94,7 @@ put-requires : tie.Need-put-requires
 unfolding unmarked
 put-requires c κs =
     let s = c .before .before .before .before .before .before .before .before .before .before .before .before .before .before .before .before .before .before .before .before .before .before .before .before .before in
-    let p = puzzleOf (s .args .height) (s .args .width) (now (s .args .states)) (now (s .args .names)) (s .args .len) (now (s .args .given)) (s .args .given-len) (now (s .args .clues)) (s .args .clues-len) in
+    let p = puzzleOf (s .args .g .height) (s .args .g .width) (now (s .args .states)) (now (s .args .names)) (s .args .len) (now (s .args .given)) (s .args .given-len) (now (s .args .clues)) (s .args .clues-len) in
     let ok = sym (c .before .before .before .before .before .before .before .before .before .before .before .before .before .before .before .before .before .sizes-ok .ensures) ∙ not-false (c .before .before .before .before .before .before .before .before .before .before .before .before .before .before .before .before .before .sizes-ok .result) (c .before .before .before .before .before .before .before .before .before .before .before .before .before .before .before .before .if1 .left) in
     let z = sym (c .before .before .before .before .before .before .before .before .before .before .lists-code .ensures .0) ∙ c .before .before .before .if4 .left in
     walls-fit p (limits (gridOf p) ok) (c .before .before .before .before .before .before .before .before .before .before .before .before .before .before .before .if2 .left) z (s .pre .0 .given-long)
@@ -106,7 +106,7 @@ holds-requires : tie.Need-holds-requires
 unfolding unmarked
 holds-requires c κs =
     let s = c .before .before .before .before .before .before .before .before .before .before .before .before .before .before .before .before .before .before .before .before .before .before .before .before .before .before .before .before in
-    let p = puzzleOf (s .args .height) (s .args .width) (now (s .args .states)) (now (s .args .names)) (s .args .len) (now (s .args .given)) (s .args .given-len) (now (s .args .clues)) (s .args .clues-len) in
+    let p = puzzleOf (s .args .g .height) (s .args .g .width) (now (s .args .states)) (now (s .args .names)) (s .args .len) (now (s .args .given)) (s .args .given-len) (now (s .args .clues)) (s .args .clues-len) in
     let ok = sym (c .before .before .before .before .before .before .before .before .before .before .before .before .before .before .before .before .before .before .before .before .sizes-ok .ensures) ∙ not-false (c .before .before .before .before .before .before .before .before .before .before .before .before .before .before .before .before .before .before .before .before .sizes-ok .result) (c .before .before .before .before .before .before .before .before .before .before .before .before .before .before .before .before .before .before .before .if1 .left) in
     let z = sym (c .before .before .before .before .before .before .before .before .before .before .before .before .before .lists-code .ensures .0) ∙ c .before .before .before .before .before .before .if4 .left in
     let w = walls-fit p (limits (gridOf p) ok) (c .before .before .before .before .before .before .before .before .before .before .before .before .before .before .before .before .before .before .if2 .left) z (s .pre .0 .given-long) in
@@ -128,7 +128,7 @@ returns-6 : tie.Need-returns-6
 unfolding unmarked
 returns-6 c =
     let s = c .before .before .before .before .before .before .before .before .before .before .before .before .before .before .before .before .before .before .before .before .before .before .before .before .before .before .before .before .before .before .before in
-    let p = puzzleOf (s .args .height) (s .args .width) (now (s .args .states)) (now (s .args .names)) (s .args .len) (now (s .args .given)) (s .args .given-len) (now (s .args .clues)) (s .args .clues-len) in
+    let p = puzzleOf (s .args .g .height) (s .args .g .width) (now (s .args .states)) (now (s .args .names)) (s .args .len) (now (s .args .given)) (s .args .given-len) (now (s .args .clues)) (s .args .clues-len) in
     let ok = sym (c .before .before .before .before .before .before .before .before .before .before .before .before .before .before .before .before .before .before .before .before .before .before .before .sizes-ok .ensures) ∙ not-false (c .before .before .before .before .before .before .before .before .before .before .before .before .before .before .before .before .before .before .before .before .before .before .before .sizes-ok .result) (c .before .before .before .before .before .before .before .before .before .before .before .before .before .before .before .before .before .before .before .before .before .before .if1 .left) in
     let z = sym (c .before .before .before .before .before .before .before .before .before .before .before .before .before .before .before .before .lists-code .ensures .0) ∙ c .before .before .before .before .before .before .before .before .before .if4 .left in
     let w = walls-fit p (limits (gridOf p) ok) (c .before .before .before .before .before .before .before .before .before .before .before .before .before .before .before .before .before .before .before .before .before .if2 .left) z (s .pre .0 .given-long) in
@@ -150,7 +150,7 @@ returns-7 : tie.Need-returns-7
 unfolding unmarked
 returns-7 c =
     let s = c .before .before .before .before .before .before .before .before .before .before .before .before .before .before .before .before .before .before .before .before .before .before .before .before .before .before .before .before .before .before .before in
-    let p = puzzleOf (s .args .height) (s .args .width) (now (s .args .states)) (now (s .args .names)) (s .args .len) (now (s .args .given)) (s .args .given-len) (now (s .args .clues)) (s .args .clues-len) in
+    let p = puzzleOf (s .args .g .height) (s .args .g .width) (now (s .args .states)) (now (s .args .names)) (s .args .len) (now (s .args .given)) (s .args .given-len) (now (s .args .clues)) (s .args .clues-len) in
     let ok = sym (c .before .before .before .before .before .before .before .before .before .before .before .before .before .before .before .before .before .before .before .before .before .before .before .sizes-ok .ensures) ∙ not-false (c .before .before .before .before .before .before .before .before .before .before .before .before .before .before .before .before .before .before .before .before .before .before .before .sizes-ok .result) (c .before .before .before .before .before .before .before .before .before .before .before .before .before .before .before .before .before .before .before .before .before .before .if1 .left) in
     let z = sym (c .before .before .before .before .before .before .before .before .before .before .before .before .before .before .before .before .lists-code .ensures .0) ∙ c .before .before .before .before .before .before .before .before .before .if4 .left in
     let w = walls-fit p (limits (gridOf p) ok) (c .before .before .before .before .before .before .before .before .before .before .before .before .before .before .before .before .before .before .before .before .before .if2 .left) z (s .pre .0 .given-long) in

@@ -18,7 +18,7 @@ returns : tie.Need-returns
 unfolding zeros unmarked
 returns c =
     let s = c .before .before .before .before in
-    board-is (s .args .height) (s .args .width) (now (s .args .given)) _ (c .before .put .ensures ∙ fresh-states (now (s .args .given)) (s .pre))
+    board-is (s .args .g .height) (s .args .g .width) (now (s .args .given)) _ (c .before .put .ensures ∙ fresh-states (now (s .args .given)) (s .pre))
 
 pub fresh-board-spec : {M : Type 1} → statement M
 fresh-board-spec = tie.close (tie.spec slice-aggregate-put put-requires returns)

@@ -7,7 +7,7 @@ use borrow.Author.Tests.{not-true, not-false}
 use denote.Ref.{now}
 use lib.ListN.{take}
 use lib.Seq.{length-take-le}
-use Rattle.grid.specs.Grid.{grid, borderCount}
+use Rattle.grid.specs.Grid.{borderCount}
 use Rattle.grid.proofs.Geometry.{cells-le}
 use Rattle.puzzle.proofs.ListsCode.{tested, not-there, not-rising, not-one-each, by-clues, walls-given, room-sizes, fits-same, one-each-is, counted}
 use borrow.Author.Needs.{needs}
@@ -23,7 +23,7 @@ exist-requires c κs = search needs
 returns : tie.Need-returns
 returns c =
     let s = c .before .before .before .before .before .before .before .before in
-    let g = grid (s .args .height) (s .args .width) in
+    let g = s .args .g in
     let a = tested (c .before .before .border-count .result) (borderCount g) (take (s .args .given-len) (now (s .args .given))) (c .before .exist .result) (c .before .before .border-count .ensures) (c .before .exist .ensures) ∙ not-true (c .before .exist .result) (c .if1 .taken) in
     (not-there g (take (s .args .given-len) (now (s .args .given))) (take (s .args .clues-len) (now (s .args .clues))) a, λ q. absurd (let z : _≡_ {A = ℕ} 3 0 = q in omega arith))
 
@@ -33,7 +33,7 @@ rise-requires c κs = search needs
 returns-2 : tie.Need-returns-2
 returns-2 c =
     let s = c .before .before .before .before .before .before .before .before .before .before in
-    let g = grid (s .args .height) (s .args .width) in
+    let g = s .args .g in
     let a = tested (c .before .before .before .before .border-count .result) (borderCount g) (take (s .args .given-len) (now (s .args .given))) (c .before .before .before .exist .result) (c .before .before .before .before .border-count .ensures) (c .before .before .before .exist .ensures) ∙ not-false (c .before .before .before .exist .result) (c .before .before .if1 .left) in
     let u = sym (c .before .rise .ensures) ∙ not-true (c .before .rise .result) (c .if2 .taken) in
     (not-rising g (take (s .args .given-len) (now (s .args .given))) (take (s .args .clues-len) (now (s .args .clues))) a u, λ q. absurd (let z : _≡_ {A = ℕ} 7 0 = q in omega arith))
@@ -41,7 +41,7 @@ returns-2 c =
 rooms-of-requires : tie.Need-rooms-of-requires
 rooms-of-requires c κs =
     let s = c .before .before .before .before .before .before .before .before .before .before .before .before .before in
-    let g = grid (s .args .height) (s .args .width) in
+    let g = s .args .g in
     let a = tested (c .before .before .before .before .before .before .before .border-count .result) (borderCount g) (take (s .args .given-len) (now (s .args .given))) (c .before .before .before .before .before .before .exist .result) (c .before .before .before .before .before .before .before .border-count .ensures) (c .before .before .before .before .before .before .exist .ensures) ∙ not-false (c .before .before .before .before .before .before .exist .result) (c .before .before .before .before .before .if1 .left) in
     (walls-given g (now (s .args .given)) (s .args .given-len) (s .pre .0 .limits) (s .pre .0 .given-long) a, s .pre .1)
 
@@ -57,7 +57,7 @@ same-length-3 c = search needs
 returns-3 : tie.Need-returns-3
 returns-3 c =
     let s = c .before .before .before .before .before .before .before .before .before .before .before .before .before .before .before .before .before .before .before .before .before in
-    let g = grid (s .args .height) (s .args .width) in
+    let g = s .args .g in
     let a = tested (c .before .before .before .before .before .before .before .before .before .before .before .before .before .before .before .border-count .result) (borderCount g) (take (s .args .given-len) (now (s .args .given))) (c .before .before .before .before .before .before .before .before .before .before .before .before .before .before .exist .result) (c .before .before .before .before .before .before .before .before .before .before .before .before .before .before .before .border-count .ensures) (c .before .before .before .before .before .before .before .before .before .before .before .before .before .before .exist .ensures) ∙ not-false (c .before .before .before .before .before .before .before .before .before .before .before .before .before .before .exist .result) (c .before .before .before .before .before .before .before .before .before .before .before .before .before .if1 .left) in
     let u = sym (c .before .before .before .before .before .before .before .before .before .before .before .before .rise .ensures) ∙ not-false (c .before .before .before .before .before .before .before .before .before .before .before .before .rise .result) (c .before .before .before .before .before .before .before .before .before .before .before .if2 .left) in
     (not-one-each g (take (s .args .given-len) (now (s .args .given))) (take (s .args .clues-len) (now (s .args .clues))) a u (λ q. c .if3 .taken (sym (length-take-le (s .args .clues-len) (now (s .args .clues)) (s .pre .0 .clues-long)) ∙ q ∙ sym (c .before .before .before .before .before .before .before .rooms-of .ensures .count-is))), λ q. absurd (let z : _≡_ {A = ℕ} 8 0 = q in omega arith))
@@ -68,7 +68,7 @@ mul-clues-fit c = omega (arith, cells-le _ (c .before .before .before .before .b
 clues-fit-requires : tie.Need-clues-fit-requires
 clues-fit-requires c κs =
     let s = c .before .before .before .before .before .before .before .before .before .before .before .before .before .before .before .before .before .before .before .before .before .before in
-    let g = grid (s .args .height) (s .args .width) in
+    let g = s .args .g in
     let a = tested (c .before .before .before .before .before .before .before .before .before .before .before .before .before .before .before .before .border-count .result) (borderCount g) (take (s .args .given-len) (now (s .args .given))) (c .before .before .before .before .before .before .before .before .before .before .before .before .before .before .before .exist .result) (c .before .before .before .before .before .before .before .before .before .before .before .before .before .before .before .before .border-count .ensures) (c .before .before .before .before .before .before .before .before .before .before .before .before .before .before .before .exist .ensures) ∙ not-false (c .before .before .before .before .before .before .before .before .before .before .before .before .before .before .before .exist .result) (c .before .before .before .before .before .before .before .before .before .before .before .before .before .before .if1 .left) in
     let z = c .before .before .before .before .before .before .before .before in
     let w = walls-given g (now (s .args .given)) (s .args .given-len) (s .pre .0 .limits) (s .pre .0 .given-long) a in
@@ -86,7 +86,7 @@ same-length-6 c = search needs
 returns-4 : tie.Need-returns-4
 returns-4 c =
     let s = c .before .before .before .before .before .before .before .before .before .before .before .before .before .before .before .before .before .before .before .before .before .before .before .before in
-    let g = grid (s .args .height) (s .args .width) in
+    let g = s .args .g in
     let a = tested (c .before .before .before .before .before .before .before .before .before .before .before .before .before .before .before .before .before .before .border-count .result) (borderCount g) (take (s .args .given-len) (now (s .args .given))) (c .before .before .before .before .before .before .before .before .before .before .before .before .before .before .before .before .before .exist .result) (c .before .before .before .before .before .before .before .before .before .before .before .before .before .before .before .before .before .before .border-count .ensures) (c .before .before .before .before .before .before .before .before .before .before .before .before .before .before .before .before .before .exist .ensures) ∙ not-false (c .before .before .before .before .before .before .before .before .before .before .before .before .before .before .before .before .before .exist .result) (c .before .before .before .before .before .before .before .before .before .before .before .before .before .before .before .before .if1 .left) in
     let u = sym (c .before .before .before .before .before .before .before .before .before .before .before .before .before .before .before .rise .ensures) ∙ not-false (c .before .before .before .before .before .before .before .before .before .before .before .before .before .before .before .rise .result) (c .before .before .before .before .before .before .before .before .before .before .before .before .before .before .if2 .left) in
     let z = c .before .before .before .before .before .before .before .before .before .before in
@@ -106,7 +106,7 @@ same-length-9 c = search needs
 returns-5 : tie.Need-returns-5
 returns-5 c =
     let s = c .before .before .before .before .before .before .before .before .before .before .before .before .before .before .before .before .before .before .before .before .before .before .before .before in
-    let g = grid (s .args .height) (s .args .width) in
+    let g = s .args .g in
     let a = tested (c .before .before .before .before .before .before .before .before .before .before .before .before .before .before .before .before .before .before .border-count .result) (borderCount g) (take (s .args .given-len) (now (s .args .given))) (c .before .before .before .before .before .before .before .before .before .before .before .before .before .before .before .before .before .exist .result) (c .before .before .before .before .before .before .before .before .before .before .before .before .before .before .before .before .before .before .border-count .ensures) (c .before .before .before .before .before .before .before .before .before .before .before .before .before .before .before .before .before .exist .ensures) ∙ not-false (c .before .before .before .before .before .before .before .before .before .before .before .before .before .before .before .before .before .exist .result) (c .before .before .before .before .before .before .before .before .before .before .before .before .before .before .before .before .if1 .left) in
     let u = sym (c .before .before .before .before .before .before .before .before .before .before .before .before .before .before .before .rise .ensures) ∙ not-false (c .before .before .before .before .before .before .before .before .before .before .before .before .before .before .before .rise .result) (c .before .before .before .before .before .before .before .before .before .before .before .before .before .before .if2 .left) in
     let z = c .before .before .before .before .before .before .before .before .before .before in

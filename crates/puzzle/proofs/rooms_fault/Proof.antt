@@ -2,7 +2,6 @@
 use mathlib.Core.Path.{sym}
 use native.Mathlib.Omega.{arith}
 use denote.Ref.{now}
-use Rattle.grid.specs.Grid.{grid}
 use Rattle.grid.proofs.Geometry.{cells-le}
 use Rattle.rooms.specs.Lent.{unmarked}
 use Rattle.rooms.proofs.PutLaws.{walls-fit}
@@ -23,12 +22,12 @@ put-requires : tie.Need-put-requires
 unfolding unmarked noClues
 put-requires c κs =
     let s = c .before .before .before .before .before .before .before .before in
-    walls-fit (grid (s .args .height) (s .args .width)) (now (s .args .given)) (s .args .len) (s .pre .0)
+    walls-fit (s .args .g) (now (s .args .given)) (s .args .len) (s .pre .0)
 
 slice-aggregate-vertices : tie.Need-slice-aggregate-vertices
 slice-aggregate-vertices c =
     let s = c .before .before .before .before .before .before .before .before .before .before .before in
-    sym (front-length (grid (s .args .height) (s .args .width)) (now (s .args .given)) (s .args .len) (s .pre .0) (now (s .args .ids)) (now (s .args .starts)) (now (s .args .flat)) (s .args .count) (s .pre .1 .0))
+    sym (front-length (s .args .g) (now (s .args .given)) (s .args .len) (s .pre .0) (now (s .args .ids)) (now (s .args .starts)) (now (s .args .flat)) (s .args .count) (s .pre .1 .0))
 
 slice-aggregate-vertices-2 : tie.Need-slice-aggregate-vertices-2
 slice-aggregate-vertices-2 c = search needs
@@ -40,7 +39,7 @@ vertices-requires : tie.Need-vertices-requires
 unfolding unmarked noClues
 vertices-requires c κs =
     let s = c .before .before .before .before .before .before .before .before .before .before .before .before .before in
-    (ids-keys (grid (s .args .height) (s .args .width)) (now (s .args .given)) (s .args .len) (s .pre .0) (now (s .args .ids)) (now (s .args .starts)) (now (s .args .flat)) (s .args .count) (s .pre .1 .0) noClues no-clues-length, (no-clue-at, omega (arith, cells-le _ (s .pre .0 .limits))))
+    (ids-keys (s .args .g) (now (s .args .given)) (s .args .len) (s .pre .0) (now (s .args .ids)) (now (s .args .starts)) (now (s .args .flat)) (s .args .count) (s .pre .1 .0) noClues no-clues-length, (no-clue-at, omega (arith, cells-le _ (s .pre .0 .limits))))
 
 slice-aggregate-check-rooms : tie.Need-slice-aggregate-check-rooms
 slice-aggregate-check-rooms c = search needs
@@ -48,7 +47,7 @@ slice-aggregate-check-rooms c = search needs
 slice-aggregate-check-rooms-2 : tie.Need-slice-aggregate-check-rooms-2
 slice-aggregate-check-rooms-2 c =
     let s = c .before .before .before .before .before .before .before .before .before .before .before .before .before .before .before .before .before .before in
-    sym (front-length (grid (s .args .height) (s .args .width)) (now (s .args .given)) (s .args .len) (s .pre .0) (now (s .args .ids)) (now (s .args .starts)) (now (s .args .flat)) (s .args .count) (s .pre .1 .0))
+    sym (front-length (s .args .g) (now (s .args .given)) (s .args .len) (s .pre .0) (now (s .args .ids)) (now (s .args .starts)) (now (s .args .flat)) (s .args .count) (s .pre .1 .0))
 
 slice-aggregate-check-rooms-3 : tie.Need-slice-aggregate-check-rooms-3
 slice-aggregate-check-rooms-3 c = search needs
@@ -57,7 +56,7 @@ check-rooms-requires : tie.Need-check-rooms-requires
 unfolding unmarked noClues
 check-rooms-requires c κs =
     let s = c .before .before .before .before .before .before .before .before .before .before .before .before .before .before .before .before .before .before .before .before in
-    (housing (grid (s .args .height) (s .args .width)) (now (s .args .given)) (s .args .len) (s .pre .0) (now (s .args .ids)) (now (s .args .starts)) (now (s .args .flat)) (s .args .count) (s .pre .1 .0) _ (c .before .before .before .before .before .before .before .before .before .before .before .put .ensures) _ (c .before .before .before .before .before .before .vertices .ensures), s .pre .1 .1)
+    (housing (s .args .g) (now (s .args .given)) (s .args .len) (s .pre .0) (now (s .args .ids)) (now (s .args .starts)) (now (s .args .flat)) (s .args .count) (s .pre .1 .0) _ (c .before .before .before .before .before .before .before .before .before .before .before .put .ensures) _ (c .before .before .before .before .before .before .vertices .ensures), s .pre .1 .1)
 
 same-length : tie.Need-same-length
 same-length c = search needs
@@ -66,7 +65,7 @@ returns : tie.Need-returns
 unfolding unmarked noClues
 returns c =
     let s = c .before .before .before .before .before .before .before .before .before .before .before .before .before .before .before .before .before .before .before .before .before .before .before in
-    same-answer _ _ _ (now (s .args .buf)) _ (rooms-same (grid (s .args .height) (s .args .width)) (now (s .args .given)) (s .args .len) (s .pre .0) (now (s .args .ids)) (now (s .args .starts)) (now (s .args .flat)) (s .args .count) (s .pre .1 .0) _ (c .before .before .before .before .before .before .before .before .before .before .before .before .before .before .put .ensures) (now (s .args .states)) (now (s .args .clues))) (c .before .before .check-rooms .ensures)
+    same-answer _ _ _ (now (s .args .buf)) _ (rooms-same (s .args .g) (now (s .args .given)) (s .args .len) (s .pre .0) (now (s .args .ids)) (now (s .args .starts)) (now (s .args .flat)) (s .args .count) (s .pre .1 .0) _ (c .before .before .before .before .before .before .before .before .before .before .before .before .before .before .put .ensures) (now (s .args .states)) (now (s .args .clues))) (c .before .before .check-rooms .ensures)
 
 pub rooms-fault-spec : {M : Type 1} → statement M
 rooms-fault-spec =
