@@ -1,12 +1,12 @@
 -- What `groups::groups_of` leaves in lent slices: the cells of each group stand from its start up to its end.
 -- Assumes nothing.
-use Prim.Native.Nat.{ℕ, _+_, _≤_, _<_}
+use Prim.Native.Nat.{ℕ, _≤_, _<_}
 use mathlib.Core.Path.{_≡_, refl, sym}
 use mathlib.Core.Bool.{Bool}
 use mathlib.Core.List.{List}
 use native.Mathlib.Omega.{arith}
-use lib.ListN.{getD, length, take, drop}
-use lib.Seq.{sets, sets-eq, length-sets, length-take-le, take-append-seam}
+use lib.ListN.{getD, length, take}
+use lib.Seq.{sets, length-sets, length-take-le}
 use Rattle.lists.proofs.SetsLaws.{front}
 use Rattle.grid.specs.declared.Grid.{Grid}
 use Rattle.grid.specs.Grid.{cells, Limits}

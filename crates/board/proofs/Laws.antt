@@ -1,19 +1,18 @@
 -- A board that questions 1 and 2 accept, as facts; what each call needs of it.
 -- Assumes nothing.
-use Prim.Native.Nat.{ℕ, suc, _+_, _-_, _≤_, _<_}
+use Prim.Native.Nat.{ℕ, _-_, _≤_, _<_}
 use mathlib.Core.Path.{_≡_, refl, ap, sym, _∙_, fun-ext}
-use mathlib.Core.Logic.{_⊎_, inl, inr, _≢_, ⊎-elim}
-use mathlib.Core.Bool.{Bool, true, false, true≢false}
+use mathlib.Core.Logic.{_⊎_, _≢_, ⊎-elim}
+use mathlib.Core.Bool.{Bool, true, false}
 use mathlib.Core.List.{List}
 use native.Mathlib.Omega.{arith}
-use borrow.Author.Tests.{eqb-true, eqb-false, eq-eqb, ne-eqb, ltb-true, lt-ltb, le-ltb, le-leb, leb-true, lt-leb}
+use borrow.Author.Tests.{eqb-true, eqb-false, ne-eqb, ltb-true, lt-ltb, le-ltb, le-leb, leb-true, lt-leb}
 use lib.Dec.{eqb, ltb, leb}
 use lib.ListN.{length, getD, take, replicate, getD-replicate, length-replicate, List·getD-eq-default}
 use lib.Seq.{getD-take, length-take-le}
-use Rattle.lists.specs.Choice.{both, pick}
-use Rattle.lists.specs.Lists.{In}
-use Rattle.lists.proofs.Cases.{le-or-lt, true-or-false, not-both}
-use Rattle.lists.proofs.ChoiceLaws.{both-true, true-both}
+use Rattle.lists.specs.Choice.{pick}
+use Rattle.lists.proofs.Cases.{le-or-lt}
+use Rattle.lists.proofs.ChoiceLaws.{both-true}
 use Rattle.lists.proofs.ListLaws.{getD-in}
 use Rattle.grid.specs.declared.Grid.{Grid}
 use Rattle.grid.specs.Grid.{grid, sizesOk, Limits, borderCount}
@@ -22,7 +21,7 @@ use Rattle.ledger.specs.Ledger.{holdsOf}
 use Rattle.ledger.specs.Marks.{givenIn, Lent}
 use Rattle.ledger.proofs.Question.{Question, holds-question, room-left}
 use Rattle.board.specs.declared.Board.{Board}
-use Rattle.board.specs.Board.{zeros, answer, sizeOf, bordersOf, noneGiven, together, checkOf, boardCode, decideCode, undoCode, placed, decideOf, taken, undoOf}
+use Rattle.board.specs.Board.{zeros, answer, bordersOf, noneGiven, together, checkOf, boardCode, decideCode, undoCode, placed, decideOf, taken, undoOf}
 
 pub zero-at : (e : ℕ) → getD zeros e 0 ≡ 0
 unfolding zeros

@@ -1,28 +1,27 @@
 -- After every list of calls from a fresh board, accepted and refused ones, the record's states are exactly the standing borders and
 -- the record holds together; and an undo gives back the board before an accepted decide.
 -- Assumes nothing.
-use Prim.Native.Nat.{ℕ, zero, suc, _+_, _-_, _≤_, _<_}
+use Prim.Native.Nat.{ℕ, _+_, _-_, _≤_, _<_}
 use mathlib.Core.Path.{_≡_, refl, ap, sym, _∙_}
-use mathlib.Core.Logic.{_⊎_, inl, inr, _≢_, ⊎-elim}
+use mathlib.Core.Logic.{_⊎_, _≢_, ⊎-elim}
 use mathlib.Core.Bool.{Bool, true, false}
 use mathlib.Core.List.{List, [], _∷_, _++_}
 use native.Mathlib.Omega.{arith}
 use native.Mathlib.Numerals.{add-one}
-use borrow.Author.Tests.{eqb-true, eqb-false, eq-eqb, ne-eqb, lt-ltb, le-ltb, le-leb, ltb-true, ltb-false}
-use lib.Dec.{eqb, ltb, leb}
-use lib.ListN.{length, getD, take, set, length-set, length-append, length-map, length-take}
+use borrow.Author.Tests.{eqb-true, eqb-false, lt-ltb, le-ltb, ltb-true}
+use lib.Dec.{eqb, ltb}
+use lib.ListN.{length, getD, take, set, length-set, length-append}
 use lib.Seq.{getD-take, getD-set-same, getD-set-other, take-suc-set, take-set-le, take-take, set-set, set-getD, length-take-le, take-length}
-use Rattle.lists.specs.Choice.{both, pick}
+use Rattle.lists.specs.Choice.{pick}
 use Rattle.lists.proofs.ChoiceLaws.{both-true}
 use Rattle.lists.proofs.Cases.{le-or-lt, eq-or-ne, true-or-false}
-use Rattle.grid.specs.declared.Grid.{Grid}
-use Rattle.grid.specs.Grid.{grid, sizesOk, Limits, borderCount}
+use Rattle.grid.specs.Grid.{grid, Limits, borderCount}
 use Rattle.grid.proofs.Geometry.{borderCount-le}
-use Rattle.ledger.specs.Ledger.{Decision, Call, decide, undo, ask, stateFor, stateIn, standing, accepted, ledgerAfter, ledgerOf, borders}
+use Rattle.ledger.specs.Ledger.{Decision, Call, decide, undo, ask, stateFor, stateIn, standing, accepted, ledgerAfter, ledgerOf}
 use Rattle.ledger.proofs.Standing.{Sound, sound-empty, sound-length, sound-decide, sound-take, Follows, follows-decide, follows-undo, holds-together, accepted-facts}
 use Rattle.board.specs.declared.Board.{Board}
 use Rattle.board.specs.declared.Decided.{Decided}
-use Rattle.board.specs.Board.{zeros, freshBoard, answer, bordersOf, noneGiven, boardCode, namesOf, placed, taken, decideOf, undoOf}
+use Rattle.board.specs.Board.{freshBoard, answer, bordersOf, noneGiven, boardCode, namesOf, placed, taken, decideOf, undoOf}
 use Rattle.board.specs.Run.{boardAfter, run}
 use Rattle.board.proofs.Laws.{zero-at, zeros-length, Ready, ready-code, place-free, no-border, not-free, decided, nothing-left, undone}
 

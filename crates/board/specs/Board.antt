@@ -1,7 +1,7 @@
 -- What a board's calls answer (01, "Board", "Standing ledger" and questions 1 to 5).
 -- Assumes nothing.
 use Prim.Native.Nat.{ℕ, _+_, _-_}
-use mathlib.Core.Bool.{Bool, true, false}
+use mathlib.Core.Bool.{Bool, false}
 use mathlib.Core.List.{List}
 use lib.Dec.{eqb, ltb, leb}
 use lib.ListN.{getD, set, take, replicate}

@@ -1,12 +1,11 @@
 -- Lists that are appended to a buffer one behind the other, by what is left to append.
 -- Assumes nothing.
-use Prim.Native.Nat.{ℕ, suc, _+_, _≤_, _<_}
+use Prim.Native.Nat.{ℕ, _+_, _≤_, _<_}
 use mathlib.Core.Path.{_≡_, refl, ap, sym, _∙_}
-use mathlib.Core.List.{List, [], _∷_, _++_}
+use mathlib.Core.List.{List, [], _++_}
 use native.Mathlib.Omega.{arith}
 use native.Mathlib.Numerals.{add-one}
-use native.Mathlib.Nat.{add-zero}
-use lib.ListN.{length, getD, set, drop, drop-of-length-le, length-append}
+use lib.ListN.{length, getD, drop, drop-of-length-le, length-append}
 use lib.Seq.{sets, length-sets, drop-cons}
 use Rattle.lists.specs.Lists.{gather}
 use Rattle.lists.proofs.SetsLaws.{sets-append}

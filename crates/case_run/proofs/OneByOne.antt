@@ -4,13 +4,13 @@ use Prim.Native.Nat.{ℕ, zero, suc, _+_}
 use mathlib.Core.Path.{_≡_, refl, sym, ap, _∙_}
 use mathlib.Core.Logic.{⊎-elim}
 use mathlib.Core.List.{List, [], _∷_, _++_, append-nil}
-use mathlib.Core.Option.{Option, none, some, Option·some-injective}
+use mathlib.Core.Option.{none, some, Option·some-injective}
 use native.Mathlib.Nat.{add-zero}
 use lib.ListN.{length, drop}
 use Rattle.case_file.specs.declared.Call.{Call}
 use Rattle.case_file.specs.Sound.{Case, callOf, callsOf, decodeOf}
 use Rattle.case_file.specs.Layout.{sizeOf, layoutOf}
-use Rattle.case_file.proofs.ListLaws.{Whole, call-cases, Headed, headed}
+use Rattle.case_file.proofs.ListLaws.{Whole, call-cases, headed}
 use Rattle.case_file.proofs.UseLaws.{calls-there}
 use Rattle.puzzle.specs.declared.Puzzle.{Puzzle}
 use Rattle.puzzle.specs.Run.{run, replies}

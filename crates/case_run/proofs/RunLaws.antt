@@ -4,7 +4,7 @@ use Prim.Native.Nat.{ℕ, zero, suc, _+_, _-_, _*_, _/_, _≤_, _<_}
 use mathlib.Core.Path.{_≡_, refl, sym, ap, _∙_}
 use mathlib.Core.Logic.{⊎-elim}
 use mathlib.Core.List.{List, [], _∷_, _++_, append-nil}
-use mathlib.Core.Option.{Option, none, some}
+use mathlib.Core.Option.{none, some}
 use native.Mathlib.Omega.{arith}
 use borrow.Author.Tests.{le-leb, lt-leb}
 use lib.ListN.{length, take, drop, set, length-append, drop-of-length-le, length-drop}
@@ -16,10 +16,10 @@ use Rattle.case_file.specs.Layout.{sizeOf, stepAt}
 use Rattle.case_file.proofs.ListLaws.{Whole, call-cases, step-unsound}
 use Rattle.lists.proofs.SetsLaws.{sets-append}
 use Rattle.puzzle.specs.declared.Puzzle.{Puzzle}
-use Rattle.puzzle.specs.Run.{puzzleAfter, run, replyTo, replies}
+use Rattle.puzzle.specs.Run.{puzzleAfter, run, replies}
 use Rattle.case_run.specs.declared.Turn.{Turn}
 use Rattle.case_run.specs.declared.Ran.{Ran}
-use Rattle.case_run.specs.CaseRun.{asCall, callsIn, bytesOf, linesOf, runOf, printedBy, lineBy, turnOf, lineRoom, doneIn, ranOf, Turned}
+use Rattle.case_run.specs.CaseRun.{asCall, callsIn, bytesOf, linesOf, runOf, printedBy, lineBy, lineRoom, doneIn, ranOf, Turned}
 
 -- THE CALLS at a byte
 pub calls-none : (n : ℕ) (r : List ℕ) → callOf r ≡ none → callsIn n r ≡ []

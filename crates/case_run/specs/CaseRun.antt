@@ -5,7 +5,7 @@ use mathlib.Core.Path.{_≡_}
 use mathlib.Core.List.{List, [], _∷_, _++_, map}
 use mathlib.Core.Option.{Option, none, some}
 use lib.Dec.{leb}
-use lib.ListN.{length, take, drop, replicate}
+use lib.ListN.{length, take, replicate}
 use Rattle.lists.specs.Choice.{pick}
 use Rattle.hand_over.specs.Sorted.{sortedOnce}
 use Rattle.case_file.specs.declared.Call.{Call}

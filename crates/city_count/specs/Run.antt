@@ -1,7 +1,6 @@
 -- A room graph after a list of calls, each on the graph that the one before returned.
 -- Assumes nothing.
 use Prim.Native.Nat.{ℕ}
-use mathlib.Core.Bool.{Bool}
 use mathlib.Core.List.{List, [], _∷_}
 use lib.ListN.{length}
 use Rattle.ledger.specs.Ledger.{Call, decide, undo, ask, ledgerOf, standing}

@@ -1,7 +1,7 @@
 -- Directions by number, and an answer of `grid::neighbour` as numbers.
 -- Assumes nothing.
 use Prim.Native.Nat.{ℕ}
-use mathlib.Core.Bool.{Bool, true, false}
+use mathlib.Core.Bool.{true, false}
 use lib.Dec.{eqb}
 use Rattle.lists.specs.Choice.{pick}
 use Rattle.grid.specs.declared.Direction.{Direction}

@@ -1,18 +1,18 @@
 -- The test by marks is question 2: names that are new one by one are exactly those that the ledger names once.
 -- Assumes nothing.
-use Prim.Native.Nat.{ℕ, zero, suc, _+_, _≤_, _<_}
+use Prim.Native.Nat.{ℕ, _+_, _≤_, _<_}
 use mathlib.Core.Path.{_≡_, refl, ap, sym, _∙_}
 use mathlib.Core.Logic.{_⊎_, inl, inr, _≢_, ⊎-elim}
-use mathlib.Core.Bool.{Bool, true, false, not, true≢false}
+use mathlib.Core.Bool.{Bool, true, false, true≢false}
 use mathlib.Core.List.{List, [], _∷_}
 use native.Mathlib.Omega.{arith}
-use borrow.Author.Tests.{eqb-true, eqb-false, eq-eqb, ne-eqb, leb-true, leb-false, le-leb, lt-leb, ltb-true, lt-ltb, not-true, not-false}
-use lib.Dec.{eqb, ltb, leb}
+use borrow.Author.Tests.{eqb-true, eq-eqb, ne-eqb, leb-false, lt-leb}
+use lib.Dec.{eqb, leb}
 use lib.ListN.{length, getD, set, length-set}
 use lib.Seq.{getD-set-same, getD-set-other}
 use Rattle.lists.specs.Choice.{both, either, pick}
 use Rattle.lists.specs.Lists.{range, In, count, all}
-use Rattle.lists.proofs.Cases.{eq-or-ne, le-or-lt, true-or-false, not-both}
+use Rattle.lists.proofs.Cases.{eq-or-ne, le-or-lt}
 use Rattle.lists.proofs.ChoiceLaws.{both-true, true-both, either-true, left-either, right-either, same-truth}
 use Rattle.lists.proofs.ListLaws.{all-true, true-all, range-in, in-range}
 use Rattle.lists.proofs.CountLaws.{count-none, count-here, count-other, in-count, count-in}

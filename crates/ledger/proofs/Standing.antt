@@ -4,13 +4,13 @@ use Prim.Native.Nat.{ℕ, zero, suc, _+_, _-_, _≤_, _<_}
 use mathlib.Core.Path.{_≡_, refl, ap, sym, _∙_}
 use mathlib.Core.Logic.{_⊎_, inl, inr, _≢_, ⊎-elim}
 use mathlib.Core.Bool.{Bool, true, false, not, true≢false}
-use mathlib.Core.List.{List, [], _∷_, _++_, map}
+use mathlib.Core.List.{List, [], _∷_, _++_}
 use native.Mathlib.Omega.{arith}
-use borrow.Author.Tests.{eqb-true, eqb-false, eq-eqb, ne-eqb, lt-ltb, ltb-true, le-leb}
-use lib.Dec.{eqb, ltb, leb}
+use borrow.Author.Tests.{eqb-true, eq-eqb, ne-eqb, lt-ltb, ltb-true, le-leb}
+use lib.Dec.{eqb, ltb}
 use lib.ListN.{length, getD, take, set, length-map, List·getD-map}
 use lib.Seq.{getD-set-same, getD-set-other, take-length, take-suc}
-use Rattle.lists.specs.Choice.{both, either, pick}
+use Rattle.lists.specs.Choice.{both, pick}
 use Rattle.lists.specs.Lists.{range, In, count, all}
 use Rattle.lists.proofs.Cases.{eq-or-ne, true-or-false}
 use Rattle.lists.proofs.ChoiceLaws.{both-true, true-both}

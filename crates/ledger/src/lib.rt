@@ -7,7 +7,7 @@ ghost use lib.ListN.{length, take};
 ghost use Rattle.ledger.specs.Ledger.{holdsOf};
 ghost use lib.Dec.{eqb};
 ghost use Rattle.lists.specs.Choice.{both, pick};
-ghost use Rattle.ledger.specs.Marks.{fitsOf, Marked, Lent, newNames, markAll, fitAll, givenIn, greaterOf, allBelow};
+ghost use Rattle.ledger.specs.Marks.{fitsOf, Marked, Lent, fitAll, givenIn, greaterOf, allBelow};
 
 // A 16-bit number as an index.
 fn wide(x: u16) -> usize

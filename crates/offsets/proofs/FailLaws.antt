@@ -1,22 +1,19 @@
 -- The first border that lands badly, taken one direction or one cell at a time; and the whole trial by it.
 -- Assumes nothing.
-use Prim.Native.Nat.{ℕ, _+_, _-_, _*_, _<_, _≤_}
-use mathlib.Core.Path.{_≡_, refl, ap, ap₂, sym, _∙_}
-use mathlib.Core.Bool.{Bool, true, false, not}
+use Prim.Native.Nat.{ℕ, _-_, _<_}
+use mathlib.Core.Path.{_≡_, refl}
 use mathlib.Core.List.{List, [], _∷_}
 use mathlib.Core.Option.{Option, none, some}
 use native.Mathlib.Omega.{arith}
-use lib.ListN.{getD, length, drop}
+use lib.ListN.{getD, length}
 use Rattle.lists.specs.Choice.{orElse}
 use Rattle.lists.specs.Lists.{In, first}
 use Rattle.lists.proofs.ListLaws.{getD-in}
 use Rattle.grid.specs.declared.Grid.{Grid}
-use Rattle.grid.specs.Grid.{Cell, row, col}
 use Rattle.grid.proofs.Geometry.{cells-le, row-lt, col-lt}
 use Rattle.offsets.specs.declared.reach.Shift.{Shift}
-use Rattle.offsets.specs.declared.landings.Fail.{Fail}
 use Rattle.offsets.specs.declared.landings.Fail.the-variants.{Nowhere, At}
-use Rattle.offsets.specs.Landings.{failOf, failAt, failCell, firstFail, Seen, Turning, Falling}
+use Rattle.offsets.specs.Landings.{failOf, Turning, Falling}
 
 pub failed-at : (o : Option ℕ) (e : ℕ) → At e ≡ failOf o → o ≡ some e
 failed-at none e q = absurd (let z : _≡_ {A = ℕ} 0 1 = cc in omega arith)

@@ -1,41 +1,37 @@
 -- What lies beyond a cell, and where its border lands, as facts; a landing by doubled coordinates is the definition's.
 -- Assumes nothing.
-use Prim.Native.Nat.{ℕ, _+_, _*_, _<_, _≤_}
+use Prim.Native.Nat.{ℕ, _<_}
 use mathlib.Core.Path.{_≡_, refl, ap, ap₂, sym, _∙_}
-use mathlib.Core.Logic.{_⊎_, ⊎-elim, _≢_}
+use mathlib.Core.Logic.{_⊎_, ⊎-elim}
 use mathlib.Core.Bool.{Bool, true, false, not}
-use mathlib.Core.List.{List, [], _∷_}
-use mathlib.Core.Option.{Option, none, some}
+use mathlib.Core.List.{List}
+use mathlib.Core.Option.{some}
 use native.Mathlib.Omega.{arith}
-use borrow.Author.Tests.{not-true, not-false}
 use denote.Enum.Declared.{tagOf}
 use lib.Dec.{eqb}
 use lib.IntN.{ℤ}
 use lib.ListN.{getD, length}
 use lib.Signed.{mag}
 use mir.Syntax.{w32}
-use mir.Val.{SFits, toZ, ofZ}
+use mir.Val.{toZ, ofZ}
 use mir.ValLaws.{toZ-ofZ}
 use Rattle.lists.specs.Choice.{both, either, pick, give, through}
-use Rattle.lists.proofs.Cases.{true-or-false}
 use Rattle.grid.specs.declared.Direction.{Direction}
 use Rattle.grid.specs.declared.Direction.the-variants.{Up, Down, Left, Right}
 use Rattle.grid.specs.declared.Beyond.{Beyond}
 use Rattle.grid.specs.declared.Beyond.the-variants.{At, End, Refused}
 use Rattle.grid.proofs.Beyond.{the-type}
 use Rattle.grid.specs.declared.Grid.{Grid}
-use Rattle.grid.specs.Grid.{Limits, cells, Cell, row, col, goesOn, next, border, borderCount, stepOf}
+use Rattle.grid.specs.Grid.{Limits, cells, row, col, goesOn, next, border, borderCount, stepOf}
 use Rattle.grid.proofs.Geometry.{goes-step, border-lt, borderCount-le, cells-le}
 use Rattle.borders.specs.Border.{stateAt, stands}
 use Rattle.offsets.specs.declared.reach.Shift.{Shift}
 use Rattle.offsets.specs.declared.places.Place.{Place}
-use Rattle.offsets.specs.declared.places.Landing.{Landing}
 use Rattle.offsets.specs.declared.places.Landing.the-variants.{Border, Outside}
-use Rattle.offsets.specs.declared.landings.Fail.{Fail}
 use Rattle.offsets.specs.declared.landings.Fail.the-variants.{Nowhere, At as Entry}
-use Rattle.offsets.specs.Places.{aheadOf, coordinateOf, borderOf, landOf}
+use Rattle.offsets.specs.Places.{aheadOf, borderOf, landOf}
 use Rattle.offsets.specs.Reach.{moved}
-use Rattle.offsets.specs.Landings.{failOf, badState, badOf, entryOf, keptOf, landingOf, failAt, Seen, Turning}
+use Rattle.offsets.specs.Landings.{failOf, badOf, entryOf, keptOf, landingOf, failAt, Seen, Turning}
 use Rattle.offsets.proofs.PlaceLaws.{coordinate-moves, place-lands}
 use Rattle.offsets.proofs.ReachLaws.{Fell, fell, fell-cell}
 

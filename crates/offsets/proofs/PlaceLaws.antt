@@ -2,26 +2,22 @@
 -- Assumes nothing.
 use Prim.Native.Nat.{ℕ, suc, zero, _+_, _-_, _*_, _/_, _%_, _<_, _≤_}
 use mathlib.Core.Path.{_≡_, refl, ap, ap₂, sym, _∙_}
-use mathlib.Core.Bool.{Bool, true, false}
+use mathlib.Core.Bool.{true, false}
 use mathlib.Core.Logic.{_⊎_, _≢_, ⊎-elim}
 use native.Mathlib.Omega.{arith}
 use native.Mathlib.Nat.{div-lt-iff-lt-mul, suc-mul}
-use denote.Enum.Declared.{tagOf}
-use borrow.Author.Tests.{eq-eqb, ne-eqb, lt-ltb, le-ltb, lt-leb, le-leb}
-use lib.Dec.{eqb, ltb}
+use borrow.Author.Tests.{ne-eqb, lt-ltb, le-ltb, lt-leb, le-leb}
+use lib.Dec.{eqb}
 use lib.IntN.{ℤ, pos, negsuc, _+ℤ_, _-ℤ_, negℤ, subℕ, +ℤ-assoc, +ℤ-comm, +ℤ-negℤ-cancel}
 use Rattle.lists.proofs.Cases.{le-or-lt}
-use Rattle.lists.specs.Choice.{both, pick}
+use Rattle.lists.specs.Choice.{pick}
 use Rattle.grid.specs.declared.Direction.{Direction}
 use Rattle.grid.specs.declared.Direction.the-variants.{Up, Down, Left, Right}
-use Rattle.grid.specs.declared.Beyond.{Beyond}
-use Rattle.grid.specs.declared.Beyond.the-variants.{At, End, Refused}
 use Rattle.grid.specs.declared.Grid.{Grid}
 use Rattle.grid.specs.Grid.{Limits, Cell, row, col, goesOn, next, border, stepOf}
 use Rattle.grid.specs.Steps.{opposite}
 use Rattle.grid.proofs.Geometry.{coords, goes-step, step-back, step-goes}
-use Rattle.offsets.specs.declared.places.Landing.{Landing}
-use Rattle.offsets.specs.declared.places.Landing.the-variants.{Border, Outside}
+use Rattle.offsets.specs.declared.places.Landing.the-variants.{Outside}
 use Rattle.offsets.proofs.Signed.{Negative}
 use Rattle.offsets.specs.Places.{aheadOf, coordinateOf, borderOf, borderAt, landOf}
 

@@ -1,21 +1,21 @@
 -- Where a cell falls, and one turn and the end of the walk over a unit's cells.
 -- Assumes nothing.
 use Prim.Native.Nat.{ℕ, _+_, _-_, _*_, _<_, _≤_}
-use mathlib.Core.Path.{_≡_, refl, ap, ap₂, sym, _∙_}
+use mathlib.Core.Path.{_≡_, refl, ap₂, sym, _∙_}
 use mathlib.Core.Logic.{_≢_}
-use mathlib.Core.Bool.{Bool, true, false, not}
+use mathlib.Core.Bool.{Bool, true, false}
 use mathlib.Core.List.{List, [], _∷_}
 use mathlib.Core.Option.{Option, none, some, Option·some-injective}
 use native.Mathlib.Omega.{arith}
 use native.Mathlib.Nat.{div-lt-iff-lt-mul}
 use native.Mathlib.Numerals.{add-one}
 use borrow.Author.Tests.{lt-leb, le-leb, lt-ltb, le-ltb, eq-eqb, ne-eqb, ltb-true, leb-true}
-use lib.Dec.{eqb, ltb, leb}
-use lib.ListN.{getD, length, drop, drop-of-length-le}
+use lib.Dec.{ltb, leb}
+use lib.ListN.{getD, length, drop}
 use lib.Seq.{drop-cons}
 use Rattle.lists.specs.Choice.{both, either, holds, through, give}
-use Rattle.lists.specs.Lists.{In, all, any}
-use Rattle.lists.proofs.ChoiceLaws.{both-true, give-some, through-some, true-holds}
+use Rattle.lists.specs.Lists.{all, any}
+use Rattle.lists.proofs.ChoiceLaws.{both-true, give-some, through-some}
 use Rattle.lists.proofs.ListLaws.{getD-in}
 use Rattle.grid.specs.declared.Grid.{Grid}
 use Rattle.grid.specs.Grid.{Limits, Cell, cells, row, col}
@@ -24,7 +24,7 @@ use Rattle.shape.specs.Shape.{along}
 use Rattle.offsets.specs.declared.reach.Shift.{Shift}
 use Rattle.offsets.specs.declared.reach.Fall.{Fall}
 use Rattle.offsets.specs.declared.reach.Fall.the-variants.{Off, On}
-use Rattle.offsets.specs.Reach.{fallOf, moved, Small, Tables, Reaching, fallsOff, fallsMarked, reachesOf}
+use Rattle.offsets.specs.Reach.{fallOf, moved, Small, Reaching, fallsOff, fallsMarked, reachesOf}
 
 -- along a row or a column
 pub before-start : (n f t u : ℕ) → u + t < f → along n f t u ≡ none

@@ -1,26 +1,25 @@
 -- A trial by the code's steps is crate shape's `tryAt`.
 -- Assumes nothing.
-use Prim.Native.Nat.{ℕ, _+_, _-_, _*_, _<_, _≤_}
+use Prim.Native.Nat.{ℕ, _+_, _-_, _*_}
 use mathlib.Core.Path.{_≡_, refl, ap, ap₂, sym, _∙_}
-use mathlib.Core.Bool.{Bool, true, false, not}
+use mathlib.Core.Bool.{true, false, not}
 use mathlib.Core.List.{List, [], _∷_}
 use mathlib.Core.Option.{Option, none, some}
 use native.Mathlib.Omega.{arith}
 use lib.Dec.{eqb}
-use lib.ListN.{getD, length}
-use Rattle.lists.specs.Choice.{both, either, pick, give, orElse, holds, through}
+use lib.ListN.{getD}
+use Rattle.lists.specs.Choice.{both, either, give, orElse, holds, through}
 use Rattle.lists.specs.Lists.{In, all, any, first}
 use Rattle.lists.proofs.ChoiceLaws.{both-true, holds-true}
 use Rattle.lists.proofs.ListLaws.{all-true}
 use Rattle.grid.specs.declared.Direction.{Direction}
 use Rattle.grid.specs.declared.Direction.the-variants.{Up, Down, Left, Right}
 use Rattle.grid.specs.declared.Grid.{Grid}
-use Rattle.grid.specs.Grid.{Limits, Cell, row, col, goesOn, border}
+use Rattle.grid.specs.Grid.{Cell, row, col, goesOn, border}
 use Rattle.grid.proofs.Geometry.{row-lt, col-lt}
 use Rattle.borders.specs.Border.{stateAt, stands}
 use Rattle.borders.proofs.Congruence.{any-same, all-same, holds-same, first-same}
 use Rattle.boundary.specs.Boundary.{ahead}
-use Rattle.groups.specs.Groups.{cellsOf}
 use Rattle.groups.proofs.GroupLaws.{in-cells}
 use Rattle.shape.specs.Shape.{
   UnitInfo,
@@ -42,11 +41,9 @@ use Rattle.shape.specs.Shape.{
   tryAt,
 }
 use Rattle.offsets.specs.declared.reach.Shift.{Shift}
-use Rattle.offsets.specs.declared.Try.{Try as Answer}
 use Rattle.offsets.specs.declared.Try.the-variants.{Passed, Good, Failed}
-use Rattle.offsets.specs.declared.landings.Fail.{Fail}
 use Rattle.offsets.specs.declared.landings.Fail.the-variants.{Nowhere, At}
-use Rattle.offsets.specs.Reach.{moved, Small, Tables, Reaching, fallsOff, fallsMarked, reachesOf}
+use Rattle.offsets.specs.Reach.{moved, Reaching, fallsOff, fallsMarked, reachesOf}
 use Rattle.offsets.specs.Landings.{failOf, failAt, failCell, firstFail, keptOf, Falling}
 use Rattle.offsets.specs.Trial.{tryOf, Trial}
 use Rattle.offsets.proofs.ReachLaws.{fell, fell-cell}

@@ -1,12 +1,12 @@
 -- A unit's landings as the code walks them: inner borders, and else Walls and board edges, by one definition.
 -- Assumes nothing.
-use Prim.Native.Nat.{ℕ, _+_, _*_, _<_, _≤_}
+use Prim.Native.Nat.{ℕ, _≤_}
 use mathlib.Core.Path.{_≡_}
 use mathlib.Core.Bool.{Bool, true, false, not}
 use mathlib.Core.List.{List, [], _∷_}
 use mathlib.Core.Option.{Option, none, some}
 use lib.Dec.{eqb}
-use lib.ListN.{getD, length}
+use lib.ListN.{length}
 use Rattle.lists.specs.Choice.{both, either, pick, give, through}
 use Rattle.lists.specs.Lists.{In, first}
 use Rattle.grid.specs.declared.Direction.{Direction}

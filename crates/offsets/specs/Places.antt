@@ -1,7 +1,6 @@
 -- Border places in doubled coordinates (01: "Border places are doubled coordinates, which run from −1 and stay signed").
 -- Assumes nothing.
 use Prim.Native.Nat.{ℕ, _+_, _-_, _*_, _/_, _%_}
-use mathlib.Core.Bool.{Bool, true, false}
 use lib.Dec.{eqb, ltb}
 use lib.IntN.{ℤ, pos, negsuc, _+ℤ_, _-ℤ_}
 use Rattle.lists.specs.Choice.{both, pick}

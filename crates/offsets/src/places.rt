@@ -1,7 +1,7 @@
 // Border places in doubled coordinates: a cell's are twice its row and column, and a border lies one from its cell, so that the
 // places of a board's edge run from -1.
 ghost use mathlib.Core.Path.{_≡_};
-ghost use Prim.Native.Nat.{_<_, _≤_};
+ghost use Prim.Native.Nat.{_<_};
 ghost use lib.Signed.{mag};
 ghost use Rattle.grid.specs.Grid.{Limits};
 ghost use Rattle.offsets.specs.Places.{aheadOf, coordinateOf, borderOf, borderAt, landOf};

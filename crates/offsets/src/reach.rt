@@ -1,6 +1,5 @@
 // Whether a unit is passed over: all its cells must fall on the board and off the unit, and one in an adjacent potential unit.
 ghost use mathlib.Core.Path.{_≡_};
-ghost use Rattle.grid.specs.Grid.{Limits};
 ghost use Rattle.offsets.specs.Reach.{Small, fallOf, moved, Reaching, reachesOf};
 use grid::Grid;
 // The unit's first cell goes from one row and column to another.

@@ -8,8 +8,8 @@ use mathlib.Core.List.{List, [], _∷_}
 use native.Mathlib.Omega.{arith}
 use borrow.Author.Tests.{ltb-true}
 use lib.Dec.{ltb}
-use lib.ListN.{length, getD, take, drop, length-map}
-use lib.Seq.{sets, sets-eq, take-append-seam, ext-getD}
+use lib.ListN.{length, getD, length-map}
+use lib.Seq.{ext-getD}
 use Rattle.lists.specs.Lists.{range, In}
 use Rattle.lists.proofs.ChoiceLaws.{both-true}
 use Rattle.lists.proofs.ListLaws.{range-length, range-at}

@@ -12,7 +12,7 @@ use borrow.Author.Tests.{eq-eqb, ne-eqb, ltb-true, lt-ltb, le-ltb}
 use lib.Dec.{eqb, ltb}
 use lib.ListN.{getD, set}
 use Rattle.lists.proofs.Cases.{eq-or-ne, true-or-false}
-use Rattle.parts.specs.Parts.{Edge, Joined, over, root, begun}
+use Rattle.parts.specs.Parts.{Edge, over, root, begun}
 use Rattle.parts.specs.Flood.{Marked, blank}
 use Rattle.parts.proofs.PartLaws.{root-le, joined-root, begun-first, begun-later}
 use Rattle.parts.proofs.UniteLaws.{begun-none, begun-within, begun-unite}

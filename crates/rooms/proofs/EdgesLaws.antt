@@ -6,8 +6,7 @@ use mathlib.Core.Bool.{Bool}
 use mathlib.Core.List.{List, [], _∷_, _++_, map, append-assoc, append-nil}
 use native.Mathlib.Omega.{arith}
 use native.Mathlib.Numerals.{add-one}
-use native.Mathlib.Nat.{add-zero}
-use lib.ListN.{length, getD, set, drop, length-append, drop-of-length-le}
+use lib.ListN.{length, getD, drop, length-append, drop-of-length-le}
 use lib.Seq.{sets, length-sets, drop-cons}
 use Rattle.lists.specs.Lists.{gather}
 use Rattle.lists.proofs.ListLaws.{getD-in}

@@ -9,7 +9,7 @@ use mathlib.Core.Option.{Option, none, some}
 use native.Mathlib.Omega.{arith}
 use borrow.Author.Tests.{eqb-true}
 use lib.ListN.{length, getD, take, drop, replicate, length-map, length-replicate, getD-replicate, List·getD-eq-default}
-use lib.Seq.{sets, sets-eq, length-sets, drop-append-seam, take-append-seam}
+use lib.Seq.{sets, sets-eq, length-sets, drop-append-seam}
 use Rattle.lists.specs.Choice.{both, through}
 use Rattle.lists.specs.Lists.{In, gather}
 use Rattle.lists.proofs.Cases.{le-or-lt}

@@ -8,7 +8,7 @@ use mathlib.Core.List.{List}
 use native.Mathlib.Omega.{arith}
 use borrow.Author.Tests.{le-ltb, ne-eqb}
 use lib.Dec.{ltb}
-use Rattle.lists.specs.Lists.{In, range, all}
+use Rattle.lists.specs.Lists.{range}
 use Rattle.lists.proofs.Cases.{le-or-lt}
 use Rattle.lists.proofs.ListLaws.{all-not, range-in}
 use Rattle.union_find.specs.Chains.{up, climb, isRoot, shortened, parentsExist, chainsEnd}

@@ -1,5 +1,4 @@
 // Numbers in a sample's bytes. A place past the end reads as 0, so that a sample that is cut short shows as differences.
-ghost use mathlib.Core.Path.{_≡_};
 ghost use Prim.Native.Nat.{_<_, _≤_};
 ghost use Rattle.io.specs.Counts.{Counts};
 

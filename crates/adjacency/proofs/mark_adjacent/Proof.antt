@@ -4,30 +4,6 @@ use borrow.Author.Needs.{needs}
 use Rattle.adjacency.proofs.mark_adjacent.Statement.{statement}
 use Rattle.adjacency.proofs.mark_adjacent.Tie as tie
 
-mul-write-marks : tie.Need-mul-write-marks
-mul-write-marks c = search needs
-
-shared-slice-read-write-marks : tie.Need-shared-slice-read-write-marks
-shared-slice-read-write-marks c = search needs
-
-add-write-marks : tie.Need-add-write-marks
-add-write-marks c = search needs
-
-mul-write-marks-2 : tie.Need-mul-write-marks-2
-mul-write-marks-2 c = search needs
-
-shared-slice-read-write-marks-2 : tie.Need-shared-slice-read-write-marks-2
-shared-slice-read-write-marks-2 c = search needs
-
-write-marks-requires : tie.Need-write-marks-requires
-write-marks-requires c κs = search needs
-
-slice-write-marks : tie.Need-slice-write-marks
-slice-write-marks c = search needs
-
-same-length : tie.Need-same-length
-same-length c = search needs
-
 returns : tie.Need-returns
 returns c =
     let w = c .before .before in
@@ -38,12 +14,12 @@ pub mark-adjacent-spec : {M : Type 1} → statement M
 mark-adjacent-spec =
     tie.close
     (tie.spec
-    mul-write-marks
-    shared-slice-read-write-marks
-    add-write-marks
-    mul-write-marks-2
-    shared-slice-read-write-marks-2
-    write-marks-requires
-    slice-write-marks
-    same-length
+    (λ c. search needs)
+    (λ c. search needs)
+    (λ c. search needs)
+    (λ c. search needs)
+    (λ c. search needs)
+    (λ c κs. search needs)
+    (λ c. search needs)
+    (λ c. search needs)
     returns)

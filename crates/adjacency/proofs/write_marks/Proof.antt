@@ -17,27 +17,12 @@ abbrev μ-loop : tie.MeasureT-loop
 loop-holds : tie.Need-loop-holds Inv-loop μ-loop
 loop-holds c = (omega arith, omega arith, written-none _ _ _ _)
 
-mul-wide : tie.Need-mul-wide Inv-loop μ-loop
-mul-wide c = omega arith
-
-shared-slice-read-wide : tie.Need-shared-slice-read-wide Inv-loop μ-loop
-shared-slice-read-wide c = omega arith
-
-wide-requires : tie.Need-wide-requires Inv-loop μ-loop
-wide-requires c κs = search needs
-
 slice-write-marks : tie.Need-slice-write-marks Inv-loop μ-loop
 slice-write-marks c =
     let l = c .before .before .before in
     let p = l .before .before .before .pre in
     let h = p .1 (l .loop .i) (l .loop .inv .0) (c .before .before .loop-test .taken) in
     omega (arith, c .wide .ensures, h, l .loop .inv .2 .long)
-
-add-i : tie.Need-add-i Inv-loop μ-loop
-add-i c = omega arith
-
-loop-less : tie.Need-loop-less Inv-loop μ-loop
-loop-less c = omega arith
 
 loop-again : tie.Need-loop-again Inv-loop μ-loop
 loop-again c =
@@ -62,12 +47,12 @@ write-marks-spec =
     Inv-loop
     μ-loop
     loop-holds
-    mul-wide
-    shared-slice-read-wide
-    wide-requires
+    (λ c. omega arith)
+    (λ c. omega arith)
+    (λ c κs. search needs)
     slice-write-marks
-    add-i
-    loop-less
+    (λ c. omega arith)
+    (λ c. omega arith)
     loop-again
     same-length
     returns)

@@ -6,12 +6,6 @@ use Rattle.answers.proofs.of_answer.Tie as tie
 enum-told : tie.Need-enum-told
 enum-told c = search needs
 
-enum-known-answer : tie.Need-enum-known-answer
-enum-known-answer c = search needs
-
-enum-known-answer-2 : tie.Need-enum-known-answer-2
-enum-known-answer-2 c = search needs
-
 returns : tie.Need-returns
 returns c = rw (c .enum-told .given .1)
 
@@ -22,4 +16,4 @@ returns-3 : tie.Need-returns-3
 returns-3 c = rw (c .before .answer2 .given .1)
 
 pub of-answer-spec : {M : Type 1} → statement M
-of-answer-spec = tie.close (tie.spec enum-told enum-known-answer enum-known-answer-2 returns returns-2 returns-3)
+of-answer-spec = tie.close (tie.spec enum-told (λ c. search needs) (λ c. search needs) returns returns-2 returns-3)

@@ -1,21 +1,16 @@
 -- `board::check_parts` meets its contract: each test is a question of `checkOf`. Assumes nothing.
 use mathlib.Core.Path.{refl, sym, _∙_}
-use native.Mathlib.Omega.{arith}
 use borrow.Author.Tests.{not-true, not-false}
 use mathlib.Core.Bool.{true, false}
 use denote.Ref.{now}
-use lib.ListN.{length, take}
-use Rattle.grid.specs.Grid.{grid, sizesOk, borderCount}
-use Rattle.grid.proofs.Geometry.{borderCount-le}
+use lib.ListN.{take}
+use Rattle.grid.specs.Grid.{grid, borderCount}
 use Rattle.grid.proofs.Codes.{ok-limits}
 use Rattle.board.specs.Board.{zeros}
 use Rattle.board.proofs.Laws.{lent, no-size, too-long, by-ledger, by-marks}
 use borrow.Author.Needs.{needs}
 use Rattle.board.proofs.check_parts.Statement.{statement}
 use Rattle.board.proofs.check_parts.Tie as tie
-
-sizes-ok-requires : tie.Need-sizes-ok-requires
-sizes-ok-requires c κs = search needs
 
 returns : tie.Need-returns
 returns c =
@@ -38,9 +33,6 @@ returns-2 c =
     let g = grid (s .args .height) (s .args .width) in
     let ok = sym (k .sizes-ok .ensures) ∙ not-false (k .sizes-ok .result) (c .before .before .if1 .left) in
     too-long (s .args .height) (s .args .width) (now (s .args .states)) (now (s .args .names)) (s .args .len) ok (rw (c .before .border-count .ensures) at (c .if2 .taken))
-
-slice-aggregate-holds : tie.Need-slice-aggregate-holds
-slice-aggregate-holds c = search needs
 
 holds-requires : tie.Need-holds-requires
 unfolding zeros
@@ -82,11 +74,11 @@ pub check-parts-spec : {M : Type 1} → statement M
 check-parts-spec =
     tie.close
     (tie.spec
-    sizes-ok-requires
+    (λ c κs. search needs)
     returns
     border-count-requires
     returns-2
-    slice-aggregate-holds
+    (λ c. search needs)
     holds-requires
     returns-3
     returns-4)

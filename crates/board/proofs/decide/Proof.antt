@@ -9,17 +9,11 @@ use Rattle.board.proofs.Laws.{ready, undecided, decide-answer, decided,
 use Rattle.board.proofs.decide.Statement.{statement}
 use Rattle.board.proofs.decide.Tie as tie
 
-decide-code-requires : tie.Need-decide-code-requires
-decide-code-requires c κs = search needs
-
 returns : tie.Need-returns
 returns c =
     let k = c .before in
     let s = k .before .before .before .before .before .before in
     decide-answer (s .args .b) (k .decide-code .result) (s .args .border) (s .args .wall) (k .decide-code .ensures) (c .if1 .taken)
-
-state-of-requires : tie.Need-state-of-requires
-state-of-requires c κs = search needs
 
 set-state-requires : tie.Need-set-state-requires
 set-state-requires c κs =
@@ -76,9 +70,9 @@ pub decide-spec : {M : Type 1} → statement M
 decide-spec =
     tie.close
     (tie.spec
-    decide-code-requires
+    (λ c κs. search needs)
     returns
-    state-of-requires
+    (λ c κs. search needs)
     set-state-requires
     cast-name
     set-name-requires

@@ -9,9 +9,6 @@ use Rattle.board.proofs.Laws.{parts-ready, decide-refused, decide-outsi
 use Rattle.board.proofs.decide_code.Statement.{statement}
 use Rattle.board.proofs.decide_code.Tie as tie
 
-check-parts-requires : tie.Need-check-parts-requires
-check-parts-requires c κs = search needs
-
 returns : tie.Need-returns
 returns c =
     let k = c .before in
@@ -60,7 +57,7 @@ pub decide-code-spec : {M : Type 1} → statement M
 decide-code-spec =
     tie.close
     (tie.spec
-    check-parts-requires
+    (λ c κs. search needs)
     returns
     border-count-requires
     returns-2

@@ -5,19 +5,10 @@ use borrow.Author.Needs.{needs}
 use Rattle.board.proofs.make.Statement.{statement}
 use Rattle.board.proofs.make.Tie as tie
 
-sizes-ok-requires : tie.Need-sizes-ok-requires
-sizes-ok-requires c κs = search needs
-
-empty-requires : tie.Need-empty-requires
-empty-requires c κs = search needs
-
 returns : tie.Need-returns
 returns c =
     let k = c .before .before in
     simp (sym (k .sizes-ok .ensures) ∙ not-true (k .sizes-ok .result) (c .before .if1 .taken), c .empty .ensures)
-
-empty-requires-2 : tie.Need-empty-requires-2
-empty-requires-2 c κs = search needs
 
 returns-2 : tie.Need-returns-2
 returns-2 c =
@@ -26,4 +17,4 @@ returns-2 c =
 
 pub make-spec : {M : Type 1} → statement M
 make-spec =
-    tie.close (tie.spec sizes-ok-requires empty-requires returns empty-requires-2 returns-2)
+    tie.close (tie.spec (λ c κs. search needs) (λ c κs. search needs) returns (λ c κs. search needs) returns-2)

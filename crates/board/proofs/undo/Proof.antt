@@ -10,9 +10,6 @@ use Rattle.board.proofs.Laws.{ready, undoable, undo-answer, undone, las
 use Rattle.board.proofs.undo.Statement.{statement}
 use Rattle.board.proofs.undo.Tie as tie
 
-undo-code-requires : tie.Need-undo-code-requires
-undo-code-requires c κs = search needs
-
 returns : tie.Need-returns
 returns c =
     let k = c .before in
@@ -39,9 +36,6 @@ name-at-requires c κs =
     let r = ready (b .height) (b .width) (b .states) (b .ledger) (b .len) (u .code) in
     let long : length (b .ledger) ≡ 1984 = search needs in
     omega (arith, u .some, borderCount-le (sizeOf b) (r .limits), r .short)
-
-cast-border : tie.Need-cast-border
-cast-border c = search needs
 
 set-state-requires : tie.Need-set-state-requires
 set-state-requires c κs =
@@ -79,11 +73,11 @@ pub undo-spec : {M : Type 1} → statement M
 undo-spec =
     tie.close
     (tie.spec
-    undo-code-requires
+    (λ c κs. search needs)
     returns
     sub-at
     name-at-requires
-    cast-border
+    (λ c. search needs)
     set-state-requires
     set-name-requires
     returns-2)

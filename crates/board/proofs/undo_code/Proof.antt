@@ -5,9 +5,6 @@ use Rattle.board.proofs.Laws.{undo-refused, undo-empty, undo-clear}
 use Rattle.board.proofs.undo_code.Statement.{statement}
 use Rattle.board.proofs.undo_code.Tie as tie
 
-check-parts-requires : tie.Need-check-parts-requires
-check-parts-requires c κs = search needs
-
 returns : tie.Need-returns
 returns c =
     let k = c .before in
@@ -27,4 +24,4 @@ returns-3 c =
     undo-clear (s .args .height) (s .args .width) (now (s .args .states)) (now (s .args .names)) (s .args .len) (k .check-parts .result) (k .check-parts .ensures) (c .before .if1 .left) (c .if2 .left)
 
 pub undo-code-spec : {M : Type 1} → statement M
-undo-code-spec = tie.close (tie.spec check-parts-requires returns returns-2 returns-3)
+undo-code-spec = tie.close (tie.spec (λ c κs. search needs) returns returns-2 returns-3)

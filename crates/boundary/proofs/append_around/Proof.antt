@@ -22,21 +22,12 @@ abbrev μ-loop : tie.MeasureT-loop
 loop-holds : tie.Need-loop-holds Inv-loop μ-loop
 loop-holds c = (search needs, rest-all _ _ _)
 
-array-copy-out-append-entry : tie.Need-array-copy-out-append-entry Inv-loop μ-loop
-array-copy-out-append-entry c = omega arith
-
 append-entry-requires : tie.Need-append-entry-requires Inv-loop μ-loop
 append-entry-requires c κs =
     let k = c .before .before in
     let l = k .before .loop in
     let p = k .before .before .before .before .before .pre in
     record { lent = p .lent; cell = p .cell; room = turn-room _ _ Up (l .i) (l .inv .1) (omega arith) (p .room) }
-
-add-i : tie.Need-add-i Inv-loop μ-loop
-add-i c = omega arith
-
-loop-less : tie.Need-loop-less Inv-loop μ-loop
-loop-less c = omega arith
 
 loop-again : tie.Need-loop-again Inv-loop μ-loop
 loop-again c =
@@ -57,10 +48,10 @@ append-around-spec =
     Inv-loop
     μ-loop
     loop-holds
-    array-copy-out-append-entry
+    (λ c. omega arith)
     append-entry-requires
-    add-i
-    loop-less
+    (λ c. omega arith)
+    (λ c. omega arith)
     loop-again
     same-length
     returns)

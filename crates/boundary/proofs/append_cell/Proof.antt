@@ -11,9 +11,6 @@ append-around-requires c κs =
     let s = t .before .before .before .before in
     rw (potential-cell-is _ _ _ (t .if1 .taken)) at (s .pre)
 
-same-length : tie.Need-same-length
-same-length c = search needs
-
 returns : tie.Need-returns
 returns c =
     let a = c .before .before in
@@ -41,9 +38,6 @@ append-around-requires-2 c κs =
     let s = t .before .before .before .before in
     ready-on _ _ (ready-on _ _ (rw (unit-cell-is _ _ _ (t .if1 .left)) at (s .pre)) (a .append-entry .ensures)) (b .append-entry2 .ensures)
 
-same-length-2 : tie.Need-same-length-2
-same-length-2 c = search needs
-
 returns-2 : tie.Need-returns-2
 returns-2 c =
     let o = c .before .before in
@@ -57,10 +51,10 @@ append-cell-spec =
     tie.close
     (tie.spec
     append-around-requires
-    same-length
+    (λ c. search needs)
     returns
     append-entry-requires
     append-entry-requires-2
     append-around-requires-2
-    same-length-2
+    (λ c. search needs)
     returns-2)

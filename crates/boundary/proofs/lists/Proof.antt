@@ -10,12 +10,6 @@ enum-told c = search needs
 returns : tie.Need-returns
 returns c = rw (c .before .enum-told .given .1, eq-eqb _ _ (c .if1 .taken))
 
-enum-told-2 : tie.Need-enum-told-2
-enum-told-2 c = search needs
-
-enum-told-3 : tie.Need-enum-told-3
-enum-told-3 c = search needs
-
 returns-2 : tie.Need-returns-2
 returns-2 c = rw (c .before .enum-told3 .given .1, eq-eqb _ _ (c .if2 .taken))
 
@@ -31,4 +25,4 @@ returns-5 c = rw (c .before .enum-told3 .given .1, ne-eqb _ _ (c .if2 .left))
 pub lists-spec : {M : Type 1} → statement M
 lists-spec =
     tie.close
-    (tie.spec enum-told returns enum-told-2 enum-told-3 returns-2 returns-3 returns-4 returns-5)
+    (tie.spec enum-told returns (λ c. search needs) (λ c. search needs) returns-2 returns-3 returns-4 returns-5)

@@ -9,20 +9,11 @@ use Rattle.case_file.proofs.call_at.Tie as tie
 returns : tie.Need-returns
 returns c = let a = c .before .before .args in simp (call-out (a .file .now) (a .at) (c .if1 .taken))
 
-shared-slice-read-kind : tie.Need-shared-slice-read-kind
-shared-slice-read-kind c = search needs
-
-add-t10 : tie.Need-add-t10
-add-t10 c = search needs
-
 returns-2 : tie.Need-returns-2
 returns-2 c =
     let k = c .before .before in
     let a = k .before .before .args in
     simp (call-undo (a .file .now) (a .at) (k .if1 .left) (c .if2 .taken))
-
-add-t12 : tie.Need-add-t12
-add-t12 c = search needs
 
 returns-3 : tie.Need-returns-3
 returns-3 c =
@@ -36,23 +27,11 @@ returns-4 c =
     let a = k .before .before .args in
     simp (call-other (a .file .now) (a .at) (k .if1 .left) (c .if4 .taken))
 
-sub-if5 : tie.Need-sub-if5
-sub-if5 c = search needs
-
 returns-5 : tie.Need-returns-5
 returns-5 c =
     let k = c .before .before .before .before .before in
     let a = k .before .before .args in
     simp (call-cut (a .file .now) (a .at) (omega arith) (k .if1 .left) (c .before .before .before .if2 .left) (c .before .before .if3 .left) (c .before .if4 .left))
-
-add-word : tie.Need-add-word
-add-word c = search needs
-
-word-requires : tie.Need-word-requires
-word-requires c κs = search needs
-
-add-t5 : tie.Need-add-t5
-add-t5 c = search needs
 
 returns-6 : tie.Need-returns-6
 returns-6 c =
@@ -66,15 +45,15 @@ call-at-spec =
     tie.close
     (tie.spec
     returns
-    shared-slice-read-kind
-    add-t10
+    (λ c. search needs)
+    (λ c. search needs)
     returns-2
-    add-t12
+    (λ c. search needs)
     returns-3
     returns-4
-    sub-if5
+    (λ c. search needs)
     returns-5
-    add-word
-    word-requires
-    add-t5
+    (λ c. search needs)
+    (λ c κs. search needs)
+    (λ c. search needs)
     returns-6)

@@ -15,26 +15,11 @@ Inv-loop file at count next₀ k₀ next k = Walking file (at + 2) count next k
 abbrev μ-loop : tie.MeasureT-loop
 μ-loop file at count next₀ k₀ next k = count - k
 
-sub-if1 : tie.Need-sub-if1 Inv-loop μ-loop
-sub-if1 c = search needs
-
 returns : tie.Need-returns Inv-loop μ-loop
 returns c = let a = c .before .before .args in simp (calls-none (a .file .now) (a .at) (omega arith))
 
-word-requires : tie.Need-word-requires Inv-loop μ-loop
-word-requires c κs = omega arith
-
-add-next : tie.Need-add-next Inv-loop μ-loop
-add-next c = omega arith
-
 loop-holds : tie.Need-loop-holds Inv-loop μ-loop
 loop-holds c = record { within = omega arith; inside = omega arith; left = simp sub-zero }
-
-call-at-requires : tie.Need-call-at-requires Inv-loop μ-loop
-call-at-requires c κs = search needs
-
-enum-known-behind : tie.Need-enum-known-behind Inv-loop μ-loop
-enum-known-behind c = search needs
 
 enum-told : tie.Need-enum-told Inv-loop μ-loop
 enum-told c = search needs
@@ -49,20 +34,11 @@ returns-2 c =
     (walking-stop (t .before .loop .inv) (t .loop-test .taken) u) in
     simp e
 
-add-k : tie.Need-add-k Inv-loop μ-loop
-add-k c = omega arith
-
-loop-less : tie.Need-loop-less Inv-loop μ-loop
-loop-less c = omega arith
-
 loop-again : tie.Need-loop-again Inv-loop μ-loop
 loop-again c =
     let g = c .before .behind .given in
     let t = c .before .before .before .before in
     walking-next (t .before .loop .inv) (t .loop-test .taken) (g .0 .0) (g .0 .1 .0) (sym (g .1) ∙ c .before .before .before .call-at .ensures)
-
-add-t7 : tie.Need-add-t7 Inv-loop μ-loop
-add-t7 c = omega arith
 
 returns-3 : tie.Need-returns-3 Inv-loop μ-loop
 returns-3 c =
@@ -76,17 +52,17 @@ calls-at-spec =
     (tie.spec
     Inv-loop
     μ-loop
-    sub-if1
+    (λ c. search needs)
     returns
-    word-requires
-    add-next
+    (λ c κs. omega arith)
+    (λ c. omega arith)
     loop-holds
-    call-at-requires
-    enum-known-behind
+    (λ c κs. search needs)
+    (λ c. search needs)
     enum-told
     returns-2
-    add-k
-    loop-less
+    (λ c. omega arith)
+    (λ c. omega arith)
     loop-again
-    add-t7
+    (λ c. omega arith)
     returns-3)

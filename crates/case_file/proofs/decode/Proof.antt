@@ -8,17 +8,8 @@ use Rattle.case_file.proofs.decode.Tie as tie
 returns : tie.Need-returns
 returns c = front-short (c .before .before .args .file .now) (c .if1 .taken)
 
-shared-slice-read-if2 : tie.Need-shared-slice-read-if2
-shared-slice-read-if2 c = search needs
-
 returns-2 : tie.Need-returns-2
 returns-2 c = let k = c .before .before in front-version (k .before .before .args .file .now) (k .if1 .left) (c .if2 .taken)
-
-word-requires : tie.Need-word-requires
-word-requires c κs = search needs
-
-sub-if3 : tie.Need-sub-if3
-sub-if3 c = search needs
 
 returns-3 : tie.Need-returns-3
 returns-3 c =
@@ -33,9 +24,6 @@ returns-4 c =
     front-long (k .before .before .args .file .now) (k .if1 .left) (w .before .if2 .left) (rw (w .word .ensures .0) at (c .before .if3 .left))
     (rw (w .word .ensures .0) at (c .if4 .taken))
 
-rest-requires : tie.Need-rest-requires
-rest-requires c κs = search needs
-
 returns-5 : tie.Need-returns-5
 returns-5 c =
     let e = c .before in
@@ -49,11 +37,11 @@ decode-spec =
     tie.close
     (tie.spec
     returns
-    shared-slice-read-if2
+    (λ c. search needs)
     returns-2
-    word-requires
-    sub-if3
+    (λ c κs. search needs)
+    (λ c. search needs)
     returns-3
     returns-4
-    rest-requires
+    (λ c κs. search needs)
     returns-5)

@@ -10,9 +10,6 @@ use Rattle.case_file.proofs.NumberLaws.{number-in, number-at}
 use Rattle.case_file.proofs.number.Statement.{statement}
 use Rattle.case_file.proofs.number.Tie as tie
 
-reach-requires : tie.Need-reach-requires
-reach-requires c κs = search needs
-
 returns : tie.Need-returns
 returns c =
     let a = c .before .before .before .args in
@@ -37,4 +34,4 @@ returns-2 c =
     c .word .ensures .0 ∙ sym (number-at (a .file .now) (a .list .at) (a .list .count) (a .k) (rw (e .before .reach .ensures) at (e .if1 .left)))
 
 pub number-spec : {M : Type 1} → statement M
-number-spec = tie.close (tie.spec reach-requires returns mul-word add-word word-requires returns-2)
+number-spec = tie.close (tie.spec (λ c κs. search needs) returns mul-word add-word word-requires returns-2)

@@ -16,12 +16,6 @@ Inv-loop file out₀ at count n k₀ out k = Copying (numbersAt file at count) o
 abbrev μ-loop : tie.MeasureT-loop
 μ-loop file out₀ at count n k₀ out k = n - k
 
-reach-requires : tie.Need-reach-requires Inv-loop μ-loop
-reach-requires c κs = search needs
-
-least-requires : tie.Need-least-requires Inv-loop μ-loop
-least-requires c κs = search needs
-
 loop-holds : tie.Need-loop-holds Inv-loop μ-loop
 loop-holds c = record { within = omega arith; all = rw (← c .before .reach .ensures) (c .least .ensures); long = refl; left = refl }
 
@@ -56,12 +50,6 @@ mul-out c = omega (arith, inside (c .before))
 slice-write-out : tie.Need-slice-write-out Inv-loop μ-loop
 slice-write-out c = let i = c .before .before .loop .inv in omega (arith, c .before .loop-test .taken, i .all, i .long)
 
-add-k : tie.Need-add-k Inv-loop μ-loop
-add-k c = omega arith
-
-loop-less : tie.Need-loop-less Inv-loop μ-loop
-loop-less c = omega arith
-
 loop-again : tie.Need-loop-again Inv-loop μ-loop
 loop-again c =
     let t = c .before in
@@ -81,8 +69,8 @@ numbers-spec =
     (tie.spec
     Inv-loop
     μ-loop
-    reach-requires
-    least-requires
+    (λ c κs. search needs)
+    (λ c κs. search needs)
     loop-holds
     mul-word
     add-word
@@ -90,8 +78,8 @@ numbers-spec =
     cast-out
     mul-out
     slice-write-out
-    add-k
-    loop-less
+    (λ c. omega arith)
+    (λ c. omega arith)
     loop-again
     same-length
     returns)

@@ -47,12 +47,6 @@ calls-found c =
 returns : tie.Need-returns
 returns c = simp (rest-short (c .before .before .args .file .now) (c .if1 .taken))
 
-numbers-at-requires : tie.Need-numbers-at-requires
-numbers-at-requires c κs = search needs
-
-enum-known-walls : tie.Need-enum-known-walls
-enum-known-walls c = search needs
-
 enum-told : tie.Need-enum-told
 enum-told c = search needs
 
@@ -65,12 +59,6 @@ returns-2 c =
 numbers-at-requires-2 : tie.Need-numbers-at-requires-2
 numbers-at-requires-2 c κs = walls-found c .inside
 
-enum-known-clues : tie.Need-enum-known-clues
-enum-known-clues c = search needs
-
-enum-told-2 : tie.Need-enum-told-2
-enum-told-2 c = search needs
-
 returns-3 : tie.Need-returns-3
 returns-3 c =
     let k = c .before .before in
@@ -82,12 +70,6 @@ returns-3 c =
 
 calls-at-requires : tie.Need-calls-at-requires
 calls-at-requires c κs = clues-found c .inside
-
-enum-known-calls : tie.Need-enum-known-calls
-enum-known-calls c = search needs
-
-enum-told-3 : tie.Need-enum-told-3
-enum-told-3 c = search needs
 
 returns-4 : tie.Need-returns-4
 returns-4 c =
@@ -106,18 +88,6 @@ returns-5 c =
     let q = o .before .before .before .before in
     more-left (bytes3 k) (q .before .before .before .before .if1 .left) (walls-found q) (clues-found o) (calls-found k) (c .if2 .taken)
 
-shared-slice-read-wide : tie.Need-shared-slice-read-wide
-shared-slice-read-wide c = search needs
-
-wide-requires : tie.Need-wide-requires
-wide-requires c κs = search needs
-
-shared-slice-read-wide-2 : tie.Need-shared-slice-read-wide-2
-shared-slice-read-wide-2 c = search needs
-
-wide-requires-2 : tie.Need-wide-requires-2
-wide-requires-2 c κs = search needs
-
 returns-6 : tie.Need-returns-6
 returns-6 c =
     let e = c .before .before .before .before in
@@ -132,21 +102,21 @@ rest-spec =
     tie.close
     (tie.spec
     returns
-    numbers-at-requires
-    enum-known-walls
+    (λ c κs. search needs)
+    (λ c. search needs)
     enum-told
     returns-2
     numbers-at-requires-2
-    enum-known-clues
-    enum-told-2
+    (λ c. search needs)
+    (λ c. search needs)
     returns-3
     calls-at-requires
-    enum-known-calls
-    enum-told-3
+    (λ c. search needs)
+    (λ c. search needs)
     returns-4
     returns-5
-    shared-slice-read-wide
-    wide-requires
-    shared-slice-read-wide-2
-    wide-requires-2
+    (λ c. search needs)
+    (λ c κs. search needs)
+    (λ c. search needs)
+    (λ c κs. search needs)
     returns-6)

@@ -6,20 +6,8 @@ use borrow.Author.Needs.{needs}
 use Rattle.case_run.proofs.ask_line.Statement.{statement}
 use Rattle.case_run.proofs.ask_line.Tie as tie
 
-slice-aggregate-ask : tie.Need-slice-aggregate-ask
-slice-aggregate-ask c = search needs
-
-ask-requires : tie.Need-ask-requires
-ask-requires c κs = search needs
-
 enum-told : tie.Need-enum-told
 enum-told c = search needs
-
-bare-line-requires : tie.Need-bare-line-requires
-bare-line-requires c κs = search needs
-
-enum-known-check : tie.Need-enum-known-check
-enum-known-check c = search needs
 
 -- the part of the buffer that a fault filled
 part : (c : tie.After-known-told) → Filled (c .before .check .given .0 .1 .0) (c .before .before .before .before .ask .last .1 .0)
@@ -38,15 +26,6 @@ slice-aggregate-fault-line c = part (c .before) .long
 fault-line-requires : tie.Need-fault-line-requires
 fault-line-requires c κs = (part (c .before .before) .few, c .before .before .before .before .before .before .before .before .before .pre)
 
-enum-known-code : tie.Need-enum-known-code
-enum-known-code c = search needs
-
-bare-line-requires-2 : tie.Need-bare-line-requires-2
-bare-line-requires-2 c κs = search needs
-
-same-length : tie.Need-same-length
-same-length c = search needs
-
 returns : tie.Need-returns
 unfolding blank
 returns c =
@@ -56,9 +35,6 @@ returns c =
     let a = l .before .before .before .args in
     by-line _ _ (a .out .now) (clear-line (a .p) (l .ask .result) (l .ask .last .1 .0) (l .ask .ensures .0) (l .ask .ensures .1) (t .enum-told .given .1)) (k .bare-line .ensures)
 
-same-length-2 : tie.Need-same-length-2
-same-length-2 c = search needs
-
 returns-2 : tie.Need-returns-2
 unfolding blank
 returns-2 c =
@@ -67,9 +43,6 @@ returns-2 c =
     let l = t .before .before .before in
     let a = l .before .before .before .args in
     by-line _ _ (a .out .now) (fault-line (a .p) (l .ask .result) (l .ask .last .1 .0) (l .ask .ensures .0) (l .ask .ensures .1) _ _ (t .check .given .1)) (k .fault-line .ensures)
-
-same-length-3 : tie.Need-same-length-3
-same-length-3 c = search needs
 
 returns-3 : tie.Need-returns-3
 unfolding blank
@@ -84,19 +57,19 @@ pub ask-line-spec : {M : Type 1} → statement M
 ask-line-spec =
     tie.close
     (tie.spec
-    slice-aggregate-ask
-    ask-requires
+    (λ c. search needs)
+    (λ c κs. search needs)
     enum-told
-    bare-line-requires
-    enum-known-check
+    (λ c κs. search needs)
+    (λ c. search needs)
     array-share-prefix-list
     slice-aggregate-fault-line
     fault-line-requires
-    enum-known-code
-    bare-line-requires-2
-    same-length
+    (λ c. search needs)
+    (λ c κs. search needs)
+    (λ c. search needs)
     returns
-    same-length-2
+    (λ c. search needs)
     returns-2
-    same-length-3
+    (λ c. search needs)
     returns-3)

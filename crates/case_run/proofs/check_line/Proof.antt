@@ -3,15 +3,6 @@ use borrow.Author.Needs.{needs}
 use Rattle.case_run.proofs.check_line.Statement.{statement}
 use Rattle.case_run.proofs.check_line.Tie as tie
 
-enum-told : tie.Need-enum-told
-enum-told c = search needs
-
-enum-known-check : tie.Need-enum-known-check
-enum-known-check c = search needs
-
-returns : tie.Need-returns
-returns c = search needs
-
 returns-2 : tie.Need-returns-2
 returns-2 c = rw (c .before .check .given .1)
 
@@ -19,7 +10,7 @@ pub check-line-spec : {M : Type 1} → statement M
 check-line-spec =
     tie.close
     (tie.spec
-    enum-told
-    enum-known-check
-    returns
+    (λ c. search needs)
+    (λ c. search needs)
+    (λ c. search needs)
     returns-2)

@@ -4,15 +4,6 @@ use borrow.Author.Needs.{needs}
 use Rattle.case_run.proofs.decide_call.Statement.{statement}
 use Rattle.case_run.proofs.decide_call.Tie as tie
 
-decide-requires : tie.Need-decide-requires
-decide-requires c κs = search needs
-
-code-line-requires : tie.Need-code-line-requires
-code-line-requires c κs = search needs
-
-same-length : tie.Need-same-length
-same-length c = search needs
-
 returns : tie.Need-returns
 returns c =
     let k = c .before .before .before in
@@ -24,7 +15,7 @@ pub decide-call-spec : {M : Type 1} → statement M
 decide-call-spec =
     tie.close
     (tie.spec
-    decide-requires
-    code-line-requires
-    same-length
+    (λ c κs. search needs)
+    (λ c κs. search needs)
+    (λ c. search needs)
     returns)

@@ -5,15 +5,6 @@ use borrow.Author.Needs.{needs}
 use Rattle.case_run.proofs.fault_line.Statement.{statement}
 use Rattle.case_run.proofs.fault_line.Tie as tie
 
-slice-aggregate-hand-over : tie.Need-slice-aggregate-hand-over
-slice-aggregate-hand-over c = search needs
-
-hand-over-requires : tie.Need-hand-over-requires
-hand-over-requires c κs = search needs
-
-enum-known-n : tie.Need-enum-known-n
-enum-known-n c = search needs
-
 enum-told : tie.Need-enum-told
 enum-told c = search needs
 
@@ -32,20 +23,11 @@ handed c =
     let s = h .before .before .before .before in
     listed (s .args .list .now) (s .pre .0) (h .hand-over .result) (c .before .n .given .0 .0) (h .hand-over .last .1 .0) (c .before .n .given .1) (h .hand-over .ensures .0) (h .hand-over .ensures .1)
 
-check-line-requires : tie.Need-check-line-requires
-check-line-requires c κs = search needs
-
 array-share-prefix-entries : tie.Need-array-share-prefix-entries
 array-share-prefix-entries c = handed (c .before) .within
 
 slice-aggregate-write-line : tie.Need-slice-aggregate-write-line
 slice-aggregate-write-line c = handed (c .before .before) .long
-
-write-line-requires : tie.Need-write-line-requires
-write-line-requires c κs = search needs
-
-same-length : tie.Need-same-length
-same-length c = search needs
 
 returns-2 : tie.Need-returns-2
 returns-2 c =
@@ -60,14 +42,14 @@ pub fault-line-spec : {M : Type 1} → statement M
 fault-line-spec =
     tie.close
     (tie.spec
-    slice-aggregate-hand-over
-    hand-over-requires
-    enum-known-n
+    (λ c. search needs)
+    (λ c κs. search needs)
+    (λ c. search needs)
     enum-told
     returns
-    check-line-requires
+    (λ c κs. search needs)
     array-share-prefix-entries
     slice-aggregate-write-line
-    write-line-requires
-    same-length
+    (λ c κs. search needs)
+    (λ c. search needs)
     returns-2)

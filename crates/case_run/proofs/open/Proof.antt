@@ -9,35 +9,14 @@ use borrow.Author.Needs.{needs}
 use Rattle.case_run.proofs.open.Statement.{statement}
 use Rattle.case_run.proofs.open.Tie as tie
 
-decode-requires : tie.Need-decode-requires
-decode-requires c κs = search needs
-
-enum-known-layout : tie.Need-enum-known-layout
-enum-known-layout c = search needs
-
 enum-told : tie.Need-enum-told
 enum-told c = search needs
-
-unsound-requires : tie.Need-unsound-requires
-unsound-requires c κs = search needs
 
 returns : tie.Need-returns
 returns c =
     let d = c .before .before .before in
     let a = d .before .before .args in
     refused-file (a .file .now) (d .decode .result) (c .unsound .result) (c .before .enum-told .given .1) (d .decode .ensures .0) (c .unsound .ensures)
-
-slice-aggregate-numbers : tie.Need-slice-aggregate-numbers
-slice-aggregate-numbers c = search needs
-
-numbers-requires : tie.Need-numbers-requires
-numbers-requires c κs = search needs
-
-slice-aggregate-numbers-2 : tie.Need-slice-aggregate-numbers-2
-slice-aggregate-numbers-2 c = search needs
-
-numbers-requires-2 : tie.Need-numbers-requires-2
-numbers-requires-2 c κs = search needs
 
 -- what was read into the places
 module _ (c : tie.After-clues2) where
@@ -73,9 +52,6 @@ array-share-prefix-clues c = clues (c .before) .within
 slice-aggregate-make-2 : tie.Need-slice-aggregate-make-2
 slice-aggregate-make-2 c = clues (c .before .before) .long
 
-make-requires : tie.Need-make-requires
-make-requires c κs = search needs
-
 returns-2 : tie.Need-returns-2
 returns-2 c =
     let m = c .before in
@@ -86,18 +62,18 @@ pub open-spec : {M : Type 1} → statement M
 open-spec =
     tie.close
     (tie.spec
-    decode-requires
-    enum-known-layout
+    (λ c κs. search needs)
+    (λ c. search needs)
     enum-told
-    unsound-requires
+    (λ c κs. search needs)
     returns
-    slice-aggregate-numbers
-    numbers-requires
-    slice-aggregate-numbers-2
-    numbers-requires-2
+    (λ c. search needs)
+    (λ c κs. search needs)
+    (λ c. search needs)
+    (λ c κs. search needs)
     array-share-prefix-walls
     slice-aggregate-make
     array-share-prefix-clues
     slice-aggregate-make-2
-    make-requires
+    (λ c κs. search needs)
     returns-2)

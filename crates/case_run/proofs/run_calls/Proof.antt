@@ -20,12 +20,6 @@ returns c = let a = c .before .before .before .args in no-room (a .p) (a .file .
 loop-holds : tie.Need-loop-holds Inv-loop μ-loop
 loop-holds c = let a = c .before .before .before .args in running (a .p) (a .file .now) (a .at) (a .count) (a .out .now) (c .if1 .left)
 
-call-at-requires : tie.Need-call-at-requires Inv-loop μ-loop
-call-at-requires c κs = search needs
-
-enum-known-call : tie.Need-enum-known-call Inv-loop μ-loop
-enum-known-call c = search needs
-
 enum-told : tie.Need-enum-told Inv-loop μ-loop
 enum-told c = search needs
 
@@ -35,14 +29,8 @@ sub-do-call c = let i = c .before .before .before .before in omega (arith, part-
 part-do-call-start : tie.Need-part-do-call-start Inv-loop μ-loop
 part-do-call-start c = let i = c .before .before .before .before in omega (arith, part-room (i .before .loop .inv) (i .loop-test .taken))
 
-part-do-call-end : tie.Need-part-do-call-end Inv-loop μ-loop
-part-do-call-end c = search needs
-
 do-call-requires : tie.Need-do-call-requires Inv-loop μ-loop
 do-call-requires c κs = let i = c .before .before .before .before .before in part-long (i .before .loop .inv) (i .loop-test .taken)
-
-add-done : tie.Need-add-done Inv-loop μ-loop
-add-done c = omega arith
 
 add-len : tie.Need-add-len Inv-loop μ-loop
 add-len c =
@@ -83,14 +71,14 @@ run-calls-spec =
     μ-loop
     returns
     loop-holds
-    call-at-requires
-    enum-known-call
+    (λ c κs. search needs)
+    (λ c. search needs)
     enum-told
     sub-do-call
     part-do-call-start
-    part-do-call-end
+    (λ c. search needs)
     do-call-requires
-    add-done
+    (λ c. omega arith)
     add-len
     loop-less
     loop-again

@@ -4,15 +4,6 @@ use borrow.Author.Needs.{needs}
 use Rattle.case_run.proofs.undo_call.Statement.{statement}
 use Rattle.case_run.proofs.undo_call.Tie as tie
 
-undo-requires : tie.Need-undo-requires
-undo-requires c κs = search needs
-
-code-line-requires : tie.Need-code-line-requires
-code-line-requires c κs = search needs
-
-same-length : tie.Need-same-length
-same-length c = search needs
-
 returns : tie.Need-returns
 returns c =
     let k = c .before .before .before in
@@ -24,7 +15,7 @@ pub undo-call-spec : {M : Type 1} → statement M
 undo-call-spec =
     tie.close
     (tie.spec
-    undo-requires
-    code-line-requires
-    same-length
+    (λ c κs. search needs)
+    (λ c κs. search needs)
+    (λ c. search needs)
     returns)

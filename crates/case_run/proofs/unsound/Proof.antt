@@ -4,21 +4,6 @@ use borrow.Author.Needs.{needs}
 use Rattle.case_run.proofs.unsound.Statement.{statement}
 use Rattle.case_run.proofs.unsound.Tie as tie
 
-array-share-prefix-walls : tie.Need-array-share-prefix-walls
-array-share-prefix-walls c = search needs
-
-slice-aggregate-make : tie.Need-slice-aggregate-make
-slice-aggregate-make c = search needs
-
-array-share-prefix-clues : tie.Need-array-share-prefix-clues
-array-share-prefix-clues c = search needs
-
-slice-aggregate-make-2 : tie.Need-slice-aggregate-make-2
-slice-aggregate-make-2 c = search needs
-
-make-requires : tie.Need-make-requires
-make-requires c κs = search needs
-
 returns : tie.Need-returns
 returns c = not-sound (c .before .make .result) (c .before .make .ensures)
 
@@ -26,9 +11,9 @@ pub unsound-spec : {M : Type 1} → statement M
 unsound-spec =
     tie.close
     (tie.spec
-    array-share-prefix-walls
-    slice-aggregate-make
-    array-share-prefix-clues
-    slice-aggregate-make-2
-    make-requires
+    (λ c. search needs)
+    (λ c. search needs)
+    (λ c. search needs)
+    (λ c. search needs)
+    (λ c κs. search needs)
     returns)

@@ -14,23 +14,8 @@ Inv-loop n m xs end fine₀ i₀ fine i = Testing n m xs fine i
 abbrev μ-loop : tie.MeasureT-loop
 μ-loop n m xs end fine₀ i₀ fine i = m - i
 
-cast-end : tie.Need-cast-end Inv-loop μ-loop
-cast-end c = omega arith
-
 loop-holds : tie.Need-loop-holds Inv-loop μ-loop
 loop-holds c = testing-none (c .args .n) (c .args .m) (now (c .args .xs))
-
-mul-if1 : tie.Need-mul-if1 Inv-loop μ-loop
-mul-if1 c = omega arith
-
-shared-slice-read-if1 : tie.Need-shared-slice-read-if1 Inv-loop μ-loop
-shared-slice-read-if1 c = omega arith
-
-add-i : tie.Need-add-i Inv-loop μ-loop
-add-i c = omega arith
-
-loop-less : tie.Need-loop-less Inv-loop μ-loop
-loop-less c = omega arith
 
 loop-again : tie.Need-loop-again Inv-loop μ-loop
 loop-again c =
@@ -54,11 +39,11 @@ all-below-spec =
     (tie.spec
     Inv-loop
     μ-loop
-    cast-end
+    (λ c. omega arith)
     loop-holds
-    mul-if1
-    shared-slice-read-if1
-    add-i
-    loop-less
+    (λ c. omega arith)
+    (λ c. omega arith)
+    (λ c. omega arith)
+    (λ c. omega arith)
     loop-again
     returns)

@@ -10,9 +10,6 @@ use Rattle.city_count.proofs.ask.Tie as tie
 abbrev start : tie.After-check-parts → tie.Start
 start k = k .before .before .before .before .before .before .before .before .before .before .before
 
-check-parts-requires : tie.Need-check-parts-requires
-check-parts-requires c κs = search needs
-
 returns : tie.Need-returns
 returns c =
     let k = c .before in
@@ -31,9 +28,6 @@ returns-2 c =
     let q = k .check-parts .ensures in
     ask-short r code q (c .before .if1 .left) (now (s .args .buf)) (c .if2 .taken)
 
-cast-count : tie.Need-cast-count
-cast-count c = search needs
-
 find-inconsistency-requires : tie.Need-find-inconsistency-requires
 find-inconsistency-requires c κs =
     let e = c .before .before .before .before .before .before .before .before in
@@ -45,12 +39,6 @@ find-inconsistency-requires c κs =
     let sized : Sized (r .us) (r .vs) (r .states) (r .ledger) = search needs in
     (lent-room (r .vertices) (r .edges) (r .us) (r .vs) (r .states) (r .ledger) (r .len) (room-ready r code q (e .before .if1 .left)) sized, e .if2 .left)
 
-enum-known-found : tie.Need-enum-known-found
-enum-known-found c = search needs
-
-same-length : tie.Need-same-length
-same-length c = search needs
-
 returns-3 : tie.Need-returns-3
 returns-3 c =
     let f = c .before .before .before .before .before in
@@ -61,12 +49,6 @@ returns-3 c =
     let code = k .check-parts .result in
     let q = k .check-parts .ensures in
     ask-fault r code q (e .before .if1 .left) (now (s .args .buf)) _ (e .if2 .left) (f .find-inconsistency .ensures .1) _ (sym (c .before .found .given .1) ∙ f .find-inconsistency .ensures .0)
-
-enum-told : tie.Need-enum-told
-enum-told c = search needs
-
-same-length-2 : tie.Need-same-length-2
-same-length-2 c = search needs
 
 returns-4 : tie.Need-returns-4
 returns-4 c =
@@ -84,14 +66,14 @@ pub ask-spec : {M : Type 1} → statement M
 ask-spec =
     tie.close
     (tie.spec
-    check-parts-requires
+    (λ c κs. search needs)
     returns
     returns-2
-    cast-count
+    (λ c. search needs)
     find-inconsistency-requires
-    enum-known-found
-    same-length
+    (λ c. search needs)
+    (λ c. search needs)
     returns-3
-    enum-told
-    same-length-2
+    (λ c. search needs)
+    (λ c. search needs)
     returns-4)

@@ -20,9 +20,6 @@ returns-2 c =
     let s = c .before .before .before .before .before .before in
     many-edges (s .args .n) (s .args .m) (now (s .args .us)) (now (s .args .vs)) (now (s .args .states)) (now (s .args .names)) (s .args .len) (c .before .if1 .left) (c .if2 .taken)
 
-ends-exist-requires : tie.Need-ends-exist-requires
-ends-exist-requires c κs = search needs
-
 returns-3 : tie.Need-returns-3
 returns-3 c =
     let e = c .before .before in
@@ -35,9 +32,6 @@ returns-4 c =
     let e = k .before .before in
     let s = e .before .before .before .before .before .before in
     too-long (s .args .n) (s .args .m) (now (s .args .us)) (now (s .args .vs)) (now (s .args .states)) (now (s .args .names)) (s .args .len) (e .before .if1 .left) (e .if2 .left) (sym (k .before .ends-exist .ensures) ∙ not-false _ (k .if3 .left)) (c .if4 .taken)
-
-slice-aggregate-holds : tie.Need-slice-aggregate-holds
-slice-aggregate-holds c = search needs
 
 holds-requires : tie.Need-holds-requires
 unfolding zeros
@@ -72,10 +66,10 @@ check-parts-spec =
     (tie.spec
     returns
     returns-2
-    ends-exist-requires
+    (λ c κs. search needs)
     returns-3
     returns-4
-    slice-aggregate-holds
+    (λ c. search needs)
     holds-requires
     returns-5
     returns-6)

@@ -10,9 +10,6 @@ use Rattle.city_count.proofs.decide.Tie as tie
 abbrev start : tie.After-check-parts → tie.Start
 start k = k .before .before .before .before .before .before .before .before .before .before
 
-check-parts-requires : tie.Need-check-parts-requires
-check-parts-requires c κs = search needs
-
 returns : tie.Need-returns
 returns c =
     let k = c .before in
@@ -76,7 +73,7 @@ pub decide-spec : {M : Type 1} → statement M
 decide-spec =
     tie.close
     (tie.spec
-    check-parts-requires
+    (λ c κs. search needs)
     returns
     returns-2
     element-copy-out-if3

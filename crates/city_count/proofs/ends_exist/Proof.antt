@@ -8,17 +8,11 @@ use Rattle.city_count.proofs.LoopLaws.{ends-first, ends-second}
 use Rattle.city_count.proofs.ends_exist.Statement.{statement}
 use Rattle.city_count.proofs.ends_exist.Tie as tie
 
-all-below-requires : tie.Need-all-below-requires
-all-below-requires c κs = search needs
-
 returns : tie.Need-returns
 returns c =
     let k = c .before in
     let s = k .before .before .before in
     ends-first (s .args .n) (now (s .args .us)) (now (s .args .vs)) (s .args .m) (sym (k .all-below .ensures) ∙ not-true _ (c .if1 .taken))
-
-all-below-requires-2 : tie.Need-all-below-requires-2
-all-below-requires-2 c κs = search needs
 
 returns-2 : tie.Need-returns-2
 returns-2 c =
@@ -27,4 +21,4 @@ returns-2 c =
     ends-second (s .args .n) (now (s .args .us)) (now (s .args .vs)) (s .args .m) _ (sym (k .all-below .ensures) ∙ not-false _ (c .before .if1 .left)) (c .all-below2 .ensures)
 
 pub ends-exist-spec : {M : Type 1} → statement M
-ends-exist-spec = tie.close (tie.spec all-below-requires returns all-below-requires-2 returns-2)
+ends-exist-spec = tie.close (tie.spec (λ c κs. search needs) returns (λ c κs. search needs) returns-2)

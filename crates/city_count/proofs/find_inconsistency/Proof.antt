@@ -8,15 +8,6 @@ use Rattle.city_count.proofs.FindLaws.{find-tipped, find-many, find-non
 use Rattle.city_count.proofs.find_inconsistency.Statement.{statement}
 use Rattle.city_count.proofs.find_inconsistency.Tie as tie
 
-tipped-requires : tie.Need-tipped-requires
-tipped-requires c κs = search needs
-
-list-requires : tie.Need-list-requires
-list-requires c κs = search needs
-
-same-length : tie.Need-same-length
-same-length c = search needs
-
 returns : tie.Need-returns
 returns c =
     let k = c .before .before .before .before .before in
@@ -24,15 +15,6 @@ returns c =
     find-tipped (graph (s .args .n) (s .args .m) (now (s .args .us)) (now (s .args .vs))) (s .args .count) (statesIn (now (s .args .states))) (now (s .args .buf)) _ _
     (sym (k .tipped .ensures) ∙ c .before .before .before .before .if1 .taken)
     (c .before .before .list .ensures)
-
-outnumber-requires : tie.Need-outnumber-requires
-outnumber-requires c κs = search needs
-
-list-requires-2 : tie.Need-list-requires-2
-list-requires-2 c κs = search needs
-
-same-length-2 : tie.Need-same-length-2
-same-length-2 c = search needs
 
 returns-2 : tie.Need-returns-2
 returns-2 c =
@@ -57,12 +39,12 @@ pub find-inconsistency-spec : {M : Type 1} → statement M
 find-inconsistency-spec =
     tie.close
     (tie.spec
-    tipped-requires
-    list-requires
-    same-length
+    (λ c κs. search needs)
+    (λ c κs. search needs)
+    (λ c. search needs)
     returns
-    outnumber-requires
-    list-requires-2
-    same-length-2
+    (λ c κs. search needs)
+    (λ c κs. search needs)
+    (λ c. search needs)
     returns-2
     returns-3)

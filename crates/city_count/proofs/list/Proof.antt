@@ -23,29 +23,8 @@ loop-holds c =
     let s = c .before .before in
     listing-none (entryOf (s .args .wall)) (stateFor (s .args .wall)) (s .args .m) (statesIn (now (s .args .states))) (now (s .args .buf))
 
-shared-slice-read-stands : tie.Need-shared-slice-read-stands Inv-loop μ-loop
-shared-slice-read-stands c = omega arith
-
-stands-requires : tie.Need-stands-requires Inv-loop μ-loop
-stands-requires c κs = search needs
-
-entry-requires : tie.Need-entry-requires Inv-loop μ-loop
-entry-requires c κs = omega arith
-
-mul-buf : tie.Need-mul-buf Inv-loop μ-loop
-mul-buf c = omega arith
-
 slice-write-buf : tie.Need-slice-write-buf Inv-loop μ-loop
 slice-write-buf c = let a = c .before .before .before .before .before in omega (arith, a .loop .inv .size, a .loop .inv .few)
-
-add-n : tie.Need-add-n Inv-loop μ-loop
-add-n c = omega arith
-
-add-i : tie.Need-add-i Inv-loop μ-loop
-add-i c = omega arith
-
-loop-less : tie.Need-loop-less Inv-loop μ-loop
-loop-less c = omega arith
 
 loop-again : tie.Need-loop-again Inv-loop μ-loop
 loop-again c =
@@ -77,14 +56,14 @@ list-spec =
     Inv-loop
     μ-loop
     loop-holds
-    shared-slice-read-stands
-    stands-requires
-    entry-requires
-    mul-buf
+    (λ c. omega arith)
+    (λ c κs. search needs)
+    (λ c κs. omega arith)
+    (λ c. omega arith)
     slice-write-buf
-    add-n
-    add-i
-    loop-less
+    (λ c. omega arith)
+    (λ c. omega arith)
+    (λ c. omega arith)
     loop-again
     same-length
     returns)

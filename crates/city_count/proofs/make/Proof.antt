@@ -8,25 +8,16 @@ use borrow.Author.Needs.{needs}
 use Rattle.city_count.proofs.make.Statement.{statement}
 use Rattle.city_count.proofs.make.Tie as tie
 
-unmade-requires : tie.Need-unmade-requires
-unmade-requires c κs = search needs
-
 returns : tie.Need-returns
 returns c =
     let s = c .before .before .before .before in
     c .unmade .ensures ∙ make-vertices (s .args .n) (now (s .args .us)) (now (s .args .vs)) (s .args .count) (c .before .if1 .taken)
-
-unmade-requires-2 : tie.Need-unmade-requires-2
-unmade-requires-2 c κs = search needs
 
 returns-2 : tie.Need-returns-2
 returns-2 c =
     let k = c .before .before in
     let s = k .before .before .before in
     c .unmade2 .ensures ∙ make-edges (s .args .n) (now (s .args .us)) (now (s .args .vs)) (s .args .count) (k .if1 .left) (c .before .if2 .taken)
-
-unmade-requires-3 : tie.Need-unmade-requires-3
-unmade-requires-3 c κs = search needs
 
 returns-3 : tie.Need-returns-3
 returns-3 c =
@@ -35,12 +26,6 @@ returns-3 c =
     let s = k .before .before .before in
     c .unmade3 .ensures ∙ make-lengths (s .args .n) (now (s .args .us)) (now (s .args .vs)) (s .args .count) (k .if1 .left) (e .if2 .left) (c .before .if3 .taken)
 
-ends-exist-requires : tie.Need-ends-exist-requires
-ends-exist-requires c κs = search needs
-
-unmade-requires-4 : tie.Need-unmade-requires-4
-unmade-requires-4 c κs = search needs
-
 returns-4 : tie.Need-returns-4
 returns-4 c =
     let x = c .before .before in
@@ -48,12 +33,6 @@ returns-4 c =
     let k = e .before in
     let s = k .before .before .before in
     c .unmade4 .ensures ∙ make-ends (s .args .n) (now (s .args .us)) (now (s .args .vs)) (s .args .count) (k .if1 .left) (e .if2 .left) (x .before .if3 .left) (sym (x .ends-exist .ensures) ∙ not-true _ (c .before .if4 .taken))
-
-copy-requires : tie.Need-copy-requires
-copy-requires c κs = search needs
-
-copy-requires-2 : tie.Need-copy-requires-2
-copy-requires-2 c κs = search needs
 
 returns-5 : tie.Need-returns-5
 unfolding zeros
@@ -69,15 +48,15 @@ pub make-spec : {M : Type 1} → statement M
 make-spec =
     tie.close
     (tie.spec
-    unmade-requires
+    (λ c κs. search needs)
     returns
-    unmade-requires-2
+    (λ c κs. search needs)
     returns-2
-    unmade-requires-3
+    (λ c κs. search needs)
     returns-3
-    ends-exist-requires
-    unmade-requires-4
+    (λ c κs. search needs)
+    (λ c κs. search needs)
     returns-4
-    copy-requires
-    copy-requires-2
+    (λ c κs. search needs)
+    (λ c κs. search needs)
     returns-5)

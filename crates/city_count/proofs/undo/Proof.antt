@@ -11,9 +11,6 @@ use Rattle.city_count.proofs.undo.Tie as tie
 abbrev start : tie.After-check-parts → tie.Start
 start k = k .before .before .before .before .before .before .before .before .before .before
 
-check-parts-requires : tie.Need-check-parts-requires
-check-parts-requires c κs = search needs
-
 returns : tie.Need-returns
 returns c =
     let k = c .before in
@@ -55,4 +52,4 @@ returns-3 c =
 
 pub undo-spec : {M : Type 1} → statement M
 undo-spec =
-    tie.close (tie.spec check-parts-requires returns returns-2 take-back-requires returns-3)
+    tie.close (tie.spec (λ c κs. search needs) returns returns-2 take-back-requires returns-3)

@@ -7,16 +7,10 @@ use borrow.Author.Needs.{needs}
 use Rattle.edge_list.proofs.made.Statement.{statement}
 use Rattle.edge_list.proofs.made.Tie as tie
 
-array-share-prefix-us : tie.Need-array-share-prefix-us
-array-share-prefix-us c = search needs
-
 slice-aggregate-make : tie.Need-slice-aggregate-make
 slice-aggregate-make c =
     let long : length (c .before .args .t2) ≡ 1985 = search needs in
     sym (length-take-le (c .before .args .m) (c .before .args .t2) (omega (arith, long)))
-
-array-share-prefix-vs : tie.Need-array-share-prefix-vs
-array-share-prefix-vs c = search needs
 
 slice-aggregate-make-2 : tie.Need-slice-aggregate-make-2
 slice-aggregate-make-2 c =
@@ -24,19 +18,13 @@ slice-aggregate-make-2 c =
     let long : length (s .args .t3) ≡ 1985 = search needs in
     sym (length-take-le (s .args .m) (s .args .t3) (omega (arith, long)))
 
-make-requires : tie.Need-make-requires
-make-requires c κs = search needs
-
-returns : tie.Need-returns
-returns c = search needs
-
 pub made-spec : {M : Type 1} → statement M
 made-spec =
     tie.close
     (tie.spec
-    array-share-prefix-us
+    (λ c. search needs)
     slice-aggregate-make
-    array-share-prefix-vs
+    (λ c. search needs)
     slice-aggregate-make-2
-    make-requires
-    returns)
+    (λ c κs. search needs)
+    (λ c. search needs))

@@ -6,12 +6,6 @@ use borrow.Author.Needs.{needs}
 use Rattle.inner_walls.proofs.inner_at.Statement.{statement}
 use Rattle.inner_walls.proofs.inner_at.Tie as tie
 
-step-requires : tie.Need-step-requires
-step-requires c κs = search needs
-
-enum-known-next : tie.Need-enum-known-next
-enum-known-next c = search needs
-
 returns : tie.Need-returns
 returns c =
     let k = c .before in
@@ -29,12 +23,6 @@ returns-2 c =
     let k = c .before .before .before .before .before in
     let p = k .before .before .before .before .pre in
     no-wall (p .0) (p .1) _ (k .step .ensures) (c .before .before .before .next .given .1) (c .if1 .taken)
-
-mul-if2 : tie.Need-mul-if2
-mul-if2 c = search needs
-
-shared-slice-read-if2 : tie.Need-shared-slice-read-if2
-shared-slice-read-if2 c = search needs
 
 mul-if2-2 : tie.Need-mul-if2-2
 mul-if2-2 c =
@@ -96,9 +84,6 @@ add-t14 c =
     let p = k .before .before .before .before .pre in
     omega (arith, short (p .0) (p .1) _ (k .step .ensures) (c .before .before .before .before .before .before .before .before .before .before .next .given .1) (c .before .before .before .before .before .before .before .if1 .left) (c .before .before .list-joined .ensures .0), cells-le _ (p .0 .limits))
 
-same-length : tie.Need-same-length
-same-length c = search needs
-
 returns-4 : tie.Need-returns-4
 returns-4 c =
     let k = c .before .before .before .before .before .before .before .before .before .before .before .before in
@@ -109,13 +94,13 @@ pub inner-at-spec : {M : Type 1} → statement M
 inner-at-spec =
     tie.close
     (tie.spec
-    step-requires
-    enum-known-next
+    (λ c κs. search needs)
+    (λ c. search needs)
     returns
     shared-slice-read-if1
     returns-2
-    mul-if2
-    shared-slice-read-if2
+    (λ c. search needs)
+    (λ c. search needs)
     mul-if2-2
     shared-slice-read-if2-2
     returns-3
@@ -126,5 +111,5 @@ inner-at-spec =
     mul-buffer-2
     slice-write-buffer
     add-t14
-    same-length
+    (λ c. search needs)
     returns-4)

@@ -32,9 +32,6 @@ inner-cell-requires c κs =
     let e = ap length (l .loop .inv .same) in
     (record { limits = p .limits; states-long = p .states-long; ids-long = p .ids-long; room = omega (arith, p .room) }, c .before .loop-test .taken)
 
-enum-known-f : tie.Need-enum-known-f Inv-loop μ-loop
-enum-known-f c = search needs
-
 same-length : tie.Need-same-length Inv-loop μ-loop
 same-length c =
     let t = c .before .before .before .before .before in
@@ -49,12 +46,6 @@ returns c =
 
 enum-told : tie.Need-enum-told Inv-loop μ-loop
 enum-told c = search needs
-
-add-cell : tie.Need-add-cell Inv-loop μ-loop
-add-cell c = omega arith
-
-loop-less : tie.Need-loop-less Inv-loop μ-loop
-loop-less c = omega arith
 
 loop-again : tie.Need-loop-again Inv-loop μ-loop
 loop-again c =
@@ -78,12 +69,12 @@ inner-wall-spec =
     mul-n
     loop-holds
     inner-cell-requires
-    enum-known-f
+    (λ c. search needs)
     same-length
     returns
     enum-told
-    add-cell
-    loop-less
+    (λ c. omega arith)
+    (λ c. omega arith)
     loop-again
     same-length-2
     returns-2)

@@ -1,8 +1,7 @@
 -- `ledger::all_fit` meets its contract: the loop's invariant says what is left to test, beside the worst so far. Assumes nothing.
-use Prim.Native.Nat.{ℕ, _-_, _≤_}
-use mathlib.Core.Path.{_≡_, refl, sym, _∙_}
+use Prim.Native.Nat.{_-_, _≤_}
+use mathlib.Core.Path.{_≡_}
 use native.Mathlib.Omega.{arith}
-use mathlib.Core.Bool.{Bool}
 use borrow.Author.Needs.{needs}
 use denote.Ref.{now}
 use lib.Dec.{ltb}
@@ -26,24 +25,6 @@ loop-holds c =
     let s = c .before .before in
     (omega arith, fits-start (s .args .n) (now (s .args .states)) (now (s .args .marks)))
 
-shared-slice-read-misfit : tie.Need-shared-slice-read-misfit Inv-loop μ-loop
-shared-slice-read-misfit c = omega arith
-
-shared-slice-read-misfit-2 : tie.Need-shared-slice-read-misfit-2 Inv-loop μ-loop
-shared-slice-read-misfit-2 c = omega arith
-
-misfit-requires : tie.Need-misfit-requires Inv-loop μ-loop
-misfit-requires c κs = search needs
-
-greater-byte-requires : tie.Need-greater-byte-requires Inv-loop μ-loop
-greater-byte-requires c κs = search needs
-
-add-i : tie.Need-add-i Inv-loop μ-loop
-add-i c = omega arith
-
-loop-less : tie.Need-loop-less Inv-loop μ-loop
-loop-less c = omega arith
-
 loop-again : tie.Need-loop-again Inv-loop μ-loop
 loop-again c =
     let v = c .before in
@@ -64,11 +45,11 @@ all-fit-spec =
     Inv-loop
     μ-loop
     loop-holds
-    shared-slice-read-misfit
-    shared-slice-read-misfit-2
-    misfit-requires
-    greater-byte-requires
-    add-i
-    loop-less
+    (λ c. omega arith)
+    (λ c. omega arith)
+    (λ c κs. search needs)
+    (λ c κs. search needs)
+    (λ c. omega arith)
+    (λ c. omega arith)
     loop-again
     returns)

@@ -3,18 +3,11 @@ use mathlib.Core.Path.{sym, _∙_, ap}
 use borrow.Author.Tests.{not-true, not-false}
 use denote.Ref.{now}
 use lib.ListN.{take}
-use Rattle.lists.specs.Choice.{both}
 use Rattle.ledger.specs.Marks.{fitAll}
 use Rattle.ledger.proofs.MarkLaws.{holds-by-marks}
 use borrow.Author.Needs.{needs}
 use Rattle.ledger.proofs.holds.Statement.{statement}
 use Rattle.ledger.proofs.holds.Tie as tie
-
-mark-names-requires : tie.Need-mark-names-requires
-mark-names-requires c κs = search needs
-
-same-length : tie.Need-same-length
-same-length c = search needs
 
 returns : tie.Need-returns
 returns c =
@@ -24,12 +17,6 @@ returns c =
     let law = holds-by-marks (s .args .n) (now (s .args .states)) (now (s .args .marks)) l (s .pre .marks-long) (s .pre .marks-given) in
     let t = not-true (k .mark-names .result) (c .if1 .taken) in
     rw (law, sym (k .mark-names .ensures .answer) ∙ t)
-
-all-fit-requires : tie.Need-all-fit-requires
-all-fit-requires c κs = search needs
-
-same-length-2 : tie.Need-same-length-2
-same-length-2 c = search needs
 
 returns-2 : tie.Need-returns-2
 returns-2 c =
@@ -43,4 +30,4 @@ returns-2 c =
 pub holds-spec : {M : Type 1} → statement M
 holds-spec =
     tie.close
-    (tie.spec mark-names-requires same-length returns all-fit-requires same-length-2 returns-2)
+    (tie.spec (λ c κs. search needs) (λ c. search needs) returns (λ c κs. search needs) (λ c. search needs) returns-2)

@@ -1,6 +1,6 @@
 -- `ledger::mark_names` meets its contract: the loop's invariant is `Walk`, the measure is what is left of the names. Assumes nothing.
 use Prim.Native.Nat.{_-_, _<_}
-use mathlib.Core.Path.{_≡_, refl, sym, _∙_}
+use mathlib.Core.Path.{refl, sym, _∙_}
 use native.Mathlib.Omega.{arith}
 use borrow.Author.Needs.{needs}
 use borrow.Author.Tests.{not-true, not-false}
@@ -16,9 +16,6 @@ Inv-loop names len n marks₀ new₀ i₀ marks new i = Walk names len n marks�
 abbrev μ-loop : tie.MeasureT-loop
 μ-loop names len n marks₀ new₀ i₀ marks new i = len - i
 
-inside-requires : tie.Need-inside-requires Inv-loop μ-loop
-inside-requires c κs = search needs
-
 returns : tie.Need-returns Inv-loop μ-loop
 returns c =
     let k = c .before in
@@ -28,15 +25,6 @@ returns c =
 
 loop-holds : tie.Need-loop-holds Inv-loop μ-loop
 loop-holds c = record { within = omega arith; same = refl; answer = refl; marks = refl }
-
-mul-wide : tie.Need-mul-wide Inv-loop μ-loop
-mul-wide c = omega arith
-
-shared-slice-read-wide : tie.Need-shared-slice-read-wide Inv-loop μ-loop
-shared-slice-read-wide c = omega arith
-
-wide-requires : tie.Need-wide-requires Inv-loop μ-loop
-wide-requires c κs = search needs
 
 slice-read-free : tie.Need-slice-read-free Inv-loop μ-loop
 slice-read-free c =
@@ -48,17 +36,8 @@ slice-read-free c =
     let e : v .wide .result < s .args .n = name-below (now (s .args .names)) (s .args .len) (s .pre .0) (s .args .n) (a .loop .i) (v .wide .result) (v .before .before .loop-test .taken) (v .wide .ensures) b in
     omega (arith, a .loop .inv .same, s .pre .1)
 
-free-requires : tie.Need-free-requires Inv-loop μ-loop
-free-requires c κs = search needs
-
 slice-write-marks : tie.Need-slice-write-marks Inv-loop μ-loop
 slice-write-marks c = slice-read-free (c .before)
-
-add-i : tie.Need-add-i Inv-loop μ-loop
-add-i c = omega arith
-
-loop-less : tie.Need-loop-less Inv-loop μ-loop
-loop-less c = omega arith
 
 loop-again : tie.Need-loop-again Inv-loop μ-loop
 loop-again c =
@@ -87,17 +66,17 @@ mark-names-spec =
     (tie.spec
     Inv-loop
     μ-loop
-    inside-requires
+    (λ c κs. search needs)
     returns
     loop-holds
-    mul-wide
-    shared-slice-read-wide
-    wide-requires
+    (λ c. omega arith)
+    (λ c. omega arith)
+    (λ c κs. search needs)
     slice-read-free
-    free-requires
+    (λ c κs. search needs)
     slice-write-marks
-    add-i
-    loop-less
+    (λ c. omega arith)
+    (λ c. omega arith)
     loop-again
     same-length
     returns-2)

@@ -9,20 +9,11 @@ use Rattle.lines.proofs.LineLaws.{wrote, wrote-more}
 use Rattle.lines.proofs.refused.Statement.{statement}
 use Rattle.lines.proofs.refused.Tie as tie
 
-slice-aggregate-put : tie.Need-slice-aggregate-put
-slice-aggregate-put c = search needs
-
-put-requires : tie.Need-put-requires
-put-requires c κs = search needs
-
 digits-requires : tie.Need-digits-requires
 digits-requires c κs =
     let h = c .before .before .before in
     let s = h .before .before .before .before in
     omega (arith, h .put .ensures .0, h .put .kept .1 .0, s .pre, digits-few 2 20 (s .args .number) (omega (arith, s .fits .number)))
-
-slice-aggregate-put-2 : tie.Need-slice-aggregate-put-2
-slice-aggregate-put-2 c = search needs
 
 put-requires-2 : tie.Need-put-requires-2
 put-requires-2 c κs =
@@ -31,9 +22,6 @@ put-requires-2 c κs =
     let s = h .before .before .before .before in
     omega
     (arith, d .digits .ensures .0, d .digits .kept .1 .1 .0, h .put .ensures .0, h .put .kept .1 .0, s .pre, digits-few 2 20 (s .args .number) (omega (arith, s .fits .number)))
-
-same-length : tie.Need-same-length
-same-length c = search needs
 
 returns : tie.Need-returns
 returns c =
@@ -50,10 +38,10 @@ pub refused-spec : {M : Type 1} → statement M
 refused-spec =
     tie.close
     (tie.spec
-    slice-aggregate-put
-    put-requires
+    (λ c. search needs)
+    (λ c κs. search needs)
     digits-requires
-    slice-aggregate-put-2
+    (λ c. search needs)
     put-requires-2
-    same-length
+    (λ c. search needs)
     returns)

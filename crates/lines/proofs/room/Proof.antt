@@ -9,20 +9,11 @@ use Rattle.lines.proofs.LineLaws.{wrote, wrote-more}
 use Rattle.lines.proofs.room.Statement.{statement}
 use Rattle.lines.proofs.room.Tie as tie
 
-slice-aggregate-put : tie.Need-slice-aggregate-put
-slice-aggregate-put c = search needs
-
-put-requires : tie.Need-put-requires
-put-requires c κs = search needs
-
 digits-requires : tie.Need-digits-requires
 digits-requires c κs =
     let h = c .before .before .before in
     let s = h .before .before .before .before .before in
     omega (arith, h .put .ensures .0, h .put .kept .1 .0, s .pre, digits-most 20 (s .args .number))
-
-slice-aggregate-put-2 : tie.Need-slice-aggregate-put-2
-slice-aggregate-put-2 c = search needs
 
 put-requires-2 : tie.Need-put-requires-2
 put-requires-2 c κs =
@@ -39,9 +30,6 @@ entries-requires c κs =
     let s = h .before .before .before .before .before in
     omega
     (arith, p .put2 .ensures .0, p .put2 .kept .1 .0, d .digits .ensures .0, d .digits .kept .1 .1 .0, h .put .ensures .0, h .put .kept .1 .0, s .pre, digits-most 20 (s .args .number))
-
-slice-aggregate-put-3 : tie.Need-slice-aggregate-put-3
-slice-aggregate-put-3 c = search needs
 
 put-requires-3 : tie.Need-put-requires-3
 put-requires-3 c κs =
@@ -64,9 +52,6 @@ put-requires-3 c κs =
       digits-most 20 (s .args .number),
     )
 
-same-length : tie.Need-same-length
-same-length c = search needs
-
 returns : tie.Need-returns
 returns c =
     let q = c .before .before in
@@ -86,13 +71,13 @@ pub room-spec : {M : Type 1} → statement M
 room-spec =
     tie.close
     (tie.spec
-    slice-aggregate-put
-    put-requires
+    (λ c. search needs)
+    (λ c κs. search needs)
     digits-requires
-    slice-aggregate-put-2
+    (λ c. search needs)
     put-requires-2
     entries-requires
-    slice-aggregate-put-3
+    (λ c. search needs)
     put-requires-3
-    same-length
+    (λ c. search needs)
     returns)

@@ -7,23 +7,8 @@ use Rattle.lines.proofs.LineLaws.{wrote, wrote-more}
 use Rattle.lines.proofs.shape.Statement.{statement}
 use Rattle.lines.proofs.shape.Tie as tie
 
-slice-aggregate-put : tie.Need-slice-aggregate-put
-slice-aggregate-put c = search needs
-
-put-requires : tie.Need-put-requires
-put-requires c κs = search needs
-
-entries-requires : tie.Need-entries-requires
-entries-requires c κs = search needs
-
-slice-aggregate-put-2 : tie.Need-slice-aggregate-put-2
-slice-aggregate-put-2 c = search needs
-
 put-requires-2 : tie.Need-put-requires-2
 put-requires-2 c κs = let e = c .before .before .before .before in omega (arith, e .entries .ensures .0 .1, e .entries .kept .1 .0, e .before .before .before .before .put .kept .1 .0, e .before .before .before .before .put .ensures .0)
-
-same-length : tie.Need-same-length
-same-length c = search needs
 
 returns : tie.Need-returns
 returns c =
@@ -38,10 +23,10 @@ pub shape-spec : {M : Type 1} → statement M
 shape-spec =
     tie.close
     (tie.spec
-    slice-aggregate-put
-    put-requires
-    entries-requires
-    slice-aggregate-put-2
+    (λ c. search needs)
+    (λ c κs. search needs)
+    (λ c κs. search needs)
+    (λ c. search needs)
     put-requires-2
-    same-length
+    (λ c. search needs)
     returns)

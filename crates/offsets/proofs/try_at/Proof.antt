@@ -1,6 +1,6 @@
 -- `offsets::try_at` meets its contract: the shift is the one that puts the first cell on the other, and each return is a law of
 -- `TrialLaws`. Assumes nothing.
-use mathlib.Core.Path.{_≡_, refl, sym, ap, subst, _∙_}
+use mathlib.Core.Path.{refl, sym, ap, subst, _∙_}
 use mathlib.Core.Bool.{true, false}
 use borrow.Author.Tests.{not-true, not-false}
 use denote.Ref.{now}
@@ -11,30 +11,6 @@ use Rattle.offsets.proofs.TrialLaws.{shift-is, reaching, falling, trial
 use borrow.Author.Needs.{needs}
 use Rattle.offsets.proofs.try_at.Statement.{statement}
 use Rattle.offsets.proofs.try_at.Tie as tie
-
-mul-t17 : tie.Need-mul-t17
-mul-t17 c = search needs
-
-shared-slice-read-t19 : tie.Need-shared-slice-read-t19
-shared-slice-read-t19 c = search needs
-
-mul-t20 : tie.Need-mul-t20
-mul-t20 c = search needs
-
-shared-slice-read-t22 : tie.Need-shared-slice-read-t22
-shared-slice-read-t22 c = search needs
-
-mul-t23 : tie.Need-mul-t23
-mul-t23 c = search needs
-
-shared-slice-read-t25 : tie.Need-shared-slice-read-t25
-shared-slice-read-t25 c = search needs
-
-mul-t26 : tie.Need-mul-t26
-mul-t26 c = search needs
-
-shared-slice-read-t28 : tie.Need-shared-slice-read-t28
-shared-slice-read-t28 c = search needs
 
 reaches-requires : tie.Need-reaches-requires
 reaches-requires c κs =
@@ -59,9 +35,6 @@ first-fail-requires c κs =
     let q = sym (ap (λ (z : Shift). reachesOf g z (s .args .unit) (now (s .args .ids)) (now (s .args .pids)) (now (s .args .marks)) (now (s .args .cells))) e) ∙ sym (c .before .reaches .ensures) ∙ not-false (c .before .reaches .result) (c .if1 .left) in
     subst (λ (z : Shift). Falling g z (now (s .args .states)) (now (s .args .ids)) (now (s .args .rows)) (now (s .args .cols)) (now (s .args .cells))) (sym e) (falling g (now (s .args .states)) (now (s .args .ids)) (now (s .args .pids)) (s .args .unit) (s .args .first) (s .args .to) (now (s .args .cells)) (now (s .args .rows)) (now (s .args .cols)) (now (s .args .marks)) (s .pre) q)
 
-enum-known-inner : tie.Need-enum-known-inner
-enum-known-inner c = search needs
-
 returns-2 : tie.Need-returns-2
 returns-2 c =
     let s = c .before .before .before .before .before .before .before .before .before .before .before .before .before .before .before .before .before in
@@ -81,9 +54,6 @@ first-fail-requires-2 c κs =
     let q = sym (ap (λ (z : Shift). reachesOf g z (s .args .unit) (now (s .args .ids)) (now (s .args .pids)) (now (s .args .marks)) (now (s .args .cells))) e) ∙ sym (c .before .before .before .before .reaches .ensures) ∙ not-false (c .before .before .before .before .reaches .result) (c .before .before .before .if1 .left) in
     subst (λ (z : Shift). Falling g z (now (s .args .states)) (now (s .args .ids)) (now (s .args .rows)) (now (s .args .cols)) (now (s .args .cells))) (sym e) (falling g (now (s .args .states)) (now (s .args .ids)) (now (s .args .pids)) (s .args .unit) (s .args .first) (s .args .to) (now (s .args .cells)) (now (s .args .rows)) (now (s .args .cols)) (now (s .args .marks)) (s .pre) q)
 
-enum-known-outer : tie.Need-enum-known-outer
-enum-known-outer c = search needs
-
 returns-3 : tie.Need-returns-3
 returns-3 c =
     let s = c .before .before .before .before .before .before .before .before .before .before .before .before .before .before .before .before .before .before .before .before in
@@ -92,9 +62,6 @@ returns-3 c =
     let q = sym (ap (λ (z : Shift). reachesOf g z (s .args .unit) (now (s .args .ids)) (now (s .args .pids)) (now (s .args .marks)) (now (s .args .cells))) e) ∙ sym (c .before .before .before .before .before .before .before .before .reaches .ensures) ∙ not-false (c .before .before .before .before .before .before .before .before .reaches .result) (c .before .before .before .before .before .before .before .if1 .left) in
     let m = sym (c .before .before .before .before .enum-told .given .1) ∙ c .before .before .before .before .before .before .first-fail .ensures ∙ ap (λ (z : Shift). failOf (firstFail g z (now (s .args .states)) (now (s .args .ids)) true (s .args .unit) (now (s .args .cells)))) e in
     trial-outer g (now (s .args .states)) (now (s .args .ids)) (now (s .args .pids)) (s .args .unit) (s .args .first) (s .args .to) (now (s .args .cells)) (now (s .args .rows)) (now (s .args .cols)) (now (s .args .marks)) (s .pre) q m (c .before .outer .given .0 .0) (sym (c .before .outer .given .1) ∙ c .before .before .before .first-fail2 .ensures ∙ ap (λ (z : Shift). failOf (firstFail g z (now (s .args .states)) (now (s .args .ids)) false (s .args .unit) (now (s .args .cells)))) e)
-
-enum-told-2 : tie.Need-enum-told-2
-enum-told-2 c = search needs
 
 returns-4 : tie.Need-returns-4
 returns-4 c =
@@ -109,22 +76,22 @@ pub try-at-spec : {M : Type 1} → statement M
 try-at-spec =
     tie.close
     (tie.spec
-    mul-t17
-    shared-slice-read-t19
-    mul-t20
-    shared-slice-read-t22
-    mul-t23
-    shared-slice-read-t25
-    mul-t26
-    shared-slice-read-t28
+    (λ c. search needs)
+    (λ c. search needs)
+    (λ c. search needs)
+    (λ c. search needs)
+    (λ c. search needs)
+    (λ c. search needs)
+    (λ c. search needs)
+    (λ c. search needs)
     reaches-requires
     returns
     first-fail-requires
-    enum-known-inner
+    (λ c. search needs)
     returns-2
     enum-told
     first-fail-requires-2
-    enum-known-outer
+    (λ c. search needs)
     returns-3
-    enum-told-2
+    (λ c. search needs)
     returns-4)

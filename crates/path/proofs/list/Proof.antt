@@ -9,15 +9,6 @@ use Rattle.path.proofs.Answers.{fresh, not-found, found, found-back, wa
 use Rattle.path.proofs.list.Statement.{statement}
 use Rattle.path.proofs.list.Tie as tie
 
-slice-aggregate-search-from : tie.Need-slice-aggregate-search-from
-slice-aggregate-search-from c = search needs
-
-slice-aggregate-search-from-2 : tie.Need-slice-aggregate-search-from-2
-slice-aggregate-search-from-2 c = search needs
-
-slice-aggregate-search-from-3 : tie.Need-slice-aggregate-search-from-3
-slice-aggregate-search-from-3 c = search needs
-
 search-from-requires : tie.Need-search-from-requires
 search-from-requires c κs = (c .before .before .before .before .before .pre .0, fresh)
 
@@ -33,20 +24,11 @@ returns c =
     let s = k .before .before .before .before .before .before in
     gives-number _ 10 (now (s .args .buffer)) (ap joined (not-found (s .pre .0) (k .search-from .ensures) (c .if1 .taken)))
 
-slice-aggregate-walk-back : tie.Need-slice-aggregate-walk-back
-slice-aggregate-walk-back c = search needs
-
-slice-aggregate-walk-back-2 : tie.Need-slice-aggregate-walk-back-2
-slice-aggregate-walk-back-2 c = search needs
-
 walk-back-requires : tie.Need-walk-back-requires
 walk-back-requires c κs =
     let k = c .before .before .before .before .before .before .before in
     let s = k .before .before .before .before .before .before in
     walks (s .pre .0) (k .search-from .ensures) (c .before .before .before .if1 .left) (now (s .args .buffer)) (s .pre .1)
-
-same-length : tie.Need-same-length
-same-length c = search needs
 
 returns-2 : tie.Need-returns-2
 returns-2 c =
@@ -61,15 +43,15 @@ pub list-spec : {M : Type 1} → statement M
 list-spec =
     tie.close
     (tie.spec
-    slice-aggregate-search-from
-    slice-aggregate-search-from-2
-    slice-aggregate-search-from-3
+    (λ c. search needs)
+    (λ c. search needs)
+    (λ c. search needs)
     search-from-requires
     mul-if1
     array-read-if1
     returns
-    slice-aggregate-walk-back
-    slice-aggregate-walk-back-2
+    (λ c. search needs)
+    (λ c. search needs)
     walk-back-requires
-    same-length
+    (λ c. search needs)
     returns-2)

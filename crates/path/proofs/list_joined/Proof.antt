@@ -6,17 +6,8 @@ use Rattle.path.proofs.Answers.{length-told, nothing-told}
 use Rattle.path.proofs.list_joined.Statement.{statement}
 use Rattle.path.proofs.list_joined.Tie as tie
 
-list-requires : tie.Need-list-requires
-list-requires c κs = search needs
-
-enum-known-n : tie.Need-enum-known-n
-enum-known-n c = search needs
-
 enum-told : tie.Need-enum-told
 enum-told c = search needs
-
-same-length : tie.Need-same-length
-same-length c = search needs
 
 returns : tie.Need-returns
 unfolding pathList
@@ -24,9 +15,6 @@ returns c =
     let k = c .before .before .before .before in
     let s = k .before .before .before .before in
     nothing-told (now (s .args .buffer)) _ _ (pathOf (s .args .g) (now (s .args .states)) (s .args .start) (s .args .target)) _ (k .list .ensures) (c .enum-told .given .1)
-
-same-length-2 : tie.Need-same-length-2
-same-length-2 c = search needs
 
 returns-2 : tie.Need-returns-2
 unfolding pathList
@@ -39,10 +27,10 @@ pub list-joined-spec : {M : Type 1} → statement M
 list-joined-spec =
     tie.close
     (tie.spec
-    list-requires
-    enum-known-n
+    (λ c κs. search needs)
+    (λ c. search needs)
     enum-told
-    same-length
+    (λ c. search needs)
     returns
-    same-length-2
+    (λ c. search needs)
     returns-2)

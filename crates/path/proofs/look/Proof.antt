@@ -6,12 +6,6 @@ use Rattle.path.proofs.Trace.{border-fits, entry-fits, cell-small, cell
 use Rattle.path.proofs.look.Statement.{statement}
 use Rattle.path.proofs.look.Tie as tie
 
-step-requires : tie.Need-step-requires
-step-requires c κs = search needs
-
-enum-known-next : tie.Need-enum-known-next
-enum-known-next c = search needs
-
 returns : tie.Need-returns
 returns c = look-end (c .before .before .before .before .before .before .pre) _ (end-told _ _ _ (c .before .step .ensures) (c .match .keys2))
 
@@ -93,15 +87,6 @@ slice-write-queue c =
 add-result : tie.Need-add-result
 add-result c = omega (arith, tail-small (c .before .before .before .before .before .before .before .before .before .before .before .before .pre))
 
-same-length : tie.Need-same-length
-same-length c = search needs
-
-same-length-2 : tie.Need-same-length-2
-same-length-2 c = search needs
-
-same-length-3 : tie.Need-same-length-3
-same-length-3 c = search needs
-
 returns-4 : tie.Need-returns-4
 returns-4 c =
     let a = c .before .before .before .before .before in
@@ -112,8 +97,8 @@ pub look-spec : {M : Type 1} → statement M
 look-spec =
     tie.close
     (tie.spec
-    step-requires
-    enum-known-next
+    (λ c κs. search needs)
+    (λ c. search needs)
     returns
     shared-slice-read-if1
     returns-2
@@ -129,7 +114,7 @@ look-spec =
     mul-queue
     slice-write-queue
     add-result
-    same-length
-    same-length-2
-    same-length-3
+    (λ c. search needs)
+    (λ c. search needs)
+    (λ c. search needs)
     returns-4)

@@ -17,20 +17,11 @@ abbrev μ-loop : tie.MeasureT-loop
 loop-holds : tie.Need-loop-holds Inv-loop μ-loop
 loop-holds c = round-start
 
-array-copy-out-look : tie.Need-array-copy-out-look Inv-loop μ-loop
-array-copy-out-look c = omega arith
-
 look-requires : tie.Need-look-requires Inv-loop μ-loop
 look-requires c κs =
     let k = c .before .before .before .before .before in
     let a = k .before .before .before .before .before .pre in
     looks-on a (k .loop .inv .follows)
-
-add-i : tie.Need-add-i Inv-loop μ-loop
-add-i c = omega arith
-
-loop-less : tie.Need-loop-less Inv-loop μ-loop
-loop-less c = omega arith
 
 loop-again : tie.Need-loop-again Inv-loop μ-loop
 loop-again c =
@@ -67,10 +58,10 @@ look-round-spec =
     Inv-loop
     μ-loop
     loop-holds
-    array-copy-out-look
+    (λ c. omega arith)
     look-requires
-    add-i
-    loop-less
+    (λ c. omega arith)
+    (λ c. omega arith)
     loop-again
     same-length
     same-length-2

@@ -11,9 +11,6 @@ use Rattle.path.proofs.Answers.{gives-number, refused-record, refused-s
 use Rattle.path.proofs.reason_for_path.Statement.{statement}
 use Rattle.path.proofs.reason_for_path.Tie as tie
 
-check-parts-requires : tie.Need-check-parts-requires
-check-parts-requires c κs = search needs
-
 returns : tie.Need-returns
 returns c =
     let k = c .before in
@@ -63,9 +60,6 @@ list-requires c κs =
     let long : length (s .args .t1 .states) ≡ 1984 = search needs in
     (record { limits = limits; states-long = omega (arith, borderCount-le (sizeOf (s .args .t1)) limits); start-cell = c .before .before .before .before .before .before .if2 .left; target-cell = c .before .before .before .before .before .if3 .left }, omega (arith, c .before .before .before .before .if4 .left))
 
-same-length : tie.Need-same-length
-same-length c = search needs
-
 returns-5 : tie.Need-returns-5
 returns-5 c =
     let k = c .before .before .before .before .before .before .before .before .before .before .before in
@@ -76,7 +70,7 @@ pub reason-for-path-spec : {M : Type 1} → statement M
 reason-for-path-spec =
     tie.close
     (tie.spec
-    check-parts-requires
+    (λ c κs. search needs)
     returns
     mul-cells
     returns-2
@@ -84,5 +78,5 @@ reason-for-path-spec =
     mul-if4
     returns-4
     list-requires
-    same-length
+    (λ c. search needs)
     returns-5)

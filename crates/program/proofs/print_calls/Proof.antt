@@ -13,17 +13,11 @@ Inv-loop file opened out₀ puzzle₀ at₀ done₀ out puzzle at done = Printin
 abbrev μ-loop : tie.MeasureT-loop
 μ-loop file opened out₀ puzzle₀ at₀ done₀ out puzzle at done = opened .count - done
 
-large-buffer-requires : tie.Need-large-buffer-requires Inv-loop μ-loop
-large-buffer-requires c κs = search needs
-
 loop-holds : tie.Need-loop-holds Inv-loop μ-loop
 loop-holds c = let a = c .before .before .before .args in printing (a .opened .puzzle) (a .file .now) (a .opened .at) (a .opened .count) (c .before .large-buffer .result) (sym (c .before .large-buffer .ensures))
 
 slice-aggregate-run-calls : tie.Need-slice-aggregate-run-calls Inv-loop μ-loop
 slice-aggregate-run-calls c = sym (c .before .before .before .loop .inv .long)
-
-run-calls-requires : tie.Need-run-calls-requires Inv-loop μ-loop
-run-calls-requires c κs = search needs
 
 -- the line that a call left in the buffer
 line-in : (c : tie.After-run-calls Inv-loop μ-loop) → Lined (c .run-calls .result .len) (c .run-calls .last .1 .1 .1 .1 .0)
@@ -34,9 +28,6 @@ array-share-prefix-out c = line-in (c .before) .within
 
 slice-aggregate-write-all : tie.Need-slice-aggregate-write-all Inv-loop μ-loop
 slice-aggregate-write-all c = line-in (c .before .before) .long
-
-write-all-requires : tie.Need-write-all-requires Inv-loop μ-loop
-write-all-requires c κs = search needs
 
 add-done : tie.Need-add-done Inv-loop μ-loop
 add-done c = let t = c .before .before .before .before .before .before in omega (arith, t .if1 .taken)
@@ -59,13 +50,13 @@ print-calls-spec =
     (tie.spec
     Inv-loop
     μ-loop
-    large-buffer-requires
+    (λ c κs. search needs)
     loop-holds
     slice-aggregate-run-calls
-    run-calls-requires
+    (λ c κs. search needs)
     array-share-prefix-out
     slice-aggregate-write-all
-    write-all-requires
+    (λ c κs. search needs)
     add-done
     loop-less
     loop-again

@@ -5,21 +5,6 @@ use borrow.Author.Needs.{needs}
 use Rattle.program.proofs.refuse.Statement.{statement}
 use Rattle.program.proofs.refuse.Tie as tie
 
-large-buffer-requires : tie.Need-large-buffer-requires
-large-buffer-requires c κs = search needs
-
-array-share-prefix-none : tie.Need-array-share-prefix-none
-array-share-prefix-none c = search needs
-
-slice-aggregate-write-line : tie.Need-slice-aggregate-write-line
-slice-aggregate-write-line c = search needs
-
-slice-aggregate-write-line-2 : tie.Need-slice-aggregate-write-line-2
-slice-aggregate-write-line-2 c = search needs
-
-write-line-requires : tie.Need-write-line-requires
-write-line-requires c κs = search needs
-
 -- the line in the buffer
 line-in : (c : tie.After-write-line) → Lined (c .write-line .result) (c .write-line .last .1 .1 .0)
 line-in c =
@@ -32,22 +17,16 @@ array-share-prefix-out c = line-in (c .before) .within
 slice-aggregate-write-all : tie.Need-slice-aggregate-write-all
 slice-aggregate-write-all c = line-in (c .before .before) .long
 
-write-all-requires : tie.Need-write-all-requires
-write-all-requires c κs = search needs
-
-returns : tie.Need-returns
-returns c = search needs
-
 pub refuse-spec : {M : Type 1} → statement M
 refuse-spec =
     tie.close
     (tie.spec
-    large-buffer-requires
-    array-share-prefix-none
-    slice-aggregate-write-line
-    slice-aggregate-write-line-2
-    write-line-requires
+    (λ c κs. search needs)
+    (λ c. search needs)
+    (λ c. search needs)
+    (λ c. search needs)
+    (λ c κs. search needs)
     array-share-prefix-out
     slice-aggregate-write-all
-    write-all-requires
-    returns)
+    (λ c κs. search needs)
+    (λ c. search needs))

@@ -25,15 +25,6 @@ states-long s = search needs
 ledger-long : (s : tie.Start) → length (s .args .t1 .board .ledger) ≡ 1984
 ledger-long s = search needs
 
-slice-aggregate-code-of : tie.Need-slice-aggregate-code-of
-slice-aggregate-code-of c = search needs
-
-slice-aggregate-code-of-2 : tie.Need-slice-aggregate-code-of-2
-slice-aggregate-code-of-2 c = search needs
-
-slice-aggregate-code-of-3 : tie.Need-slice-aggregate-code-of-3
-slice-aggregate-code-of-3 c = search needs
-
 code-of-requires : tie.Need-code-of-requires
 unfolding noClues
 code-of-requires c κs = let s = c .before .before .before .before .before .before .before .before .before .before .before .before .before in (record { states-long = states-long s; names-long = ledger-long s; given-long = given-long s; clues-long = clues-long s }, arrays-lent)
@@ -79,15 +70,6 @@ returns-2 c =
     let z = c .before .if1 .left in
     ask-short p code q (now (s .args .buf)) z (c .if2 .taken)
 
-slice-aggregate-find : tie.Need-slice-aggregate-find
-slice-aggregate-find c = search needs
-
-slice-aggregate-find-2 : tie.Need-slice-aggregate-find-2
-slice-aggregate-find-2 c = search needs
-
-slice-aggregate-find-3 : tie.Need-slice-aggregate-find-3
-slice-aggregate-find-3 c = search needs
-
 find-requires : tie.Need-find-requires
 unfolding noClues
 find-requires c κs =
@@ -99,9 +81,6 @@ find-requires c κs =
     let z = c .before .before .before .before .before .before .before .before .before .before .before .before .if1 .left in
     let r = ready p (sym q ∙ z) in
     (ready-finding p r (given-long s) (clues-long s) (states-long s) _ (c .before .before .before .before .before .before .before .before .before .before .before .if2 .left), (k .code-of .ensures .1 z, omega (arith, r .clues-fit, clues-long s)))
-
-same-length : tie.Need-same-length
-same-length c = search needs
 
 returns-3 : tie.Need-returns-3
 returns-3 c =
@@ -117,17 +96,17 @@ pub ask-spec : {M : Type 1} → statement M
 ask-spec =
     tie.close
     (tie.spec
-    slice-aggregate-code-of
-    slice-aggregate-code-of-2
-    slice-aggregate-code-of-3
+    (λ c. search needs)
+    (λ c. search needs)
+    (λ c. search needs)
     code-of-requires
     returns
     mul-if2
     mul-if2-2
     returns-2
-    slice-aggregate-find
-    slice-aggregate-find-2
-    slice-aggregate-find-3
+    (λ c. search needs)
+    (λ c. search needs)
+    (λ c. search needs)
     find-requires
-    same-length
+    (λ c. search needs)
     returns-3)

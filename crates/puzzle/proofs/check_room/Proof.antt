@@ -9,34 +9,10 @@ use borrow.Author.Needs.{needs}
 use Rattle.puzzle.proofs.check_room.Statement.{statement}
 use Rattle.puzzle.proofs.check_room.Tie as tie
 
-mul-wide : tie.Need-mul-wide
-mul-wide c = search needs
-
-shared-slice-read-wide : tie.Need-shared-slice-read-wide
-shared-slice-read-wide c = search needs
-
-wide-requires : tie.Need-wide-requires
-wide-requires c κs = search needs
-
 returns : tie.Need-returns
 returns c =
     let s = c .before .before .before .before .before .before .before .before .before .before .before in
     no-clue (s .args .g) (markedIn (now (s .args .marks))) (now (s .args .ids)) (now (s .args .clues)) (stateOf (now (s .args .states))) (s .args .room) (now (s .args .buf)) (rw (c .before .wide .ensures) at (c .if1 .taken))
-
-mul-wide-2 : tie.Need-mul-wide-2
-mul-wide-2 c = search needs
-
-shared-slice-read-wide-2 : tie.Need-shared-slice-read-wide-2
-shared-slice-read-wide-2 c = search needs
-
-wide-requires-2 : tie.Need-wide-requires-2
-wide-requires-2 c κs = search needs
-
-mul-end-of : tie.Need-mul-end-of
-mul-end-of c = search needs
-
-end-of-requires : tie.Need-end-of-requires
-end-of-requires c κs = search needs
 
 mul-cells : tie.Need-mul-cells
 mul-cells c =
@@ -68,9 +44,6 @@ find-inconsistency-requires c κs =
     let t = s .pre .0 .between (s .args .room) (s .pre .1 .1) in
     (s .pre .0 .housed, (rw (c .before .before .end-of .ensures, c .before .before .before .wide2 .ensures) (t .are), (s .pre .1 .0 .states-long, s .pre .1 .0 .buf-long)))
 
-same-length : tie.Need-same-length
-same-length c = search needs
-
 returns-2 : tie.Need-returns-2
 returns-2 c =
     let s = c .before .before .before .before .before .before .before .before .before .before .before .before .before .before .before .before .before .before .before in
@@ -80,19 +53,19 @@ pub check-room-spec : {M : Type 1} → statement M
 check-room-spec =
     tie.close
     (tie.spec
-    mul-wide
-    shared-slice-read-wide
-    wide-requires
+    (λ c. search needs)
+    (λ c. search needs)
+    (λ c κs. search needs)
     returns
-    mul-wide-2
-    shared-slice-read-wide-2
-    wide-requires-2
-    mul-end-of
-    end-of-requires
+    (λ c. search needs)
+    (λ c. search needs)
+    (λ c κs. search needs)
+    (λ c. search needs)
+    (λ c κs. search needs)
     mul-cells
     sub-cells
     part-cells-start
     part-cells-end
     find-inconsistency-requires
-    same-length
+    (λ c. search needs)
     returns-2)

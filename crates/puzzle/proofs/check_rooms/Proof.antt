@@ -31,9 +31,6 @@ check-room-requires c κs =
     let a = c .before .before in
     (s .pre .0, (rw (a .loop .inv .1) (s .pre .1), c .before .loop-test .taken))
 
-enum-known-found : tie.Need-enum-known-found Inv-loop μ-loop
-enum-known-found c = search needs
-
 same-length : tie.Need-same-length Inv-loop μ-loop
 same-length c =
     let s = c .before .before .before .before .before .before .before .before .before .before .before .before .before .before .before .before .before in
@@ -47,15 +44,6 @@ returns c =
     let a = c .before .before .before .before .before .before .before .before in
     let k = c .before .before .before .before .before in
     fault-here (s .args .g) (markedIn (now (s .args .marks))) (now (s .args .ids)) (now (s .args .clues)) (stateOf (now (s .args .states))) (s .args .count) (a .loop .room) (c .before .before .before .before .before .before .before .loop-test .taken) (k .check-room .result) (now (s .args .buf)) (a .loop .buf) _ (a .loop .inv .1) (a .loop .inv .2) (k .check-room .ensures) (c .before .found .given .0 .0) (c .before .found .given .1)
-
-enum-told : tie.Need-enum-told Inv-loop μ-loop
-enum-told c = search needs
-
-add-room : tie.Need-add-room Inv-loop μ-loop
-add-room c = search needs
-
-loop-less : tie.Need-loop-less Inv-loop μ-loop
-loop-less c = search needs
 
 loop-again : tie.Need-loop-again Inv-loop μ-loop
 loop-again c =
@@ -82,12 +70,12 @@ check-rooms-spec =
     μ-loop
     loop-holds
     check-room-requires
-    enum-known-found
+    (λ c. search needs)
     same-length
     returns
-    enum-told
-    add-room
-    loop-less
+    (λ c. search needs)
+    (λ c. search needs)
+    (λ c. search needs)
     loop-again
     same-length-2
     returns-2)

@@ -26,32 +26,11 @@ loop-holds c =
 end-of-requires : tie.Need-end-of-requires Inv-loop μ-loop
 end-of-requires c κs = (c .loop-test .taken, c .before .before .before .before .pre .starts-long)
 
-mul-wide : tie.Need-mul-wide Inv-loop μ-loop
-mul-wide c = search needs
-
-shared-slice-read-wide : tie.Need-shared-slice-read-wide Inv-loop μ-loop
-shared-slice-read-wide c = search needs
-
-wide-requires : tie.Need-wide-requires Inv-loop μ-loop
-wide-requires c κs = search needs
-
 sub-size : tie.Need-sub-size Inv-loop μ-loop
 sub-size c =
     let s = c .before .before .before .before .before .before .before in
     let a = c .before .before .before .before in
     omega (arith, s .pre .in-order (a .loop .room) (c .before .before .before .loop-test .taken), c .wide .ensures, c .before .before .end-of .ensures)
-
-mul-wide-2 : tie.Need-mul-wide-2 Inv-loop μ-loop
-mul-wide-2 c = search needs
-
-shared-slice-read-wide-2 : tie.Need-shared-slice-read-wide-2 Inv-loop μ-loop
-shared-slice-read-wide-2 c = search needs
-
-wide-requires-2 : tie.Need-wide-requires-2 Inv-loop μ-loop
-wide-requires-2 c κs = search needs
-
-clue-fits-requires : tie.Need-clue-fits-requires Inv-loop μ-loop
-clue-fits-requires c κs = search needs
 
 returns : tie.Need-returns Inv-loop μ-loop
 returns c =
@@ -61,12 +40,6 @@ returns c =
     let t : c .before .clue-fits .result ≡ f (a .loop .room) = c .before .clue-fits .ensures ∙ rw (c .before .before .wide2 .ensures, c .before .before .before .before .before .before .end-of .ensures, c .before .before .before .before .wide .ensures) refl in
     let step = all-step f (s .args .count) (a .loop .room) (c .before .before .before .before .before .before .before .loop-test .taken) in
     rw (step, sym t ∙ not-true (c .before .clue-fits .result) (c .if1 .taken)) at (a .loop .inv .1)
-
-add-room : tie.Need-add-room Inv-loop μ-loop
-add-room c = search needs
-
-loop-less : tie.Need-loop-less Inv-loop μ-loop
-loop-less c = search needs
 
 loop-again : tie.Need-loop-again Inv-loop μ-loop
 loop-again c =
@@ -91,16 +64,16 @@ clues-fit-spec =
     μ-loop
     loop-holds
     end-of-requires
-    mul-wide
-    shared-slice-read-wide
-    wide-requires
+    (λ c. search needs)
+    (λ c. search needs)
+    (λ c κs. search needs)
     sub-size
-    mul-wide-2
-    shared-slice-read-wide-2
-    wide-requires-2
-    clue-fits-requires
+    (λ c. search needs)
+    (λ c. search needs)
+    (λ c κs. search needs)
+    (λ c κs. search needs)
     returns
-    add-room
-    loop-less
+    (λ c. search needs)
+    (λ c. search needs)
     loop-again
     returns-2)

@@ -15,9 +15,6 @@ use borrow.Author.Needs.{needs}
 use Rattle.puzzle.proofs.code_of.Statement.{statement}
 use Rattle.puzzle.proofs.code_of.Tie as tie
 
-sizes-ok-requires : tie.Need-sizes-ok-requires
-sizes-ok-requires c κs = search needs
-
 returns : tie.Need-returns
 returns c =
     let s = c .before .before .before .before .before .before .before .before .before in
@@ -47,15 +44,6 @@ lists-code-requires c κs =
     let few' = (c .before .before .before .if3 .left) in
     (record { limits = limits (gridOf p) ok; given-long = omega (arith, s .pre .0 .given-long); clues-long = omega (arith, s .pre .0 .clues-long) }, cells-lent (gridOf p) (limits (gridOf p) ok) _ _ _ (s .pre .1))
 
-same-length : tie.Need-same-length
-same-length c = search needs
-
-same-length-2 : tie.Need-same-length-2
-same-length-2 c = search needs
-
-same-length-3 : tie.Need-same-length-3
-same-length-3 c = search needs
-
 returns-4 : tie.Need-returns-4
 returns-4 c =
     let s = c .before .before .before .before .before .before .before .before .before .before .before .before .before .before .before .before .before .before .before .before .before .before in
@@ -70,15 +58,6 @@ border-count-requires c κs =
     let ok = sym (c .before .before .before .before .before .before .before .before .before .before .before .before .before .before .sizes-ok .ensures) ∙ not-false (c .before .before .before .before .before .before .before .before .before .before .before .before .before .before .sizes-ok .result) (c .before .before .before .before .before .before .before .before .before .before .before .before .before .if1 .left) in
     limits (gridOf p) ok
 
-same-length-4 : tie.Need-same-length-4
-same-length-4 c = search needs
-
-same-length-5 : tie.Need-same-length-5
-same-length-5 c = search needs
-
-same-length-6 : tie.Need-same-length-6
-same-length-6 c = search needs
-
 returns-5 : tie.Need-returns-5
 returns-5 c =
     let s = c .before .before .before .before .before .before .before .before .before .before .before .before .before .before .before .before .before .before .before .before .before .before .before .before in
@@ -86,9 +65,6 @@ returns-5 c =
     let ok = sym (c .before .before .before .before .before .before .before .before .before .before .before .before .before .before .before .before .sizes-ok .ensures) ∙ not-false (c .before .before .before .before .before .before .before .before .before .before .before .before .before .before .before .before .sizes-ok .result) (c .before .before .before .before .before .before .before .before .before .before .before .before .before .before .before .if1 .left) in
     let z = sym (c .before .before .before .before .before .before .before .before .before .lists-code .ensures .0) ∙ c .before .before .if4 .left in
     (long-ledger p ok (c .before .before .before .before .before .before .before .before .before .before .before .before .before .before .if2 .left) (c .before .before .before .before .before .before .before .before .before .before .before .before .before .if3 .left) z (rw (c .before .border-count .ensures) at (c .if5 .taken)), λ q. absurd (let z : _≡_ {A = ℕ} 2 0 = q in omega arith))
-
-slice-aggregate-put : tie.Need-slice-aggregate-put
-slice-aggregate-put c = search needs
 
 put-requires : tie.Need-put-requires
 unfolding unmarked
@@ -98,9 +74,6 @@ put-requires c κs =
     let ok = sym (c .before .before .before .before .before .before .before .before .before .before .before .before .before .before .before .before .before .sizes-ok .ensures) ∙ not-false (c .before .before .before .before .before .before .before .before .before .before .before .before .before .before .before .before .before .sizes-ok .result) (c .before .before .before .before .before .before .before .before .before .before .before .before .before .before .before .before .if1 .left) in
     let z = sym (c .before .before .before .before .before .before .before .before .before .before .lists-code .ensures .0) ∙ c .before .before .before .if4 .left in
     walls-fit p (limits (gridOf p) ok) (c .before .before .before .before .before .before .before .before .before .before .before .before .before .before .before .if2 .left) z (s .pre .0 .given-long)
-
-slice-aggregate-holds : tie.Need-slice-aggregate-holds
-slice-aggregate-holds c = search needs
 
 holds-requires : tie.Need-holds-requires
 unfolding unmarked
@@ -115,15 +88,6 @@ holds-requires c κs =
     rw (c .before .before .put .ensures, n .border-count .ensures)
     (marks-lent (p .given) (p .«given_len») w (bordersOf (p .board)) (p .board .len) (p .board .states) (p .board .ledger) (borderCount-le (gridOf p) (limits (gridOf p) ok)) short (s .pre .0 .states-long) (s .pre .0 .names-long))
 
-same-length-7 : tie.Need-same-length-7
-same-length-7 c = search needs
-
-same-length-8 : tie.Need-same-length-8
-same-length-8 c = search needs
-
-same-length-9 : tie.Need-same-length-9
-same-length-9 c = search needs
-
 returns-6 : tie.Need-returns-6
 unfolding unmarked
 returns-6 c =
@@ -136,15 +100,6 @@ returns-6 c =
     let short = rw (n .border-count .ensures) at (c .before .before .before .before .before .before .before .if5 .left) in
     let t = by-marks (bordersOf (p .board)) (n .border-count .result) (givenOf p) (p .board .states) (namesOf (p .board)) (puts (givenOf p) 1 unmarked) (c .before .before .holds .result) (n .border-count .ensures) (marks-given (p .given) (p .«given_len») w) (rw (c .before .before .before .before .before .put .ensures) at (c .before .before .holds .ensures)) in
     (by-ledger p ok (c .before .before .before .before .before .before .before .before .before .before .before .before .before .before .before .before .before .before .before .before .before .if2 .left) (c .before .before .before .before .before .before .before .before .before .before .before .before .before .before .before .before .before .before .before .before .if3 .left) z short true (t ∙ c .if6 .taken), λ q. c .before .before .before .before .before .before .before .before .before .before .before .before .before .before .before .before .lists-code .ensures .1 (c .before .before .before .before .before .before .before .before .before .if4 .left))
-
-same-length-10 : tie.Need-same-length-10
-same-length-10 c = search needs
-
-same-length-11 : tie.Need-same-length-11
-same-length-11 c = search needs
-
-same-length-12 : tie.Need-same-length-12
-same-length-12 c = search needs
 
 returns-7 : tie.Need-returns-7
 unfolding unmarked
@@ -163,29 +118,29 @@ pub code-of-spec : {M : Type 1} → statement M
 code-of-spec =
     tie.close
     (tie.spec
-    sizes-ok-requires
+    (λ c κs. search needs)
     returns
     returns-2
     returns-3
     lists-code-requires
-    same-length
-    same-length-2
-    same-length-3
+    (λ c. search needs)
+    (λ c. search needs)
+    (λ c. search needs)
     returns-4
     border-count-requires
-    same-length-4
-    same-length-5
-    same-length-6
+    (λ c. search needs)
+    (λ c. search needs)
+    (λ c. search needs)
     returns-5
-    slice-aggregate-put
+    (λ c. search needs)
     put-requires
-    slice-aggregate-holds
+    (λ c. search needs)
     holds-requires
-    same-length-7
-    same-length-8
-    same-length-9
+    (λ c. search needs)
+    (λ c. search needs)
+    (λ c. search needs)
     returns-6
-    same-length-10
-    same-length-11
-    same-length-12
+    (λ c. search needs)
+    (λ c. search needs)
+    (λ c. search needs)
     returns-7)

@@ -94,9 +94,6 @@ place-requires c κs =
     let long = ledger-long s in
     (omega (arith, borderCount-le (gridOf p) (r .limits)), place-free p r long (s .args .border) h (c .if3 .left))
 
-onto-requires : tie.Need-onto-requires
-onto-requires c κs = search needs
-
 returns-4 : tie.Need-returns-4
 returns-4 c =
     let s = c .before .before .before .before .before .before .before .before .before .before .before .before .before .before .before .before .before .before in
@@ -119,5 +116,5 @@ decide-spec =
     element-copy-out-if3
     returns-3
     place-requires
-    onto-requires
+    (λ c κs. search needs)
     returns-4)

@@ -7,15 +7,6 @@ use borrow.Author.Needs.{needs}
 use Rattle.puzzle.proofs.find.Statement.{statement}
 use Rattle.puzzle.proofs.find.Tie as tie
 
-shape-fault-requires : tie.Need-shape-fault-requires
-shape-fault-requires c κs = search needs
-
-enum-known-shape : tie.Need-enum-known-shape
-enum-known-shape c = search needs
-
-same-length : tie.Need-same-length
-same-length c = search needs
-
 returns : tie.Need-returns
 returns c =
     let s = c .before .before .before .before .before .before .before .before .before .before .before .before .before .before in
@@ -24,9 +15,6 @@ returns c =
 
 enum-told : tie.Need-enum-told
 enum-told c = search needs
-
-slice-aggregate-rooms-fault : tie.Need-slice-aggregate-rooms-fault
-slice-aggregate-rooms-fault c = search needs
 
 rooms-fault-requires : tie.Need-rooms-fault-requires
 rooms-fault-requires c κs =
@@ -43,9 +31,6 @@ rooms-fault-requires c κs =
       ),
     )
 
-same-length-2 : tie.Need-same-length-2
-same-length-2 c = search needs
-
 returns-2 : tie.Need-returns-2
 returns-2 c =
     let s = c .before .before .before .before .before .before .before .before .before .before .before .before .before .before .before .before .before .before in
@@ -56,12 +41,12 @@ pub find-spec : {M : Type 1} → statement M
 find-spec =
     tie.close
     (tie.spec
-    shape-fault-requires
-    enum-known-shape
-    same-length
+    (λ c κs. search needs)
+    (λ c. search needs)
+    (λ c. search needs)
     returns
     enum-told
-    slice-aggregate-rooms-fault
+    (λ c. search needs)
     rooms-fault-requires
-    same-length-2
+    (λ c. search needs)
     returns-2)

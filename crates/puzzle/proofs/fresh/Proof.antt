@@ -7,21 +7,6 @@ use borrow.Author.Needs.{needs}
 use Rattle.puzzle.proofs.fresh.Statement.{statement}
 use Rattle.puzzle.proofs.fresh.Tie as tie
 
-slice-aggregate-copy : tie.Need-slice-aggregate-copy
-slice-aggregate-copy c = search needs
-
-copy-requires : tie.Need-copy-requires
-copy-requires c κs = search needs
-
-slice-aggregate-copy-2 : tie.Need-slice-aggregate-copy-2
-slice-aggregate-copy-2 c = search needs
-
-copy-requires-2 : tie.Need-copy-requires-2
-copy-requires-2 c κs = search needs
-
-fresh-board-requires : tie.Need-fresh-board-requires
-fresh-board-requires c κs = search needs
-
 returns : tie.Need-returns
 unfolding zeros noClues
 returns c =
@@ -32,9 +17,9 @@ pub fresh-spec : {M : Type 1} → statement M
 fresh-spec =
     tie.close
     (tie.spec
-    slice-aggregate-copy
-    copy-requires
-    slice-aggregate-copy-2
-    copy-requires-2
-    fresh-board-requires
+    (λ c. search needs)
+    (λ c κs. search needs)
+    (λ c. search needs)
+    (λ c κs. search needs)
+    (λ c κs. search needs)
     returns)

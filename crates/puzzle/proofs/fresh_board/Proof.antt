@@ -8,12 +8,6 @@ use borrow.Author.Needs.{needs}
 use Rattle.puzzle.proofs.fresh_board.Statement.{statement}
 use Rattle.puzzle.proofs.fresh_board.Tie as tie
 
-slice-aggregate-put : tie.Need-slice-aggregate-put
-slice-aggregate-put c = search needs
-
-put-requires : tie.Need-put-requires
-put-requires c κs = search needs
-
 returns : tie.Need-returns
 unfolding zeros unmarked
 returns c =
@@ -21,4 +15,4 @@ returns c =
     board-is (s .args .g .height) (s .args .g .width) (now (s .args .given)) _ (c .before .put .ensures ∙ fresh-states (now (s .args .given)) (s .pre))
 
 pub fresh-board-spec : {M : Type 1} → statement M
-fresh-board-spec = tie.close (tie.spec slice-aggregate-put put-requires returns)
+fresh-board-spec = tie.close (tie.spec (λ c. search needs) (λ c κs. search needs) returns)

@@ -14,21 +14,12 @@ use borrow.Author.Needs.{needs}
 use Rattle.puzzle.proofs.lists_code.Statement.{statement}
 use Rattle.puzzle.proofs.lists_code.Tie as tie
 
-border-count-requires : tie.Need-border-count-requires
-border-count-requires c κs = search needs
-
-exist-requires : tie.Need-exist-requires
-exist-requires c κs = search needs
-
 returns : tie.Need-returns
 returns c =
     let s = c .before .before .before .before .before .before .before .before in
     let g = s .args .g in
     let a = tested (c .before .before .border-count .result) (borderCount g) (take (s .args .given-len) (now (s .args .given))) (c .before .exist .result) (c .before .before .border-count .ensures) (c .before .exist .ensures) ∙ not-true (c .before .exist .result) (c .if1 .taken) in
     (not-there g (take (s .args .given-len) (now (s .args .given))) (take (s .args .clues-len) (now (s .args .clues))) a, λ q. absurd (let z : _≡_ {A = ℕ} 3 0 = q in omega arith))
-
-rise-requires : tie.Need-rise-requires
-rise-requires c κs = search needs
 
 returns-2 : tie.Need-returns-2
 returns-2 c =
@@ -44,15 +35,6 @@ rooms-of-requires c κs =
     let g = s .args .g in
     let a = tested (c .before .before .before .before .before .before .before .border-count .result) (borderCount g) (take (s .args .given-len) (now (s .args .given))) (c .before .before .before .before .before .before .exist .result) (c .before .before .before .before .before .before .before .border-count .ensures) (c .before .before .before .before .before .before .exist .ensures) ∙ not-false (c .before .before .before .before .before .before .exist .result) (c .before .before .before .before .before .if1 .left) in
     (walls-given g (now (s .args .given)) (s .args .given-len) (s .pre .0 .limits) (s .pre .0 .given-long) a, s .pre .1)
-
-same-length : tie.Need-same-length
-same-length c = search needs
-
-same-length-2 : tie.Need-same-length-2
-same-length-2 c = search needs
-
-same-length-3 : tie.Need-same-length-3
-same-length-3 c = search needs
 
 returns-3 : tie.Need-returns-3
 returns-3 c =
@@ -74,15 +56,6 @@ clues-fit-requires c κs =
     let w = walls-given g (now (s .args .given)) (s .args .given-len) (s .pre .0 .limits) (s .pre .0 .given-long) a in
     room-sizes g (now (s .args .given)) (s .args .given-len) w (now (s .args .ids)) (now (s .args .starts)) (now (s .args .flat)) _ _ _ (z .rooms-of .result) (s .pre .1) (z .rooms-of .ensures) (now (s .args .clues)) (s .args .clues-len) (s .pre .0 .clues-long) (c .before .if3 .left)
 
-same-length-4 : tie.Need-same-length-4
-same-length-4 c = search needs
-
-same-length-5 : tie.Need-same-length-5
-same-length-5 c = search needs
-
-same-length-6 : tie.Need-same-length-6
-same-length-6 c = search needs
-
 returns-4 : tie.Need-returns-4
 returns-4 c =
     let s = c .before .before .before .before .before .before .before .before .before .before .before .before .before .before .before .before .before .before .before .before .before .before .before .before in
@@ -93,15 +66,6 @@ returns-4 c =
     let w = walls-given g (now (s .args .given)) (s .args .given-len) (s .pre .0 .limits) (s .pre .0 .given-long) a in
     let t = sym (fits-same g (now (s .args .given)) (s .args .given-len) w (now (s .args .ids)) (now (s .args .starts)) (now (s .args .flat)) _ _ _ (z .rooms-of .result) (s .pre .1) (z .rooms-of .ensures) (now (s .args .clues)) (s .args .clues-len) (s .pre .0 .clues-long) (c .before .before .before .if3 .left)) ∙ sym (c .before .clues-fit .ensures) ∙ c .if4 .taken in
     (by-clues g (take (s .args .given-len) (now (s .args .given))) (take (s .args .clues-len) (now (s .args .clues))) a u (one-each-is g (now (s .args .given)) (s .args .given-len) w (now (s .args .ids)) (now (s .args .starts)) (now (s .args .flat)) _ _ _ (z .rooms-of .result) (s .pre .1) (z .rooms-of .ensures) (now (s .args .clues)) (s .args .clues-len) (s .pre .0 .clues-long) (c .before .before .before .if3 .left)) true t, λ q. counted g (take (s .args .given-len) (now (s .args .given))) (now (s .args .ids)) (now (s .args .starts)) (now (s .args .flat)) _ _ _ (z .rooms-of .result) (z .rooms-of .ensures) (s .args .clues-len) (c .before .before .before .if3 .left))
-
-same-length-7 : tie.Need-same-length-7
-same-length-7 c = search needs
-
-same-length-8 : tie.Need-same-length-8
-same-length-8 c = search needs
-
-same-length-9 : tie.Need-same-length-9
-same-length-9 c = search needs
 
 returns-5 : tie.Need-returns-5
 returns-5 c =
@@ -118,23 +82,23 @@ pub lists-code-spec : {M : Type 1} → statement M
 lists-code-spec =
     tie.close
     (tie.spec
-    border-count-requires
-    exist-requires
+    (λ c κs. search needs)
+    (λ c κs. search needs)
     returns
-    rise-requires
+    (λ c κs. search needs)
     returns-2
     rooms-of-requires
-    same-length
-    same-length-2
-    same-length-3
+    (λ c. search needs)
+    (λ c. search needs)
+    (λ c. search needs)
     returns-3
     mul-clues-fit
     clues-fit-requires
-    same-length-4
-    same-length-5
-    same-length-6
+    (λ c. search needs)
+    (λ c. search needs)
+    (λ c. search needs)
     returns-4
-    same-length-7
-    same-length-8
-    same-length-9
+    (λ c. search needs)
+    (λ c. search needs)
+    (λ c. search needs)
     returns-5)

@@ -12,26 +12,11 @@ use borrow.Author.Needs.{needs}
 use Rattle.puzzle.proofs.make.Statement.{statement}
 use Rattle.puzzle.proofs.make.Tie as tie
 
-sizes-ok-requires : tie.Need-sizes-ok-requires
-sizes-ok-requires c κs = search needs
-
-unmade-requires : tie.Need-unmade-requires
-unmade-requires c κs = search needs
-
 returns : tie.Need-returns
 returns c =
     let s = c .before .before .before .before .before in
     let k = c .before .before in
     no-size (s .args .height) (s .args .width) (now (s .args .given)) (now (s .args .clues)) (c .unmade .result) (sym (k .sizes-ok .ensures) ∙ not-true (k .sizes-ok .result) (c .before .if1 .taken)) (c .unmade .ensures)
-
-slice-aggregate-lists-code : tie.Need-slice-aggregate-lists-code
-slice-aggregate-lists-code c = search needs
-
-slice-aggregate-lists-code-2 : tie.Need-slice-aggregate-lists-code-2
-slice-aggregate-lists-code-2 c = search needs
-
-slice-aggregate-lists-code-3 : tie.Need-slice-aggregate-lists-code-3
-slice-aggregate-lists-code-3 c = search needs
 
 lists-code-requires : tie.Need-lists-code-requires
 unfolding noClues
@@ -41,9 +26,6 @@ lists-code-requires c κs =
     let ok = sym (k .sizes-ok .ensures) ∙ not-false (k .sizes-ok .result) (c .before .before .before .if1 .left) in
     let m = limits (grid (s .args .height) (s .args .width)) ok in
     (record { limits = m; given-long = omega arith; clues-long = omega arith }, rooms-lent (grid (s .args .height) (s .args .width)) m)
-
-unmade-requires-2 : tie.Need-unmade-requires-2
-unmade-requires-2 c κs = search needs
 
 returns-2 : tie.Need-returns-2
 returns-2 c =
@@ -77,14 +59,14 @@ pub make-spec : {M : Type 1} → statement M
 make-spec =
     tie.close
     (tie.spec
-    sizes-ok-requires
-    unmade-requires
+    (λ c κs. search needs)
+    (λ c κs. search needs)
     returns
-    slice-aggregate-lists-code
-    slice-aggregate-lists-code-2
-    slice-aggregate-lists-code-3
+    (λ c. search needs)
+    (λ c. search needs)
+    (λ c. search needs)
     lists-code-requires
-    unmade-requires-2
+    (λ c κs. search needs)
     returns-2
     fresh-requires
     returns-3)

@@ -15,9 +15,6 @@ use Rattle.puzzle.proofs.rooms_fault.Tie as tie
 mul-n : tie.Need-mul-n
 mul-n c = omega (arith, cells-le _ (c .before .before .before .before .before .before .before .pre .0 .limits))
 
-slice-aggregate-put : tie.Need-slice-aggregate-put
-slice-aggregate-put c = search needs
-
 put-requires : tie.Need-put-requires
 unfolding unmarked noClues
 put-requires c κs =
@@ -29,37 +26,22 @@ slice-aggregate-vertices c =
     let s = c .before .before .before .before .before .before .before .before .before .before .before in
     sym (front-length (s .args .g) (now (s .args .given)) (s .args .len) (s .pre .0) (now (s .args .ids)) (now (s .args .starts)) (now (s .args .flat)) (s .args .count) (s .pre .1 .0))
 
-slice-aggregate-vertices-2 : tie.Need-slice-aggregate-vertices-2
-slice-aggregate-vertices-2 c = search needs
-
-slice-aggregate-vertices-3 : tie.Need-slice-aggregate-vertices-3
-slice-aggregate-vertices-3 c = search needs
-
 vertices-requires : tie.Need-vertices-requires
 unfolding unmarked noClues
 vertices-requires c κs =
     let s = c .before .before .before .before .before .before .before .before .before .before .before .before .before in
     (ids-keys (s .args .g) (now (s .args .given)) (s .args .len) (s .pre .0) (now (s .args .ids)) (now (s .args .starts)) (now (s .args .flat)) (s .args .count) (s .pre .1 .0) noClues no-clues-length, (no-clue-at, omega (arith, cells-le _ (s .pre .0 .limits))))
 
-slice-aggregate-check-rooms : tie.Need-slice-aggregate-check-rooms
-slice-aggregate-check-rooms c = search needs
-
 slice-aggregate-check-rooms-2 : tie.Need-slice-aggregate-check-rooms-2
 slice-aggregate-check-rooms-2 c =
     let s = c .before .before .before .before .before .before .before .before .before .before .before .before .before .before .before .before .before .before in
     sym (front-length (s .args .g) (now (s .args .given)) (s .args .len) (s .pre .0) (now (s .args .ids)) (now (s .args .starts)) (now (s .args .flat)) (s .args .count) (s .pre .1 .0))
-
-slice-aggregate-check-rooms-3 : tie.Need-slice-aggregate-check-rooms-3
-slice-aggregate-check-rooms-3 c = search needs
 
 check-rooms-requires : tie.Need-check-rooms-requires
 unfolding unmarked noClues
 check-rooms-requires c κs =
     let s = c .before .before .before .before .before .before .before .before .before .before .before .before .before .before .before .before .before .before .before .before in
     (housing (s .args .g) (now (s .args .given)) (s .args .len) (s .pre .0) (now (s .args .ids)) (now (s .args .starts)) (now (s .args .flat)) (s .args .count) (s .pre .1 .0) _ (c .before .before .before .before .before .before .before .before .before .before .before .put .ensures) _ (c .before .before .before .before .before .before .vertices .ensures), s .pre .1 .1)
-
-same-length : tie.Need-same-length
-same-length c = search needs
 
 returns : tie.Need-returns
 unfolding unmarked noClues
@@ -72,15 +54,15 @@ rooms-fault-spec =
     tie.close
     (tie.spec
     mul-n
-    slice-aggregate-put
+    (λ c. search needs)
     put-requires
     slice-aggregate-vertices
-    slice-aggregate-vertices-2
-    slice-aggregate-vertices-3
+    (λ c. search needs)
+    (λ c. search needs)
     vertices-requires
-    slice-aggregate-check-rooms
+    (λ c. search needs)
     slice-aggregate-check-rooms-2
-    slice-aggregate-check-rooms-3
+    (λ c. search needs)
     check-rooms-requires
-    same-length
+    (λ c. search needs)
     returns)

@@ -60,9 +60,6 @@ take-back-requires c κs =
     let n = borderCount-le (gridOf p) (r .limits) in
     (some, omega (arith, r .short), omega (arith, last-name p r long some))
 
-onto-requires : tie.Need-onto-requires
-onto-requires c κs = search needs
-
 returns-3 : tie.Need-returns-3
 returns-3 c =
     let s = c .before .before .before .before .before .before .before .before .before .before .before .before .before .before .before .before in
@@ -81,5 +78,5 @@ undo-spec =
     returns
     returns-2
     take-back-requires
-    onto-requires
+    (λ c κs. search needs)
     returns-3)

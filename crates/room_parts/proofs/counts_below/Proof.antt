@@ -17,9 +17,6 @@ Inv-loop n m us vs states count p₀ left₀ i₀ p left i = (i ≤ m) × Taken 
 abbrev μ-loop : tie.MeasureT-loop
 μ-loop n m us vs states count p₀ left₀ i₀ p left i = m - i
 
-alone-requires : tie.Need-alone-requires Inv-loop μ-loop
-alone-requires c κs = omega arith
-
 abbrev room : tie.Start Inv-loop μ-loop → Graph
 room s = graph (s .args .n) (s .args .m) (now (s .args .us)) (now (s .args .vs))
 
@@ -31,27 +28,6 @@ unfolding zeros
 loop-holds c =
     let s = c .before .before .before .before .before in
     (omega arith, taken-none (room s) (s .args .count) (standing s) _ (s .pre .few-vertices) (c .alone .ensures))
-
-shared-slice-read-take-edge : tie.Need-shared-slice-read-take-edge Inv-loop μ-loop
-shared-slice-read-take-edge c = omega arith
-
-mul-wide : tie.Need-mul-wide Inv-loop μ-loop
-mul-wide c = omega arith
-
-shared-slice-read-wide : tie.Need-shared-slice-read-wide Inv-loop μ-loop
-shared-slice-read-wide c = omega arith
-
-wide-requires : tie.Need-wide-requires Inv-loop μ-loop
-wide-requires c κs = search needs
-
-mul-wide-2 : tie.Need-mul-wide-2 Inv-loop μ-loop
-mul-wide-2 c = omega arith
-
-shared-slice-read-wide-2 : tie.Need-shared-slice-read-wide-2 Inv-loop μ-loop
-shared-slice-read-wide-2 c = omega arith
-
-wide-requires-2 : tie.Need-wide-requires-2 Inv-loop μ-loop
-wide-requires-2 c κs = search needs
 
 take-edge-requires : tie.Need-take-edge-requires Inv-loop μ-loop
 take-edge-requires c κs =
@@ -90,12 +66,6 @@ returns c =
     let k = c .before .before in
     turn k .tips (c .before .if1 .taken) (k .before .before .before .before .before .before .before .loop-test .taken) (c .if2 .taken)
 
-add-i : tie.Need-add-i Inv-loop μ-loop
-add-i c = omega arith
-
-loop-less : tie.Need-loop-less Inv-loop μ-loop
-loop-less c = omega arith
-
 loop-again : tie.Need-loop-again Inv-loop μ-loop
 loop-again c = (omega arith, ⊎-elim (λ w. rw (w .2) (turn (c .before) .less (w .0 .taken) (w .1 .left))) (λ w. rw (w .1) (turn (c .before) .same (w .0 .left))) (c .if1 .came))
 
@@ -111,19 +81,19 @@ counts-below-spec =
     (tie.spec
     Inv-loop
     μ-loop
-    alone-requires
+    (λ c κs. omega arith)
     loop-holds
-    shared-slice-read-take-edge
-    mul-wide
-    shared-slice-read-wide
-    wide-requires
-    mul-wide-2
-    shared-slice-read-wide-2
-    wide-requires-2
+    (λ c. omega arith)
+    (λ c. omega arith)
+    (λ c. omega arith)
+    (λ c κs. search needs)
+    (λ c. omega arith)
+    (λ c. omega arith)
+    (λ c κs. search needs)
     take-edge-requires
     sub-left
     returns
-    add-i
-    loop-less
+    (λ c. omega arith)
+    (λ c. omega arith)
     loop-again
     returns-2)

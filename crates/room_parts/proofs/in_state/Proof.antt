@@ -22,29 +22,17 @@ loop-holds : tie.Need-loop-holds Inv-loop μ-loop
 unfolding passing
 loop-holds c = (omega arith, refl)
 
-shared-slice-read-if1 : tie.Need-shared-slice-read-if1 Inv-loop μ-loop
-shared-slice-read-if1 c = omega arith
-
 add-r : tie.Need-add-r Inv-loop μ-loop
 add-r c =
     let a = c .before .before .before in
     let s = a .before .before in
     omega (arith, a .loop .inv .1, passing-le (isState (s .args .k)) (statesIn (now (s .args .states))) (a .loop .i))
 
-add-i : tie.Need-add-i Inv-loop μ-loop
-add-i c = omega arith
-
-loop-less : tie.Need-loop-less Inv-loop μ-loop
-loop-less c = omega arith
-
 loop-again : tie.Need-loop-again Inv-loop μ-loop
 loop-again c =
     let a = c .before .before .before in
     let s = a .before .before in
     (omega arith, ⊎-elim (λ w. rw (w .1) (passing-one (isState (s .args .k)) (statesIn (now (s .args .states))) (a .loop .r) (a .loop .i) (a .loop .inv .1) (eq-eqb _ _ (w .0 .taken)))) (λ w. rw (w .1) (passing-same (isState (s .args .k)) (statesIn (now (s .args .states))) (a .loop .r) (a .loop .i) (a .loop .inv .1) (ne-eqb _ _ (w .0 .left)))) (c .if1 .came))
-
-wide-requires : tie.Need-wide-requires Inv-loop μ-loop
-wide-requires c κs = search needs
 
 returns : tie.Need-returns Inv-loop μ-loop
 returns c =
@@ -60,10 +48,10 @@ in-state-spec =
     Inv-loop
     μ-loop
     loop-holds
-    shared-slice-read-if1
+    (λ c. omega arith)
     add-r
-    add-i
-    loop-less
+    (λ c. omega arith)
+    (λ c. omega arith)
     loop-again
-    wide-requires
+    (λ c κs. search needs)
     returns)

@@ -20,27 +20,6 @@ loop-holds : tie.Need-loop-holds Inv-loop μ-loop
 unfolding zeros
 loop-holds c = let s = c .before .before .before in linking-none (s .args .n) (s .args .m) (now (s .args .us)) (now (s .args .vs)) (now (s .args .states)) (s .pre)
 
-shared-slice-read-if1 : tie.Need-shared-slice-read-if1 Inv-loop μ-loop
-shared-slice-read-if1 c = omega arith
-
-mul-wide : tie.Need-mul-wide Inv-loop μ-loop
-mul-wide c = omega arith
-
-shared-slice-read-wide : tie.Need-shared-slice-read-wide Inv-loop μ-loop
-shared-slice-read-wide c = omega arith
-
-wide-requires : tie.Need-wide-requires Inv-loop μ-loop
-wide-requires c κs = search needs
-
-mul-wide-2 : tie.Need-mul-wide-2 Inv-loop μ-loop
-mul-wide-2 c = omega arith
-
-shared-slice-read-wide-2 : tie.Need-shared-slice-read-wide-2 Inv-loop μ-loop
-shared-slice-read-wide-2 c = omega arith
-
-wide-requires-2 : tie.Need-wide-requires-2 Inv-loop μ-loop
-wide-requires-2 c κs = search needs
-
 -- the edge's ends and its arcs' numbers are on the arrays
 fits : (c : tie.After-wide2 Inv-loop μ-loop)
     → let a = c .before .before .before .before .before .before .before in
@@ -65,12 +44,6 @@ link-requires-2 c κs = let f = fits (c .before .before .before .before .before 
 
 add-arcs : tie.Need-add-arcs Inv-loop μ-loop
 add-arcs c = omega (arith, fits (c .before .before .before .before .before .before .before .before) .0)
-
-add-i : tie.Need-add-i Inv-loop μ-loop
-add-i c = omega arith
-
-loop-less : tie.Need-loop-less Inv-loop μ-loop
-loop-less c = omega arith
 
 loop-again : tie.Need-loop-again Inv-loop μ-loop
 loop-again c =
@@ -110,19 +83,19 @@ joined-parts-spec =
     Inv-loop
     μ-loop
     loop-holds
-    shared-slice-read-if1
-    mul-wide
-    shared-slice-read-wide
-    wide-requires
-    mul-wide-2
-    shared-slice-read-wide-2
-    wide-requires-2
+    (λ c. omega arith)
+    (λ c. omega arith)
+    (λ c. omega arith)
+    (λ c κs. search needs)
+    (λ c. omega arith)
+    (λ c. omega arith)
+    (λ c κs. search needs)
     link-requires
     add-link
     link-requires-2
     add-arcs
-    add-i
-    loop-less
+    (λ c. omega arith)
+    (λ c. omega arith)
     loop-again
     sweep-requires
     returns)

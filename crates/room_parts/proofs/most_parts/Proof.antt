@@ -22,27 +22,6 @@ loop-holds c =
     let s = c .before .before .before in
     marks-none (graph (s .args .n) (s .args .m) (now (s .args .us)) (now (s .args .vs))) (statesIn (now (s .args .states)))
 
-shared-slice-read-mark-later : tie.Need-shared-slice-read-mark-later Inv-loop μ-loop
-shared-slice-read-mark-later c = omega arith
-
-mul-wide : tie.Need-mul-wide Inv-loop μ-loop
-mul-wide c = omega arith
-
-shared-slice-read-wide : tie.Need-shared-slice-read-wide Inv-loop μ-loop
-shared-slice-read-wide c = omega arith
-
-wide-requires : tie.Need-wide-requires Inv-loop μ-loop
-wide-requires c κs = search needs
-
-mul-wide-2 : tie.Need-mul-wide-2 Inv-loop μ-loop
-mul-wide-2 c = omega arith
-
-shared-slice-read-wide-2 : tie.Need-shared-slice-read-wide-2 Inv-loop μ-loop
-shared-slice-read-wide-2 c = omega arith
-
-wide-requires-2 : tie.Need-wide-requires-2 Inv-loop μ-loop
-wide-requires-2 c κs = search needs
-
 mark-later-requires : tie.Need-mark-later-requires Inv-loop μ-loop
 mark-later-requires c κs =
     let k = c .before .before .before .before .before .before in
@@ -52,12 +31,6 @@ mark-later-requires c κs =
       omega (arith, s .pre .few-vertices, c .before .before .wide .ensures, s .pre .us-exist i (k .loop-test .taken)),
       omega (arith, s .pre .few-vertices, c .wide2 .ensures, s .pre .vs-exist i (k .loop-test .taken)),
     )
-
-add-i : tie.Need-add-i Inv-loop μ-loop
-add-i c = omega arith
-
-loop-less : tie.Need-loop-less Inv-loop μ-loop
-loop-less c = omega arith
 
 loop-again : tie.Need-loop-again Inv-loop μ-loop
 loop-again c =
@@ -69,9 +42,6 @@ loop-again c =
     (c .before .before .before .wide .ensures)
     (c .before .wide2 .ensures)
     (a .loop .inv))
-
-unmarked-requires : tie.Need-unmarked-requires Inv-loop μ-loop
-unmarked-requires c κs = omega arith
 
 returns : tie.Need-returns Inv-loop μ-loop
 returns c =
@@ -86,16 +56,16 @@ most-parts-spec =
     Inv-loop
     μ-loop
     loop-holds
-    shared-slice-read-mark-later
-    mul-wide
-    shared-slice-read-wide
-    wide-requires
-    mul-wide-2
-    shared-slice-read-wide-2
-    wide-requires-2
+    (λ c. omega arith)
+    (λ c. omega arith)
+    (λ c. omega arith)
+    (λ c κs. search needs)
+    (λ c. omega arith)
+    (λ c. omega arith)
+    (λ c κs. search needs)
     mark-later-requires
-    add-i
-    loop-less
+    (λ c. omega arith)
+    (λ c. omega arith)
     loop-again
-    unmarked-requires
+    (λ c κs. omega arith)
     returns)

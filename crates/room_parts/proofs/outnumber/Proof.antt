@@ -10,16 +10,10 @@ use Rattle.room_parts.proofs.BoundLaws.{passing-le, joined-least, above
 use Rattle.room_parts.proofs.outnumber.Statement.{statement}
 use Rattle.room_parts.proofs.outnumber.Tie as tie
 
-in-state-requires : tie.Need-in-state-requires
-in-state-requires c κs = search needs
-
 sub-left-by : tie.Need-sub-left-by
 sub-left-by c =
     let s = c .before .before .before .before in
     omega (arith, c .in-state .ensures, passing-le (isState 2) (statesIn (now (s .args .states))) (s .args .m))
-
-left-by-requires : tie.Need-left-by-requires
-left-by-requires c κs = search needs
 
 returns : tie.Need-returns
 returns c =
@@ -29,16 +23,10 @@ returns c =
     let b = joined-least (s .args .n) (s .args .m) (now (s .args .us)) (now (s .args .vs)) (now (s .args .states)) (s .pre) (l .left-by .result) (k .in-state .result) (l .left-by .ensures) (k .in-state .ensures) in
     above-least (s .args .count) (l .left-by .result) (c .if1 .taken) b
 
-most-parts-requires : tie.Need-most-parts-requires
-most-parts-requires c κs = search needs
-
 returns-2 : tie.Need-returns-2
 returns-2 c =
     let p = c .before in
     below-most (p .before .before .before .before .before .before .before .args .count) (p .most-parts .result) (c .if2 .taken) (p .most-parts .ensures)
-
-joined-parts-requires : tie.Need-joined-parts-requires
-joined-parts-requires c κs = search needs
 
 returns-3 : tie.Need-returns-3
 returns-3 c = ap (ltb (c .before .before .before .before .before .before .before .before .before .args .count)) (c .joined-parts .ensures)
@@ -47,11 +35,11 @@ pub outnumber-spec : {M : Type 1} → statement M
 outnumber-spec =
     tie.close
     (tie.spec
-    in-state-requires
+    (λ c κs. search needs)
     sub-left-by
-    left-by-requires
+    (λ c κs. search needs)
     returns
-    most-parts-requires
+    (λ c κs. search needs)
     returns-2
-    joined-parts-requires
+    (λ c κs. search needs)
     returns-3)

@@ -41,12 +41,6 @@ add-parts c =
       parts-few (s .args .n) (now (s .args .head)) (now (s .args .next)) (now (s .args .to)) (now (s .args .seen)) (s .pre) (a .loop .seen) (a .loop .parts) (a .loop .s) (a .loop .inv),
     )
 
-add-s : tie.Need-add-s Inv-loop μ-loop
-add-s c = omega arith
-
-loop-less : tie.Need-loop-less Inv-loop μ-loop
-loop-less c = omega arith
-
 loop-again : tie.Need-loop-again Inv-loop μ-loop
 loop-again c =
     let k = c .before .before in
@@ -74,7 +68,7 @@ sweep-spec =
     element-copy-out-if1
     walk-requires
     add-parts
-    add-s
-    loop-less
+    (λ c. omega arith)
+    (λ c. omega arith)
     loop-again
     returns)

@@ -9,12 +9,6 @@ use Rattle.room_parts.proofs.CountLaws.{not-tipped}
 use Rattle.room_parts.proofs.tipped.Statement.{statement}
 use Rattle.room_parts.proofs.tipped.Tie as tie
 
-in-state-requires : tie.Need-in-state-requires
-in-state-requires c κs = search needs
-
-left-by-requires : tie.Need-left-by-requires
-left-by-requires c κs = search needs
-
 returns : tie.Need-returns
 returns c =
     let l = c .before in
@@ -23,11 +17,8 @@ returns c =
     let b = connected-least (s .args .n) (s .args .m) (now (s .args .us)) (now (s .args .vs)) (now (s .args .states)) (s .pre) (l .left-by .result) (k .in-state .result) (l .left-by .ensures) (k .in-state .ensures) in
     not-tipped (graph (s .args .n) (s .args .m) (now (s .args .us)) (now (s .args .vs))) (s .args .count) (statesIn (now (s .args .states))) (omega (arith, c .if1 .taken, b))
 
-counts-below-requires : tie.Need-counts-below-requires
-counts-below-requires c κs = search needs
-
 returns-2 : tie.Need-returns-2
 returns-2 c = c .counts-below .ensures
 
 pub tipped-spec : {M : Type 1} → statement M
-tipped-spec = tie.close (tie.spec in-state-requires left-by-requires returns counts-below-requires returns-2)
+tipped-spec = tie.close (tie.spec (λ c κs. search needs) (λ c κs. search needs) returns (λ c κs. search needs) returns-2)

@@ -22,28 +22,16 @@ loop-holds : tie.Need-loop-holds Inv-loop μ-loop
 unfolding blank
 loop-holds c = (omega arith, refl)
 
-element-copy-out-if1 : tie.Need-element-copy-out-if1 Inv-loop μ-loop
-element-copy-out-if1 c = omega arith
-
 add-k : tie.Need-add-k Inv-loop μ-loop
 add-k c =
     let a = c .before .before .before in
     omega (arith, a .loop .inv .1, blank-le 0 (a .loop .i) (now (a .before .args .marks)))
-
-add-i : tie.Need-add-i Inv-loop μ-loop
-add-i c = omega arith
-
-loop-less : tie.Need-loop-less Inv-loop μ-loop
-loop-less c = omega arith
 
 loop-again : tie.Need-loop-again Inv-loop μ-loop
 loop-again c =
     let a = c .before .before .before in
     let s = a .before in
     (omega arith, ⊎-elim (λ w. rw (w .1) (blank-one (now (s .args .marks)) (a .loop .k) (a .loop .i) (a .loop .inv .1) (w .0 .taken))) (λ w. rw (w .1) (blank-same (now (s .args .marks)) (a .loop .k) (a .loop .i) (a .loop .inv .1) (w .0 .left))) (c .if1 .came))
-
-wide-requires : tie.Need-wide-requires Inv-loop μ-loop
-wide-requires c κs = search needs
 
 returns : tie.Need-returns Inv-loop μ-loop
 returns c =
@@ -58,10 +46,10 @@ unmarked-spec =
     Inv-loop
     μ-loop
     loop-holds
-    element-copy-out-if1
+    (λ c. omega arith)
     add-k
-    add-i
-    loop-less
+    (λ c. omega arith)
+    (λ c. omega arith)
     loop-again
-    wide-requires
+    (λ c κs. search needs)
     returns)

@@ -14,25 +14,10 @@ use borrow.Author.Needs.{needs}
 use Rattle.rooms.proofs.find_inconsistency.Statement.{statement}
 use Rattle.rooms.proofs.find_inconsistency.Tie as tie
 
-slice-aggregate-edges : tie.Need-slice-aggregate-edges
-slice-aggregate-edges c = search needs
-
-slice-aggregate-edges-2 : tie.Need-slice-aggregate-edges-2
-slice-aggregate-edges-2 c = search needs
-
-slice-aggregate-edges-3 : tie.Need-slice-aggregate-edges-3
-slice-aggregate-edges-3 c = search needs
-
 edges-requires : tie.Need-edges-requires
 unfolding blank
 edges-requires c κs =
     let s = c .before .before .before .before .before .before .before .before .before in (s .pre .0, (s .pre .1 .0, blank-space))
-
-slice-aggregate-edge-states : tie.Need-slice-aggregate-edge-states
-slice-aggregate-edge-states c = search needs
-
-slice-aggregate-edge-states-2 : tie.Need-slice-aggregate-edge-states-2
-slice-aggregate-edge-states-2 c = search needs
 
 edge-states-requires : tie.Need-edge-states-requires
 unfolding blank
@@ -40,15 +25,6 @@ edge-states-requires c κs =
     let s = c .before .before .before .before .before .before .before .before .before .before .before .before .before .before .before in
     let e = c .before .before .before .before .before in
     (borders-below (s .args .g) (s .pre .0 .limits) (markedIn (now (s .args .marks))) (now (s .args .ids)) (s .args .room) blank blank blank _ _ _ (e .edges .result) (e .edges .ensures) blank-space _ (s .pre .1 .1 .0), omega (arith, few (s .args .g) (s .pre .0 .limits) (markedIn (now (s .args .marks))) (now (s .args .ids)) (s .args .room) blank blank blank _ _ _ (e .edges .result) (e .edges .ensures) blank-space))
-
-slice-aggregate-find-inconsistency : tie.Need-slice-aggregate-find-inconsistency
-slice-aggregate-find-inconsistency c = search needs
-
-slice-aggregate-find-inconsistency-2 : tie.Need-slice-aggregate-find-inconsistency-2
-slice-aggregate-find-inconsistency-2 c = search needs
-
-slice-aggregate-find-inconsistency-3 : tie.Need-slice-aggregate-find-inconsistency-3
-slice-aggregate-find-inconsistency-3 c = search needs
 
 find-inconsistency-requires : tie.Need-find-inconsistency-requires
 unfolding blank
@@ -58,15 +34,6 @@ find-inconsistency-requires c κs =
     let h = c .before .before .before .before .before in
     let long = ap length (h .edge-states .ensures) ∙ length-sets blank 0 (map (stateOf (now (s .args .states))) (take (e .edges .result) _)) in
     (rw (s .pre .1 .0) (array-lent (s .args .g) (s .pre .0 .limits) (markedIn (now (s .args .marks))) (now (s .args .ids)) (s .args .room) blank blank blank _ _ _ (e .edges .result) (e .edges .ensures) blank-space _ (omega (arith, long, blank-length))), omega (arith, few-borders (s .args .g) (s .pre .0 .limits) (markedIn (now (s .args .marks))) (now (s .args .ids)) (s .args .room) blank blank blank _ _ _ (e .edges .result) (e .edges .ensures) blank-space, s .pre .1 .1 .1))
-
-enum-known-found : tie.Need-enum-known-found
-enum-known-found c = search needs
-
-enum-told : tie.Need-enum-told
-enum-told c = search needs
-
-same-length : tie.Need-same-length
-same-length c = search needs
 
 returns : tie.Need-returns
 unfolding blank
@@ -78,9 +45,6 @@ returns c =
     let r = rw (s .pre .1 .0) at (f .find-inconsistency .ensures) in
     clear-room (s .args .g) (s .pre .0 .limits) (markedIn (now (s .args .marks))) (now (s .args .ids)) (s .args .room) blank blank blank _ _ _ (e .edges .result) (e .edges .ensures) blank-space (s .args .count) (now (s .args .states)) blank _ (omega (arith, blank-length)) (h .edge-states .ensures) (now (s .args .buf)) _ (found-none _ (sym (nothing-found (f .find-inconsistency .result) (c .before .match .keys2)) ∙ r .0)) (r .1)
 
-slice-aggregate-on-board : tie.Need-slice-aggregate-on-board
-slice-aggregate-on-board c = search needs
-
 on-board-requires : tie.Need-on-board-requires
 unfolding blank
 on-board-requires c κs =
@@ -91,9 +55,6 @@ on-board-requires c κs =
     let r = rw (s .pre .1 .0) at (f .find-inconsistency .ensures) in
     let o = found-some _ (c .before .before .before .found .given .0 .0) (sym (c .before .before .before .found .given .1) ∙ r .0) in
     rw (o .2) (entries-listed (s .args .g) (s .pre .0 .limits) (markedIn (now (s .args .marks))) (now (s .args .ids)) (s .args .room) blank blank blank _ _ _ (e .edges .result) (e .edges .ensures) blank-space (s .args .count) (now (s .args .states)) blank _ (omega (arith, blank-length)) (h .edge-states .ensures) (o .0) (o .1) (now (s .args .buf)) _ (r .1) (omega (arith, few-borders (s .args .g) (s .pre .0 .limits) (markedIn (now (s .args .marks))) (now (s .args .ids)) (s .args .room) blank blank blank _ _ _ (e .edges .result) (e .edges .ensures) blank-space, s .pre .1 .1 .1)) blank-at)
-
-same-length-2 : tie.Need-same-length-2
-same-length-2 c = search needs
 
 returns-2 : tie.Need-returns-2
 unfolding blank
@@ -110,22 +71,22 @@ pub find-inconsistency-spec : {M : Type 1} → statement M
 find-inconsistency-spec =
     tie.close
     (tie.spec
-    slice-aggregate-edges
-    slice-aggregate-edges-2
-    slice-aggregate-edges-3
+    (λ c. search needs)
+    (λ c. search needs)
+    (λ c. search needs)
     edges-requires
-    slice-aggregate-edge-states
-    slice-aggregate-edge-states-2
+    (λ c. search needs)
+    (λ c. search needs)
     edge-states-requires
-    slice-aggregate-find-inconsistency
-    slice-aggregate-find-inconsistency-2
-    slice-aggregate-find-inconsistency-3
+    (λ c. search needs)
+    (λ c. search needs)
+    (λ c. search needs)
     find-inconsistency-requires
-    enum-known-found
-    enum-told
-    same-length
+    (λ c. search needs)
+    (λ c. search needs)
+    (λ c. search needs)
     returns
-    slice-aggregate-on-board
+    (λ c. search needs)
     on-board-requires
-    same-length-2
+    (λ c. search needs)
     returns-2)

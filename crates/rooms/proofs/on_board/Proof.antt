@@ -22,26 +22,11 @@ abbrev μ-loop : tie.MeasureT-loop
 loop-holds : tie.Need-loop-holds Inv-loop μ-loop
 loop-holds c = (omega arith, refl, λ j h. refl, refl)
 
-mul-wide : tie.Need-mul-wide Inv-loop μ-loop
-mul-wide c = search needs
-
-slice-read-wide : tie.Need-slice-read-wide Inv-loop μ-loop
-slice-read-wide c = search needs
-
-wide-requires : tie.Need-wide-requires Inv-loop μ-loop
-wide-requires c κs = search needs
-
-mul-wide-2 : tie.Need-mul-wide-2 Inv-loop μ-loop
-mul-wide-2 c = search needs
-
 shared-slice-read-wide : tie.Need-shared-slice-read-wide Inv-loop μ-loop
 shared-slice-read-wide c =
     let s = c .before .before .before .before .before .before .before in
     let a = c .before .before .before .before in
     rw (c .before .wide .ensures, a .loop .inv .2 (a .loop .i) (omega arith)) (s .pre .edges (a .loop .i) (c .before .before .before .loop-test .taken))
-
-wide-requires-2 : tie.Need-wide-requires-2 Inv-loop μ-loop
-wide-requires-2 c κs = search needs
 
 mul-buf : tie.Need-mul-buf Inv-loop μ-loop
 mul-buf c = omega (arith, c .wide2 .ensures, c .before .before .before .before .before .before .before .before .pre .small (c .before .before .wide .result / 2))
@@ -51,18 +36,6 @@ add-buf c = omega (arith, c .wide2 .ensures, c .before .before .before .before .
 
 cast-buf : tie.Need-cast-buf Inv-loop μ-loop
 cast-buf c = omega (arith, c .wide2 .ensures, c .before .before .before .before .before .before .before .before .pre .small (c .before .before .wide .result / 2))
-
-mul-buf-2 : tie.Need-mul-buf-2 Inv-loop μ-loop
-mul-buf-2 c = search needs
-
-slice-write-buf : tie.Need-slice-write-buf Inv-loop μ-loop
-slice-write-buf c = search needs
-
-add-i : tie.Need-add-i Inv-loop μ-loop
-add-i c = search needs
-
-loop-less : tie.Need-loop-less Inv-loop μ-loop
-loop-less c = search needs
 
 loop-again : tie.Need-loop-again Inv-loop μ-loop
 loop-again c =
@@ -92,19 +65,19 @@ on-board-spec =
     Inv-loop
     μ-loop
     loop-holds
-    mul-wide
-    slice-read-wide
-    wide-requires
-    mul-wide-2
+    (λ c. search needs)
+    (λ c. search needs)
+    (λ c κs. search needs)
+    (λ c. search needs)
     shared-slice-read-wide
-    wide-requires-2
+    (λ c κs. search needs)
     mul-buf
     add-buf
     cast-buf
-    mul-buf-2
-    slice-write-buf
-    add-i
-    loop-less
+    (λ c. search needs)
+    (λ c. search needs)
+    (λ c. search needs)
+    (λ c. search needs)
     loop-again
     same-length
     returns)

@@ -6,32 +6,17 @@ use Rattle.rooms.proofs.PutLaws.{walls-fit, marks-fit, roomed}
 use Rattle.rooms.proofs.rooms_of.Statement.{statement}
 use Rattle.rooms.proofs.rooms_of.Tie as tie
 
-slice-aggregate-put : tie.Need-slice-aggregate-put
-slice-aggregate-put c = search needs
-
 put-requires : tie.Need-put-requires
 unfolding unmarked
 put-requires c κs =
     let s = c .before .before .before .before .before in
     walls-fit (s .args .g) (now (s .args .given)) (s .args .len) (s .pre .0)
 
-slice-aggregate-groups-of : tie.Need-slice-aggregate-groups-of
-slice-aggregate-groups-of c = search needs
-
 groups-of-requires : tie.Need-groups-of-requires
 unfolding unmarked
 groups-of-requires c κs =
     let s = c .before .before .before .before .before .before .before .before .before .before .before in
     (rw (c .before .before .before .before .before .put .ensures) (marks-fit (s .args .g) (now (s .args .given)) (s .args .len) (s .pre .0) 2), s .pre .1)
-
-same-length : tie.Need-same-length
-same-length c = search needs
-
-same-length-2 : tie.Need-same-length-2
-same-length-2 c = search needs
-
-same-length-3 : tie.Need-same-length-3
-same-length-3 c = search needs
 
 returns : tie.Need-returns
 unfolding unmarked
@@ -45,11 +30,11 @@ pub rooms-of-spec : {M : Type 1} → statement M
 rooms-of-spec =
     tie.close
     (tie.spec
-    slice-aggregate-put
+    (λ c. search needs)
     put-requires
-    slice-aggregate-groups-of
+    (λ c. search needs)
     groups-of-requires
-    same-length
-    same-length-2
-    same-length-3
+    (λ c. search needs)
+    (λ c. search needs)
+    (λ c. search needs)
     returns)

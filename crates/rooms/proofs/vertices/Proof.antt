@@ -22,9 +22,6 @@ mul-wide c = omega (arith, c .before .before .before .before .before .pre .0 .fe
 shared-slice-read-wide : tie.Need-shared-slice-read-wide Inv-loop μ-loop
 shared-slice-read-wide c = omega (arith, c .before .before .before .before .before .before .pre .0 .long)
 
-wide-requires : tie.Need-wide-requires Inv-loop μ-loop
-wide-requires c κs = search needs
-
 mul-vertex : tie.Need-mul-vertex Inv-loop μ-loop
 mul-vertex c = omega (arith, c .wide .ensures, c .before .shared-slice-known2 .given (c .before .before .before .loop .c))
 
@@ -52,9 +49,6 @@ slice-write-next c = rw (c .before .before .wide .ensures) (group-fits (c .befor
 add-c : tie.Need-add-c Inv-loop μ-loop
 add-c c = omega (arith, c .before .before .before .before .before .before .before .before .before .pre .0 .few)
 
-loop-less : tie.Need-loop-less Inv-loop μ-loop
-loop-less c = omega arith
-
 loop-again : tie.Need-loop-again Inv-loop μ-loop
 loop-again c =
     let s = c .before .before .before .before .before .before .before .before .before in
@@ -78,7 +72,7 @@ vertices-spec =
     loop-holds
     mul-wide
     shared-slice-read-wide
-    wide-requires
+    (λ c κs. search needs)
     mul-vertex
     slice-read-vertex
     mul-vertex-2
@@ -88,7 +82,7 @@ vertices-spec =
     add-next
     slice-write-next
     add-c
-    loop-less
+    (λ c. omega arith)
     loop-again
     same-length
     same-length-2

@@ -10,9 +10,6 @@ use borrow.Author.Needs.{needs}
 use Rattle.shape_check.proofs.find_inconsistency.Statement.{statement}
 use Rattle.shape_check.proofs.find_inconsistency.Tie as tie
 
-check-parts-requires : tie.Need-check-parts-requires
-check-parts-requires c κs = search needs
-
 returns : tie.Need-returns
 returns c =
     let k = c .before in
@@ -44,23 +41,14 @@ shape-fault-requires c κs =
     let long : length (s .args .t1 .states) ≡ 1984 = search needs in
     (fits (s .args .t1) (k .check-parts .ensures) (now (s .args .buffer)) (c .before .before .before .before .before .if1 .left) long, c .before .before .before .before .if2 .left)
 
-enum-known-n : tie.Need-enum-known-n
-enum-known-n c = search needs
-
 enum-told : tie.Need-enum-told
 enum-told c = search needs
-
-same-length : tie.Need-same-length
-same-length c = search needs
 
 returns-3 : tie.Need-returns-3
 returns-3 c =
     let k = c .before .before .before .before .before .before .before .before .before .before .before in
     let s = k .before .before .before .before .before .before .before in
     is-clear (s .args .t1) (k .check-parts .ensures) (now (s .args .buffer)) (c .before .before .before .before .before .before .before .before .before .before .if1 .left) (c .before .before .before .before .before .before .before .before .before .if2 .left) (c .before .before .before .before .shape-fault .ensures) (c .enum-told .given .1)
-
-same-length-2 : tie.Need-same-length-2
-same-length-2 c = search needs
 
 returns-4 : tie.Need-returns-4
 returns-4 c =
@@ -72,15 +60,15 @@ pub find-inconsistency-spec : {M : Type 1} → statement M
 find-inconsistency-spec =
     tie.close
     (tie.spec
-    check-parts-requires
+    (λ c κs. search needs)
     returns
     mul-cells
     mul-if2
     returns-2
     shape-fault-requires
-    enum-known-n
+    (λ c. search needs)
     enum-told
-    same-length
+    (λ c. search needs)
     returns-3
-    same-length-2
+    (λ c. search needs)
     returns-4)

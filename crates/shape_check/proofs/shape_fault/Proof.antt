@@ -6,18 +6,6 @@ use borrow.Author.Needs.{needs}
 use Rattle.shape_check.proofs.shape_fault.Statement.{statement}
 use Rattle.shape_check.proofs.shape_fault.Tie as tie
 
-mul-n : tie.Need-mul-n
-mul-n c = search needs
-
-slice-aggregate-groups-of : tie.Need-slice-aggregate-groups-of
-slice-aggregate-groups-of c = search needs
-
-slice-aggregate-groups-of-2 : tie.Need-slice-aggregate-groups-of-2
-slice-aggregate-groups-of-2 c = search needs
-
-slice-aggregate-groups-of-3 : tie.Need-slice-aggregate-groups-of-3
-slice-aggregate-groups-of-3 c = search needs
-
 groups-of-requires : tie.Need-groups-of-requires
 unfolding blankPlaces
 groups-of-requires c κs = let p = c .before .before .before .before .before .pre in (p .0, arrays-lent (p .0 .limits))
@@ -42,12 +30,6 @@ inner-wall-requires c κs =
     let w = c .before .before .before .before .before in
     let p = w .before .before .before .before .before .before .pre in
     inner-asked (p .0) (w .groups-of .ensures) (p .1)
-
-enum-known-f : tie.Need-enum-known-f
-enum-known-f c = search needs
-
-same-length : tie.Need-same-length
-same-length c = search needs
 
 returns : tie.Need-returns
 unfolding blankPlaces
@@ -76,12 +58,6 @@ slice-aggregate-check-units c =
     let p = w .before .before .before .before .before .before .pre in
     ids-part (p .0 .limits) (w .groups-of .ensures)
 
-slice-aggregate-check-units-2 : tie.Need-slice-aggregate-check-units-2
-slice-aggregate-check-units-2 c = search needs
-
-slice-aggregate-check-units-3 : tie.Need-slice-aggregate-check-units-3
-slice-aggregate-check-units-3 c = search needs
-
 check-units-requires : tie.Need-check-units-requires
 unfolding blankPlaces
 check-units-requires c κs =
@@ -89,9 +65,6 @@ check-units-requires c κs =
     let w = i .before .before .before .before .before .before in
     let p = w .before .before .before .before .before .before .pre in
     staged (p .0) (w .groups-of .ensures) (i .inner-wall .ensures) (p .1)
-
-same-length-2 : tie.Need-same-length-2
-same-length-2 c = search needs
 
 returns-2 : tie.Need-returns-2
 unfolding blankPlaces
@@ -105,22 +78,22 @@ pub shape-fault-spec : {M : Type 1} → statement M
 shape-fault-spec =
     tie.close
     (tie.spec
-    mul-n
-    slice-aggregate-groups-of
-    slice-aggregate-groups-of-2
-    slice-aggregate-groups-of-3
+    (λ c. search needs)
+    (λ c. search needs)
+    (λ c. search needs)
+    (λ c. search needs)
     groups-of-requires
     array-share-prefix-ids
     slice-aggregate-inner-wall
     inner-wall-requires
-    enum-known-f
-    same-length
+    (λ c. search needs)
+    (λ c. search needs)
     returns
     enum-told
     array-share-prefix-ids-2
     slice-aggregate-check-units
-    slice-aggregate-check-units-2
-    slice-aggregate-check-units-3
+    (λ c. search needs)
+    (λ c. search needs)
     check-units-requires
-    same-length-2
+    (λ c. search needs)
     returns-2)

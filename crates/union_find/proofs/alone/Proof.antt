@@ -17,21 +17,6 @@ abbrev μ-loop : tie.MeasureT-loop
 loop-holds : tie.Need-loop-holds Inv-loop μ-loop
 loop-holds c = (omega arith, refl)
 
-cast-p : tie.Need-cast-p Inv-loop μ-loop
-cast-p c = omega arith
-
-mul-p : tie.Need-mul-p Inv-loop μ-loop
-mul-p c = omega arith
-
-element-write-p : tie.Need-element-write-p Inv-loop μ-loop
-element-write-p c = omega arith
-
-add-i : tie.Need-add-i Inv-loop μ-loop
-add-i c = omega arith
-
-loop-less : tie.Need-loop-less Inv-loop μ-loop
-loop-less c = omega arith
-
 loop-again : tie.Need-loop-again Inv-loop μ-loop
 loop-again c =
     let a = c .before in
@@ -49,10 +34,10 @@ alone-spec =
     Inv-loop
     μ-loop
     loop-holds
-    cast-p
-    mul-p
-    element-write-p
-    add-i
-    loop-less
+    (λ c. omega arith)
+    (λ c. omega arith)
+    (λ c. omega arith)
+    (λ c. omega arith)
+    (λ c. omega arith)
     loop-again
     returns)

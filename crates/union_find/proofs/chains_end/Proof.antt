@@ -38,9 +38,6 @@ mul-wide c = omega (arith, root-on c)
 element-copy-out-wide : tie.Need-element-copy-out-wide Inv-loop μ-loop
 element-copy-out-wide c = root-on c
 
-wide-requires : tie.Need-wide-requires Inv-loop μ-loop
-wide-requires c κs = search needs
-
 returns : tie.Need-returns Inv-loop μ-loop
 returns c =
     let a = c .before .before .before .before .before .before in
@@ -50,12 +47,6 @@ returns c =
     (c .before .before .before .before .before .loop-test .taken)
     (f .ensures .0)
     (λ e. c .if1 .taken (c .before .wide .ensures ∙ e))
-
-add-i : tie.Need-add-i Inv-loop μ-loop
-add-i c = omega arith
-
-loop-less : tie.Need-loop-less Inv-loop μ-loop
-loop-less c = omega arith
 
 loop-again : tie.Need-loop-again Inv-loop μ-loop
 loop-again c =
@@ -87,9 +78,9 @@ chains-end-spec =
     find-in-requires
     mul-wide
     element-copy-out-wide
-    wide-requires
+    (λ c κs. search needs)
     returns
-    add-i
-    loop-less
+    (λ c. omega arith)
+    (λ c. omega arith)
     loop-again
     returns-2)

@@ -13,9 +13,6 @@ use Rattle.union_find.proofs.find.Tie as tie
 returns : tie.Need-returns
 returns c = simp (lt-ltb _ _ (c .if1 .taken))
 
-holds-requires : tie.Need-holds-requires
-holds-requires c κs = search needs
-
 returns-2 : tie.Need-returns-2
 returns-2 c =
     let u = c .before .before .before .args .u in
@@ -43,4 +40,4 @@ returns-4 c =
 
 pub find-spec : {M : Type 1} → statement M
 find-spec =
-    tie.close (tie.spec returns holds-requires returns-2 returns-3 find-in-requires returns-4)
+    tie.close (tie.spec returns (λ c κs. search needs) returns-2 returns-3 find-in-requires returns-4)

@@ -8,9 +8,6 @@ use Rattle.union_find.proofs.HoldLaws.{holds-first, holds-second}
 use Rattle.union_find.proofs.holds.Statement.{statement}
 use Rattle.union_find.proofs.holds.Tie as tie
 
-parents-exist-requires : tie.Need-parents-exist-requires
-parents-exist-requires c κs = search needs
-
 returns : tie.Need-returns
 returns c =
     let u = c .before .before .before .before .args .u in
@@ -30,4 +27,4 @@ returns-2 c =
     holds-second (u .n) (u .parent) (sym (k .before .parents-exist .ensures) ∙ not-false _ (k .if1 .left)) (c .chains-end .ensures)
 
 pub holds-spec : {M : Type 1} → statement M
-holds-spec = tie.close (tie.spec parents-exist-requires returns chains-end-requires returns-2)
+holds-spec = tie.close (tie.spec (λ c κs. search needs) returns chains-end-requires returns-2)

@@ -10,12 +10,9 @@ returns : tie.Need-returns
 unfolding zeros
 returns c = simp (lt-ltb _ _ (c .if1 .taken))
 
-alone-requires : tie.Need-alone-requires
-alone-requires c κs = search needs
-
 returns-2 : tie.Need-returns-2
 unfolding zeros
 returns-2 c = simp (le-ltb _ _ (c .before .before .if1 .left), c .alone .ensures)
 
 pub new-spec : {M : Type 1} → statement M
-new-spec = tie.close (tie.spec returns alone-requires returns-2)
+new-spec = tie.close (tie.spec returns (λ c κs. search needs) returns-2)

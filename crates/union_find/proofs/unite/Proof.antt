@@ -12,9 +12,6 @@ use Rattle.union_find.proofs.unite.Tie as tie
 returns : tie.Need-returns
 returns c = simp (lt-ltb _ _ (c .if1 .taken))
 
-holds-requires : tie.Need-holds-requires
-holds-requires c κs = search needs
-
 returns-2 : tie.Need-returns-2
 returns-2 c =
     let u = c .before .before .before .args .u in
@@ -54,4 +51,4 @@ returns-5 c =
 pub unite-spec : {M : Type 1} → statement M
 unite-spec =
     tie.close
-    (tie.spec returns holds-requires returns-2 returns-3 returns-4 unite-in-requires returns-5)
+    (tie.spec returns (λ c κs. search needs) returns-2 returns-3 returns-4 unite-in-requires returns-5)

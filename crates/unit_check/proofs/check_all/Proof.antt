@@ -30,9 +30,6 @@ check-unit-requires c κs =
     let p = l .before .before .before .before .before .before .before .before .before .before .before .before .before .before .before .pre in
     (units-on (p .0) (l .loop .inv .2) (l .loop .inv .3) (ap length (l .loop .inv .0 .same)), (l .loop .inv .1, i .loop-test .taken))
 
-enum-known-f : tie.Need-enum-known-f Inv-loop μ-loop
-enum-known-f c = search needs
-
 same-length : tie.Need-same-length Inv-loop μ-loop
 same-length c =
     let k = c .before .before .before .before .before .before .before .before .before in
@@ -71,9 +68,6 @@ add-unit c =
     let p = i .before .before .before .before .before .before .before .before .before .before .before .before .before .before .before .before .pre .0 in
     omega (arith, i .loop-test .taken, p .units .few, cells-le _ (p .limits))
 
-loop-less : tie.Need-loop-less Inv-loop μ-loop
-loop-less c = omega arith
-
 loop-again : tie.Need-loop-again Inv-loop μ-loop
 loop-again c =
     let k = c .before .before .before .before .before .before .before .before in
@@ -101,14 +95,14 @@ check-all-spec =
     μ-loop
     loop-holds
     check-unit-requires
-    enum-known-f
+    (λ c. search needs)
     same-length
     same-length-2
     same-length-3
     returns
     enum-told
     add-unit
-    loop-less
+    (λ c. omega arith)
     loop-again
     same-length-4
     same-length-5

@@ -6,29 +6,8 @@ use borrow.Author.Needs.{needs}
 use Rattle.unit_check.proofs.check_large.Statement.{statement}
 use Rattle.unit_check.proofs.check_large.Tie as tie
 
-slice-aggregate-check-with : tie.Need-slice-aggregate-check-with
-slice-aggregate-check-with c = search needs
-
-slice-aggregate-check-with-2 : tie.Need-slice-aggregate-check-with-2
-slice-aggregate-check-with-2 c = search needs
-
-slice-aggregate-check-with-3 : tie.Need-slice-aggregate-check-with-3
-slice-aggregate-check-with-3 c = search needs
-
-slice-aggregate-check-with-4 : tie.Need-slice-aggregate-check-with-4
-slice-aggregate-check-with-4 c = search needs
-
-slice-aggregate-check-with-5 : tie.Need-slice-aggregate-check-with-5
-slice-aggregate-check-with-5 c = search needs
-
-slice-aggregate-check-with-6 : tie.Need-slice-aggregate-check-with-6
-slice-aggregate-check-with-6 c = search needs
-
 check-with-requires : tie.Need-check-with-requires
 check-with-requires c κs = let p = c .before .before .before .before .before .before .before .before .before .before .before .before .before .before .before .pre in (p .0, (p .1, scratch _ 1024 1025 4096 (cells-le _ (p .0 .limits)) (omega arith) (omega arith)))
-
-same-length : tie.Need-same-length
-same-length c = search needs
 
 returns : tie.Need-returns
 returns c = c .before .before .before .before .before .before .before .before .check-with .ensures
@@ -37,12 +16,12 @@ pub check-large-spec : {M : Type 1} → statement M
 check-large-spec =
     tie.close
     (tie.spec
-    slice-aggregate-check-with
-    slice-aggregate-check-with-2
-    slice-aggregate-check-with-3
-    slice-aggregate-check-with-4
-    slice-aggregate-check-with-5
-    slice-aggregate-check-with-6
+    (λ c. search needs)
+    (λ c. search needs)
+    (λ c. search needs)
+    (λ c. search needs)
+    (λ c. search needs)
+    (λ c. search needs)
     check-with-requires
-    same-length
+    (λ c. search needs)
     returns)

@@ -8,21 +8,6 @@ use borrow.Author.Needs.{needs}
 use Rattle.unit_check.proofs.check_unit.Statement.{statement}
 use Rattle.unit_check.proofs.check_unit.Tie as tie
 
-mul-wide : tie.Need-mul-wide
-mul-wide c = search needs
-
-shared-slice-read-wide : tie.Need-shared-slice-read-wide
-shared-slice-read-wide c = search needs
-
-wide-requires : tie.Need-wide-requires
-wide-requires c κs = search needs
-
-mul-end-of : tie.Need-mul-end-of
-mul-end-of c = search needs
-
-end-of-requires : tie.Need-end-of-requires
-end-of-requires c κs = search needs
-
 mul-wide-2 : tie.Need-mul-wide-2
 mul-wide-2 c =
     let e = c in
@@ -34,9 +19,6 @@ shared-slice-read-wide-2 c =
     let e = c .before in
     let p = e .before .before .before .before .before .before .before .before .before .before .before .before .before .before .before .before .before .pre in
     omega (arith, from-cells (p .0) (p .1 .1) (e .before .wide .ensures) (e .end-of .ensures), p .0 .units .flat-long)
-
-wide-requires-2 : tie.Need-wide-requires-2
-wide-requires-2 c κs = search needs
 
 mul-wide-3 : tie.Need-mul-wide-3
 mul-wide-3 c =
@@ -51,9 +33,6 @@ shared-slice-read-wide-3 c =
     let e = w .before .before in
     let p = e .before .before .before .before .before .before .before .before .before .before .before .before .before .before .before .before .before .pre in
     omega (arith, first-cell (p .0) (p .1 .1) (e .before .wide .ensures) (e .end-of .ensures) (w .wide2 .ensures), p .0 .potentials .ids-long)
-
-wide-requires-3 : tie.Need-wide-requires-3
-wide-requires-3 c κs = search needs
 
 mark-adjacent-requires : tie.Need-mark-adjacent-requires
 mark-adjacent-requires c κs =
@@ -113,15 +92,6 @@ unmark-adjacent-requires c κs =
     let p = e .before .before .before .before .before .before .before .before .before .before .before .before .before .before .before .before .before .pre in
     own-marking (p .0) (p .1 .1) (e .before .wide .ensures) (e .end-of .ensures) (w .wide2 .ensures) (v .wide3 .ensures) _ (m .mark-adjacent .kept .1 .1 .1 .0)
 
-same-length : tie.Need-same-length
-same-length c = search needs
-
-same-length-2 : tie.Need-same-length-2
-same-length-2 c = search needs
-
-same-length-3 : tie.Need-same-length-3
-same-length-3 c = search needs
-
 returns : tie.Need-returns
 returns c =
     let t = c .before .before .before .before .before .before .before .before in
@@ -136,17 +106,17 @@ pub check-unit-spec : {M : Type 1} → statement M
 check-unit-spec =
     tie.close
     (tie.spec
-    mul-wide
-    shared-slice-read-wide
-    wide-requires
-    mul-end-of
-    end-of-requires
+    (λ c. search needs)
+    (λ c. search needs)
+    (λ c κs. search needs)
+    (λ c. search needs)
+    (λ c κs. search needs)
     mul-wide-2
     shared-slice-read-wide-2
-    wide-requires-2
+    (λ c κs. search needs)
     mul-wide-3
     shared-slice-read-wide-3
-    wide-requires-3
+    (λ c κs. search needs)
     mark-adjacent-requires
     mul-try-unit
     sub-try-unit
@@ -154,7 +124,7 @@ check-unit-spec =
     part-try-unit-end
     try-unit-requires
     unmark-adjacent-requires
-    same-length
-    same-length-2
-    same-length-3
+    (λ c. search needs)
+    (λ c. search needs)
+    (λ c. search needs)
     returns)

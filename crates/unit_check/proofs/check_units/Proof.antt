@@ -6,18 +6,6 @@ use borrow.Author.Needs.{needs}
 use Rattle.unit_check.proofs.check_units.Statement.{statement}
 use Rattle.unit_check.proofs.check_units.Tie as tie
 
-mul-n : tie.Need-mul-n
-mul-n c = search needs
-
-slice-aggregate-groups-of : tie.Need-slice-aggregate-groups-of
-slice-aggregate-groups-of c = search needs
-
-slice-aggregate-groups-of-2 : tie.Need-slice-aggregate-groups-of-2
-slice-aggregate-groups-of-2 c = search needs
-
-slice-aggregate-groups-of-3 : tie.Need-slice-aggregate-groups-of-3
-slice-aggregate-groups-of-3 c = search needs
-
 groups-of-requires : tie.Need-groups-of-requires
 unfolding blankPlaces
 groups-of-requires c κs = let p = c .before .before .before .before .before .before .before .before .pre in (board-fits p, arrays-lent (p .limits))
@@ -30,18 +18,9 @@ slice-aggregate-check-small : tie.Need-slice-aggregate-check-small
 unfolding blankPlaces
 slice-aggregate-check-small c = ids-part (c .before .before .before .before .before .before .before .before .before .before .before .before .before .before .pre .limits) (c .before .before .before .before .before .groups-of .ensures)
 
-slice-aggregate-check-small-2 : tie.Need-slice-aggregate-check-small-2
-slice-aggregate-check-small-2 c = search needs
-
-slice-aggregate-check-small-3 : tie.Need-slice-aggregate-check-small-3
-slice-aggregate-check-small-3 c = search needs
-
 check-small-requires : tie.Need-check-small-requires
 unfolding blankPlaces
 check-small-requires c κs = let p = c .before .before .before .before .before .before .before .before .before .before .before .before .before .before .before .before .before .pre in (p, (potentials p (c .before .before .before .before .before .before .before .before .groups-of .ensures), c .before .before .before .before .if1 .taken))
-
-same-length : tie.Need-same-length
-same-length c = search needs
 
 returns : tie.Need-returns
 unfolding blankPlaces
@@ -55,18 +34,9 @@ slice-aggregate-check-large : tie.Need-slice-aggregate-check-large
 unfolding blankPlaces
 slice-aggregate-check-large c = ids-part (c .before .before .before .before .before .before .before .before .before .before .before .before .before .before .pre .limits) (c .before .before .before .before .before .groups-of .ensures)
 
-slice-aggregate-check-large-2 : tie.Need-slice-aggregate-check-large-2
-slice-aggregate-check-large-2 c = search needs
-
-slice-aggregate-check-large-3 : tie.Need-slice-aggregate-check-large-3
-slice-aggregate-check-large-3 c = search needs
-
 check-large-requires : tie.Need-check-large-requires
 unfolding blankPlaces
 check-large-requires c κs = let p = c .before .before .before .before .before .before .before .before .before .before .before .before .before .before .before .before .before .pre in (p, potentials p (c .before .before .before .before .before .before .before .before .groups-of .ensures))
-
-same-length-2 : tie.Need-same-length-2
-same-length-2 c = search needs
 
 returns-2 : tie.Need-returns-2
 unfolding blankPlaces
@@ -76,22 +46,22 @@ pub check-units-spec : {M : Type 1} → statement M
 check-units-spec =
     tie.close
     (tie.spec
-    mul-n
-    slice-aggregate-groups-of
-    slice-aggregate-groups-of-2
-    slice-aggregate-groups-of-3
+    (λ c. search needs)
+    (λ c. search needs)
+    (λ c. search needs)
+    (λ c. search needs)
     groups-of-requires
     array-share-prefix-pids
     slice-aggregate-check-small
-    slice-aggregate-check-small-2
-    slice-aggregate-check-small-3
+    (λ c. search needs)
+    (λ c. search needs)
     check-small-requires
-    same-length
+    (λ c. search needs)
     returns
     array-share-prefix-pids-2
     slice-aggregate-check-large
-    slice-aggregate-check-large-2
-    slice-aggregate-check-large-3
+    (λ c. search needs)
+    (λ c. search needs)
     check-large-requires
-    same-length-2
+    (λ c. search needs)
     returns-2)

@@ -4,32 +4,17 @@ use borrow.Author.Needs.{needs}
 use Rattle.unit_check.proofs.try_unit.Statement.{statement}
 use Rattle.unit_check.proofs.try_unit.Tie as tie
 
-cast-try-all : tie.Need-cast-try-all
-cast-try-all c = search needs
-
 try-all-requires : tie.Need-try-all-requires
 try-all-requires c κs = let p = c .before .before .before .before .before .before .before .before .before .before .before .before .pre in (trials p, room-enough p)
 
-enum-known-n : tie.Need-enum-known-n
-enum-known-n c = search needs
-
 enum-told : tie.Need-enum-told
 enum-told c = search needs
-
-same-length : tie.Need-same-length
-same-length c = search needs
 
 returns : tie.Need-returns
 returns c = let t = c .before .before .before .before in unit-fits (t .before .before .before .before .before .before .before .before .before .before .before .before .before .pre) (t .try-all .ensures) (c .enum-told .given .1)
 
 write-list-requires : tie.Need-write-list-requires
 write-list-requires c κs = let t = c .before .before .before .before .before .before .before in writing (t .before .before .before .before .before .before .before .before .before .before .before .before .before .pre) (t .try-all .ensures) (c .before .before .before .n .given .1)
-
-same-length-2 : tie.Need-same-length-2
-same-length-2 c = search needs
-
-same-length-3 : tie.Need-same-length-3
-same-length-3 c = search needs
 
 returns-2 : tie.Need-returns-2
 returns-2 c = let t = c .before .before .before .before .before .before .before .before .before .before in unit-fails (t .before .before .before .before .before .before .before .before .before .before .before .before .before .pre) (t .try-all .ensures) (c .before .before .before .before .before .before .n .given .1) (c .before .before .write-list .ensures)
@@ -38,13 +23,13 @@ pub try-unit-spec : {M : Type 1} → statement M
 try-unit-spec =
     tie.close
     (tie.spec
-    cast-try-all
+    (λ c. search needs)
     try-all-requires
-    enum-known-n
+    (λ c. search needs)
     enum-told
-    same-length
+    (λ c. search needs)
     returns
     write-list-requires
-    same-length-2
-    same-length-3
+    (λ c. search needs)
+    (λ c. search needs)
     returns-2)

@@ -5,15 +5,6 @@ use Rattle.exports.specs.Listings.{boundaryListing}
 use Rattle.exports.proofs.boundaries.sendai_potential_unit_boundary.Statement.{statement}
 use Rattle.exports.proofs.boundaries.sendai_potential_unit_boundary.Tie as tie
 
-reason-for-potential-unit-boundary-requires : tie.Need-reason-for-potential-unit-boundary-requires
-reason-for-potential-unit-boundary-requires c κs = search needs
-
-of-boundary-requires : tie.Need-of-boundary-requires
-of-boundary-requires c κs = search needs
-
-same-length : tie.Need-same-length
-same-length c = search needs
-
 returns : tie.Need-returns
 returns c =
     let listed = c .before .before .before .reason-for-potential-unit-boundary .ensures in
@@ -21,4 +12,4 @@ returns c =
 
 pub sendai-potential-unit-boundary-spec : {M : Type 1} → statement M
 sendai-potential-unit-boundary-spec =
-    tie.close (tie.spec reason-for-potential-unit-boundary-requires of-boundary-requires same-length returns)
+    tie.close (tie.spec (λ c κs. search needs) (λ c κs. search needs) (λ c. search needs) returns)

@@ -5,15 +5,6 @@ use Rattle.exports.specs.Listings.{boundaryListing}
 use Rattle.exports.proofs.boundaries.sendai_unit_boundary.Statement.{statement}
 use Rattle.exports.proofs.boundaries.sendai_unit_boundary.Tie as tie
 
-reason-for-unit-and-its-boundary-requires : tie.Need-reason-for-unit-and-its-boundary-requires
-reason-for-unit-and-its-boundary-requires c κs = search needs
-
-of-boundary-requires : tie.Need-of-boundary-requires
-of-boundary-requires c κs = search needs
-
-same-length : tie.Need-same-length
-same-length c = search needs
-
 returns : tie.Need-returns
 returns c =
     let listed = c .before .before .before .reason-for-unit-and-its-boundary .ensures in
@@ -21,4 +12,4 @@ returns c =
 
 pub sendai-unit-boundary-spec : {M : Type 1} → statement M
 sendai-unit-boundary-spec =
-    tie.close (tie.spec reason-for-unit-and-its-boundary-requires of-boundary-requires same-length returns)
+    tie.close (tie.spec (λ c κs. search needs) (λ c κs. search needs) (λ c. search needs) returns)

@@ -6,15 +6,6 @@ use Rattle.exports.proofs.files.call_fields.Tie as tie
 enum-told : tie.Need-enum-told
 enum-told c = search needs
 
-enum-known-call : tie.Need-enum-known-call
-enum-known-call c = search needs
-
-kind-of-requires : tie.Need-kind-of-requires
-kind-of-requires c κs = search needs
-
-enum-told-2 : tie.Need-enum-told-2
-enum-told-2 c = search needs
-
 returns : tie.Need-returns
 returns c = rw (c .enum-told .given .1)
 
@@ -27,4 +18,4 @@ returns-3 c = rw (c .enum-told2 .given .1)
 pub call-fields-spec : {M : Type 1} → statement M
 call-fields-spec =
     tie.close
-    (tie.spec enum-told enum-known-call kind-of-requires enum-told-2 returns returns-2 returns-3)
+    (tie.spec enum-told (λ c. search needs) (λ c κs. search needs) (λ c. search needs) returns returns-2 returns-3)

@@ -3,9 +3,6 @@ use borrow.Author.Needs.{needs}
 use Rattle.exports.proofs.files.parts_of.Statement.{statement}
 use Rattle.exports.proofs.files.parts_of.Tie as tie
 
-enum-known-file : tie.Need-enum-known-file
-enum-known-file c = search needs
-
 enum-told : tie.Need-enum-told
 enum-told c = search needs
 
@@ -16,4 +13,4 @@ returns-2 : tie.Need-returns-2
 returns-2 c = rw (c .enum-told .given .1)
 
 pub parts-of-spec : {M : Type 1} → statement M
-parts-of-spec = tie.close (tie.spec enum-known-file enum-told returns returns-2)
+parts-of-spec = tie.close (tie.spec (λ c. search needs) enum-told returns returns-2)

@@ -5,14 +5,8 @@ use Rattle.exports.specs.Files.{stepFields}
 use Rattle.exports.proofs.files.sendai_file_call.Statement.{statement}
 use Rattle.exports.proofs.files.sendai_file_call.Tie as tie
 
-call-at-requires : tie.Need-call-at-requires
-call-at-requires c κs = search needs
-
-step-fields-requires : tie.Need-step-fields-requires
-step-fields-requires c κs = search needs
-
 returns : tie.Need-returns
 returns c = c .step-fields .ensures ∙ ap stepFields (c .before .call-at .ensures)
 
 pub sendai-file-call-spec : {M : Type 1} → statement M
-sendai-file-call-spec = tie.close (tie.spec call-at-requires step-fields-requires returns)
+sendai-file-call-spec = tie.close (tie.spec (λ c κs. search needs) (λ c κs. search needs) returns)

@@ -3,12 +3,6 @@ use borrow.Author.Needs.{needs}
 use Rattle.exports.proofs.files.step_fields.Statement.{statement}
 use Rattle.exports.proofs.files.step_fields.Tie as tie
 
-enum-known-step : tie.Need-enum-known-step
-enum-known-step c = search needs
-
-call-fields-requires : tie.Need-call-fields-requires
-call-fields-requires c κs = search needs
-
 enum-told : tie.Need-enum-told
 enum-told c = search needs
 
@@ -20,4 +14,4 @@ returns-2 c = rw (c .enum-told .given .1)
 
 pub step-fields-spec : {M : Type 1} → statement M
 step-fields-spec =
-    tie.close (tie.spec enum-known-step call-fields-requires enum-told returns returns-2)
+    tie.close (tie.spec (λ c. search needs) (λ c κs. search needs) enum-told returns returns-2)

@@ -1,18 +1,9 @@
 -- `exports::groupings::sendai_group` meets its contract: what is copied is the part that was handed out. Assumes nothing.
-use mathlib.Core.Path.{ap, _∙_}
+use mathlib.Core.Path.{ap}
 use lib.ListN.{length}
 use borrow.Author.Needs.{needs}
 use Rattle.exports.proofs.groupings.sendai_group.Statement.{statement}
 use Rattle.exports.proofs.groupings.sendai_group.Tie as tie
-
-group-requires : tie.Need-group-requires
-group-requires c κs = search needs
-
-copy-requires : tie.Need-copy-requires
-copy-requires c κs = search needs
-
-same-length : tie.Need-same-length
-same-length c = search needs
 
 returns : tie.Need-returns
 returns c =
@@ -21,4 +12,4 @@ returns c =
     (ap length (handed .group .ensures .0), rw (← handed .group .ensures .0) (copied .copy .ensures))
 
 pub sendai-group-spec : {M : Type 1} → statement M
-sendai-group-spec = tie.close (tie.spec group-requires copy-requires same-length returns)
+sendai-group-spec = tie.close (tie.spec (λ c κs. search needs) (λ c κs. search needs) (λ c. search needs) returns)

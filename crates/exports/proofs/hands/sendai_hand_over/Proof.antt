@@ -12,15 +12,6 @@ by-paper : (h : Handed) → handListing h ≡ paperListing (paper h)
 by-paper (Written n) = refl
 by-paper (Refused k) = refl
 
-hand-over-requires : tie.Need-hand-over-requires
-hand-over-requires c κs = search needs
-
-of-hand-requires : tie.Need-of-hand-requires
-of-hand-requires c κs = search needs
-
-same-length : tie.Need-same-length
-same-length c = search needs
-
 returns : tie.Need-returns
 returns c =
     let handed = c .before .before .before .hand-over in
@@ -28,4 +19,4 @@ returns c =
 
 pub sendai-hand-over-spec : {M : Type 1} → statement M
 sendai-hand-over-spec =
-    tie.close (tie.spec hand-over-requires of-hand-requires same-length returns)
+    tie.close (tie.spec (λ c κs. search needs) (λ c κs. search needs) (λ c. search needs) returns)

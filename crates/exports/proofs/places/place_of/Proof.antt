@@ -3,14 +3,8 @@ use borrow.Author.Needs.{needs}
 use Rattle.exports.proofs.places.place_of.Statement.{statement}
 use Rattle.exports.proofs.places.place_of.Tie as tie
 
-enum-known-beyond : tie.Need-enum-known-beyond
-enum-known-beyond c = search needs
-
 enum-told : tie.Need-enum-told
 enum-told c = search needs
-
-enum-known-beyond-2 : tie.Need-enum-known-beyond-2
-enum-known-beyond-2 c = search needs
 
 returns : tie.Need-returns
 returns c = rw (c .before .beyond .given .1)
@@ -24,4 +18,4 @@ returns-3 c = rw (c .before .beyond2 .given .1)
 pub place-of-spec : {M : Type 1} → statement M
 place-of-spec =
     tie.close
-    (tie.spec enum-known-beyond enum-told enum-known-beyond-2 returns returns-2 returns-3)
+    (tie.spec (λ c. search needs) enum-told (λ c. search needs) returns returns-2 returns-3)

@@ -4,9 +4,6 @@ use borrow.Author.Tests.{ne-eqb}
 use Rattle.exports.proofs.prints.line_of.Statement.{statement}
 use Rattle.exports.proofs.prints.line_of.Tie as tie
 
-cast-t5 : tie.Need-cast-t5
-cast-t5 c = search needs
-
 returns : tie.Need-returns
 returns c = rw (c .match .keys1)
 
@@ -35,4 +32,4 @@ returns-6 c =
 
 pub line-of-spec : {M : Type 1} → statement M
 line-of-spec =
-    tie.close (tie.spec cast-t5 returns returns-2 returns-3 returns-4 returns-5 returns-6)
+    tie.close (tie.spec (λ c. search needs) returns returns-2 returns-3 returns-4 returns-5 returns-6)

@@ -6,15 +6,6 @@ use Rattle.lines.specs.Line.{lengthIn, printedTo}
 use Rattle.exports.proofs.prints.sendai_line.Statement.{statement}
 use Rattle.exports.proofs.prints.sendai_line.Tie as tie
 
-line-of-requires : tie.Need-line-of-requires
-line-of-requires c κs = search needs
-
-write-line-requires : tie.Need-write-line-requires
-write-line-requires c κs = search needs
-
-same-length : tie.Need-same-length
-same-length c = search needs
-
 returns : tie.Need-returns
 returns c =
     let wrote = c .before .before .write-line .ensures in
@@ -25,4 +16,4 @@ returns c =
     )
 
 pub sendai-line-spec : {M : Type 1} → statement M
-sendai-line-spec = tie.close (tie.spec line-of-requires write-line-requires same-length returns)
+sendai-line-spec = tie.close (tie.spec (λ c κs. search needs) (λ c κs. search needs) (λ c. search needs) returns)

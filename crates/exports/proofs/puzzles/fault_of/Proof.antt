@@ -6,9 +6,6 @@ use Rattle.exports.proofs.puzzles.fault_of.Tie as tie
 enum-told : tie.Need-enum-told
 enum-told c = search needs
 
-enum-known-check : tie.Need-enum-known-check
-enum-known-check c = search needs
-
 returns : tie.Need-returns
 returns c = rw (c .enum-told .given .1)
 
@@ -16,4 +13,4 @@ returns-2 : tie.Need-returns-2
 returns-2 c = rw (c .before .check .given .1)
 
 pub fault-of-spec : {M : Type 1} → statement M
-fault-of-spec = tie.close (tie.spec enum-told enum-known-check returns returns-2)
+fault-of-spec = tie.close (tie.spec enum-told (λ c. search needs) returns returns-2)

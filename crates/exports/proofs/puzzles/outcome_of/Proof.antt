@@ -6,15 +6,6 @@ use Rattle.exports.proofs.puzzles.outcome_of.Tie as tie
 enum-told : tie.Need-enum-told
 enum-told c = search needs
 
-enum-known-answer : tie.Need-enum-known-answer
-enum-known-answer c = search needs
-
-fault-of-requires : tie.Need-fault-of-requires
-fault-of-requires c κs = search needs
-
-enum-known-answer-2 : tie.Need-enum-known-answer-2
-enum-known-answer-2 c = search needs
-
 returns : tie.Need-returns
 returns c = rw (c .enum-told .given .1)
 
@@ -29,9 +20,9 @@ outcome-of-spec =
     tie.close
     (tie.spec
     enum-told
-    enum-known-answer
-    fault-of-requires
-    enum-known-answer-2
+    (λ c. search needs)
+    (λ c κs. search needs)
+    (λ c. search needs)
     returns
     returns-2
     returns-3)

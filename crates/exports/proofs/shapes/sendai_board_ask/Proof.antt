@@ -5,19 +5,10 @@ use Rattle.exports.specs.Shapes.{shapeVerdict}
 use Rattle.exports.proofs.shapes.sendai_board_ask.Statement.{statement}
 use Rattle.exports.proofs.shapes.sendai_board_ask.Tie as tie
 
-find-inconsistency-requires : tie.Need-find-inconsistency-requires
-find-inconsistency-requires c κs = search needs
-
-verdict-of-requires : tie.Need-verdict-of-requires
-verdict-of-requires c κs = search needs
-
-same-length : tie.Need-same-length
-same-length c = search needs
-
 returns : tie.Need-returns
 returns c =
     let asked = c .before .before .before .find-inconsistency .ensures in
     (c .verdict-of .ensures ∙ ap shapeVerdict (asked .0), asked .1)
 
 pub sendai-board-ask-spec : {M : Type 1} → statement M
-sendai-board-ask-spec = tie.close (tie.spec find-inconsistency-requires verdict-of-requires same-length returns)
+sendai-board-ask-spec = tie.close (tie.spec (λ c κs. search needs) (λ c κs. search needs) (λ c. search needs) returns)

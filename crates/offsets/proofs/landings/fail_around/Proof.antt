@@ -1,6 +1,6 @@
 -- `offsets::landings::fail_around` meets its contract: the first of four directions. Assumes nothing.
 use mathlib.Core.Path.{sym, ap, _∙_}
-use mathlib.Core.Bool.{true, false}
+use mathlib.Core.Bool.{false}
 use mathlib.Core.List.{[], _∷_}
 use denote.Ref.{now}
 use Rattle.grid.specs.declared.Direction.the-variants.{Up, Down, Left, Right}
@@ -9,12 +9,6 @@ use Rattle.offsets.proofs.FailLaws.{fail-hit, fail-miss, fail-last}
 use borrow.Author.Needs.{needs}
 use Rattle.offsets.proofs.landings.fail_around.Statement.{statement}
 use Rattle.offsets.proofs.landings.fail_around.Tie as tie
-
-fails-requires : tie.Need-fails-requires
-fails-requires c κs = search needs
-
-enum-known-up : tie.Need-enum-known-up
-enum-known-up c = search needs
 
 returns : tie.Need-returns
 returns c =
@@ -25,27 +19,12 @@ returns c =
 enum-told : tie.Need-enum-told
 enum-told c = search needs
 
-fails-requires-2 : tie.Need-fails-requires-2
-fails-requires-2 c κs = search needs
-
-enum-known-down : tie.Need-enum-known-down
-enum-known-down c = search needs
-
 returns-2 : tie.Need-returns-2
 returns-2 c =
     let s = c .before .before .before .before .before .before .before .before .before in
     let f = failAt (s .args .g) (s .args .s) (now (s .args .states)) (now (s .args .ids)) false (s .args .unit) (s .args .c) in
     let m1 = fail-miss f Up (Down ∷ Left ∷ Right ∷ []) (sym (c .before .before .before .before .enum-told .given .1) ∙ c .before .before .before .before .before .before .fails .ensures) in
     fail-hit f Down (Left ∷ Right ∷ []) (c .before .down .given .0 .0) (sym (c .before .down .given .1) ∙ c .before .before .before .fails2 .ensures) ∙ ap failOf m1
-
-enum-told-2 : tie.Need-enum-told-2
-enum-told-2 c = search needs
-
-fails-requires-3 : tie.Need-fails-requires-3
-fails-requires-3 c κs = search needs
-
-enum-known-left : tie.Need-enum-known-left
-enum-known-left c = search needs
 
 returns-3 : tie.Need-returns-3
 returns-3 c =
@@ -54,12 +33,6 @@ returns-3 c =
     let m1 = fail-miss f Up (Down ∷ Left ∷ Right ∷ []) (sym (c .before .before .before .before .before .before .before .enum-told .given .1) ∙ c .before .before .before .before .before .before .before .before .before .fails .ensures) in
     let m2 = fail-miss f Down (Left ∷ Right ∷ []) (sym (c .before .before .before .before .enum-told2 .given .1) ∙ c .before .before .before .before .before .before .fails2 .ensures) in
     fail-hit f Left (Right ∷ []) (c .before .left .given .0 .0) (sym (c .before .left .given .1) ∙ c .before .before .before .fails3 .ensures) ∙ ap failOf (m2 ∙ m1)
-
-enum-told-3 : tie.Need-enum-told-3
-enum-told-3 c = search needs
-
-fails-requires-4 : tie.Need-fails-requires-4
-fails-requires-4 c κs = search needs
 
 returns-4 : tie.Need-returns-4
 returns-4 c =
@@ -74,17 +47,17 @@ pub fail-around-spec : {M : Type 1} → statement M
 fail-around-spec =
     tie.close
     (tie.spec
-    fails-requires
-    enum-known-up
+    (λ c κs. search needs)
+    (λ c. search needs)
     returns
     enum-told
-    fails-requires-2
-    enum-known-down
+    (λ c κs. search needs)
+    (λ c. search needs)
     returns-2
-    enum-told-2
-    fails-requires-3
-    enum-known-left
+    (λ c. search needs)
+    (λ c κs. search needs)
+    (λ c. search needs)
     returns-3
-    enum-told-3
-    fails-requires-4
+    (λ c. search needs)
+    (λ c κs. search needs)
     returns-4)

@@ -1,20 +1,14 @@
 -- `offsets::landings::fail_forward` meets its contract: the first of two directions. Assumes nothing.
 use mathlib.Core.Path.{sym, ap, _∙_}
-use mathlib.Core.Bool.{true, false}
+use mathlib.Core.Bool.{true}
 use mathlib.Core.List.{[], _∷_}
 use denote.Ref.{now}
-use Rattle.grid.specs.declared.Direction.the-variants.{Up, Down, Left, Right}
+use Rattle.grid.specs.declared.Direction.the-variants.{Down, Right}
 use Rattle.offsets.specs.Landings.{failOf, failAt}
 use Rattle.offsets.proofs.FailLaws.{fail-hit, fail-miss, fail-last}
 use borrow.Author.Needs.{needs}
 use Rattle.offsets.proofs.landings.fail_forward.Statement.{statement}
 use Rattle.offsets.proofs.landings.fail_forward.Tie as tie
-
-fails-requires : tie.Need-fails-requires
-fails-requires c κs = search needs
-
-enum-known-down : tie.Need-enum-known-down
-enum-known-down c = search needs
 
 returns : tie.Need-returns
 returns c =
@@ -25,9 +19,6 @@ returns c =
 enum-told : tie.Need-enum-told
 enum-told c = search needs
 
-fails-requires-2 : tie.Need-fails-requires-2
-fails-requires-2 c κs = search needs
-
 returns-2 : tie.Need-returns-2
 returns-2 c =
     let s = c .before .before .before .before .before .before in
@@ -37,4 +28,4 @@ returns-2 c =
 pub fail-forward-spec : {M : Type 1} → statement M
 fail-forward-spec =
     tie.close
-    (tie.spec fails-requires enum-known-down returns enum-told fails-requires-2 returns-2)
+    (tie.spec (λ c κs. search needs) (λ c. search needs) returns enum-told (λ c κs. search needs) returns-2)

@@ -1,17 +1,11 @@
 -- `offsets::landings::fails` meets its contract: a law of `LandingLaws` for each answer. Assumes nothing.
-use mathlib.Core.Path.{sym, ap, _∙_}
-use native.Mathlib.Omega.{arith}
+use mathlib.Core.Path.{sym, _∙_}
 use denote.Ref.{now}
 use borrow.Author.Tests.{not-true, not-false}
-use Rattle.offsets.specs.Landings.{landingOf}
-use Rattle.offsets.proofs.ReachLaws.{fell}
-use Rattle.offsets.proofs.LandingLaws.{landing-is, lands-on, lands-off, not-kept, lands-outside, lands-badly, lands-well, landed-border, turning-landing}
+use Rattle.offsets.proofs.LandingLaws.{lands-on, lands-off, not-kept, lands-outside, lands-badly, lands-well, landed-border, turning-landing}
 use borrow.Author.Needs.{needs}
 use Rattle.offsets.proofs.landings.fails.Statement.{statement}
 use Rattle.offsets.proofs.landings.fails.Tie as tie
-
-kept-requires : tie.Need-kept-requires
-kept-requires c κs = search needs
 
 returns : tie.Need-returns
 returns c =
@@ -21,12 +15,6 @@ returns c =
     let z = s .pre .falls .0 in
     let q = s .pre .falls .1 in
     not-kept g (s .args .s) (now (s .args .states)) (now (s .args .ids)) (s .args .inner) (s .args .unit) (s .args .c) (s .args .direction) z q (sym (v .kept .ensures) ∙ not-true (v .kept .result) (c .if1 .taken))
-
-landing-of-requires : tie.Need-landing-of-requires
-landing-of-requires c κs = search needs
-
-enum-known-border : tie.Need-enum-known-border
-enum-known-border c = search needs
 
 enum-told : tie.Need-enum-told
 enum-told c = search needs
@@ -55,9 +43,6 @@ shared-slice-read-bad c =
     let e = o .before .border .given .0 .0 in
     let k = lands-on g (s .args .direction) z e (sym (o .before .border .given .1) ∙ f .landing-of .ensures ∙ l) in
     landed-border g (s .args .s) (now (s .args .states)) (now (s .args .ids)) (s .args .c) (s .args .row) (s .args .col) (s .args .direction) (s .pre) e (k .0) (k .1) .0
-
-bad-requires : tie.Need-bad-requires
-bad-requires c κs = search needs
 
 entry-requires : tie.Need-entry-requires
 entry-requires c κs =
@@ -107,14 +92,14 @@ pub fails-spec : {M : Type 1} → statement M
 fails-spec =
     tie.close
     (tie.spec
-    kept-requires
+    (λ c κs. search needs)
     returns
-    landing-of-requires
-    enum-known-border
+    (λ c κs. search needs)
+    (λ c. search needs)
     enum-told
     returns-2
     shared-slice-read-bad
-    bad-requires
+    (λ c κs. search needs)
     entry-requires
     returns-3
     returns-4)

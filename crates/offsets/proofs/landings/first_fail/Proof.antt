@@ -22,15 +22,6 @@ loop-holds : tie.Need-loop-holds Inv-loop μ-loop
 unfolding firstFail
 loop-holds c = (omega arith, refl)
 
-mul-wide : tie.Need-mul-wide Inv-loop μ-loop
-mul-wide c = omega arith
-
-shared-slice-read-wide : tie.Need-shared-slice-read-wide Inv-loop μ-loop
-shared-slice-read-wide c = omega arith
-
-wide-requires : tie.Need-wide-requires Inv-loop μ-loop
-wide-requires c κs = search needs
-
 mul-fail-cell : tie.Need-mul-fail-cell Inv-loop μ-loop
 mul-fail-cell c =
     let v = c in
@@ -96,9 +87,6 @@ fail-cell-requires c κs =
     let h = t .loop-test .taken in
     walk-turning g (s .args .s) (now (s .args .states)) (now (s .args .ids)) (now (s .args .rows)) (now (s .args .cols)) cs (s .pre) (a .loop .i) x h (v .wide .ensures)
 
-enum-known-f : tie.Need-enum-known-f Inv-loop μ-loop
-enum-known-f c = search needs
-
 returns : tie.Need-returns Inv-loop μ-loop
 returns c =
     let v = c .before .before .before .before .before .before in
@@ -115,12 +103,6 @@ returns c =
 
 enum-told : tie.Need-enum-told Inv-loop μ-loop
 enum-told c = search needs
-
-add-i : tie.Need-add-i Inv-loop μ-loop
-add-i c = omega arith
-
-loop-less : tie.Need-loop-less Inv-loop μ-loop
-loop-less c = omega arith
 
 loop-again : tie.Need-loop-again Inv-loop μ-loop
 loop-again c =
@@ -150,18 +132,18 @@ first-fail-spec =
     Inv-loop
     μ-loop
     loop-holds
-    mul-wide
-    shared-slice-read-wide
-    wide-requires
+    (λ c. omega arith)
+    (λ c. omega arith)
+    (λ c κs. search needs)
     mul-fail-cell
     shared-slice-read-fail-cell
     mul-fail-cell-2
     shared-slice-read-fail-cell-2
     fail-cell-requires
-    enum-known-f
+    (λ c. search needs)
     returns
     enum-told
-    add-i
-    loop-less
+    (λ c. omega arith)
+    (λ c. omega arith)
     loop-again
     returns-2)

@@ -7,12 +7,6 @@ use borrow.Author.Needs.{needs}
 use Rattle.offsets.proofs.landings.kept.Statement.{statement}
 use Rattle.offsets.proofs.landings.kept.Tie as tie
 
-step-requires : tie.Need-step-requires
-step-requires c κs = search needs
-
-enum-known-n : tie.Need-enum-known-n
-enum-known-n c = search needs
-
 returns : tie.Need-returns
 returns c =
     let v = c .before in
@@ -79,8 +73,8 @@ pub kept-spec : {M : Type 1} → statement M
 kept-spec =
     tie.close
     (tie.spec
-    step-requires
-    enum-known-n
+    (λ c κs. search needs)
+    (λ c. search needs)
     returns
     mul-result
     shared-slice-read-result

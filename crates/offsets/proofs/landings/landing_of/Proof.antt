@@ -1,5 +1,5 @@
 -- `offsets::landings::landing_of` meets its contract: the two coordinates are the definition's. Assumes nothing.
-use mathlib.Core.Path.{sym, ap, ap₂, _∙_}
+use mathlib.Core.Path.{ap, ap₂, _∙_}
 use borrow.Author.Needs.{sfits-of}
 use mir.Syntax.{w32}
 use mir.ValLaws.{toZ-ofZ}
@@ -8,9 +8,6 @@ use Rattle.offsets.proofs.LandingLaws.{ahead-y, ahead-x, ahead-small}
 use borrow.Author.Needs.{needs}
 use Rattle.offsets.proofs.landings.landing_of.Statement.{statement}
 use Rattle.offsets.proofs.landings.landing_of.Tie as tie
-
-ahead-requires : tie.Need-ahead-requires
-ahead-requires c κs = search needs
 
 coordinate-requires : tie.Need-coordinate-requires
 coordinate-requires c κs =
@@ -23,9 +20,6 @@ coordinate-requires-2 c κs =
     let a = c .before .before .before in
     let s = a .before in
     (s .pre .col-small, ahead-small (a .ahead .result) (s .args .direction) (a .ahead .ensures) .1, s .pre .from-col, s .pre .to-col)
-
-land-requires : tie.Need-land-requires
-land-requires c κs = search needs
 
 returns : tie.Need-returns
 returns c =
@@ -46,4 +40,4 @@ returns c =
 pub landing-of-spec : {M : Type 1} → statement M
 landing-of-spec =
     tie.close
-    (tie.spec ahead-requires coordinate-requires coordinate-requires-2 land-requires returns)
+    (tie.spec (λ c κs. search needs) coordinate-requires coordinate-requires-2 (λ c κs. search needs) returns)

@@ -1,5 +1,4 @@
 -- `offsets::places::border_at` meets its contract: one law of `PlaceLaws` for each return. Assumes nothing.
-use Prim.Native.Nat.{_+_, _*_, _/_}
 use mathlib.Core.Path.{sym, ap, _∙_}
 use native.Mathlib.Omega.{arith}
 use Rattle.grid.proofs.Geometry.{cells-le}
@@ -9,23 +8,11 @@ use borrow.Author.Needs.{needs}
 use Rattle.offsets.proofs.places.border_at.Statement.{statement}
 use Rattle.offsets.proofs.places.border_at.Tie as tie
 
-mul-if1 : tie.Need-mul-if1
-mul-if1 c = search needs
-
-sub-if1 : tie.Need-sub-if1
-sub-if1 c = search needs
-
 returns : tie.Need-returns
 returns c =
     let s = c .before in
     let g = s .args .g in
     sym (off-rows g (s .pre) (s .args .y) (s .args .x) (c .if1 .taken))
-
-mul-if2 : tie.Need-mul-if2
-mul-if2 c = search needs
-
-sub-if2 : tie.Need-sub-if2
-sub-if2 c = search needs
 
 returns-2 : tie.Need-returns-2
 returns-2 c =
@@ -51,9 +38,6 @@ step-requires c κs =
     let g = s .args .g in
     record { limits = s .pre; cell = halved-cell g (s .pre) (s .args .y) (s .args .x) (c .before .before .if1 .left) (c .before .if2 .left) }
 
-border-of-requires : tie.Need-border-of-requires
-border-of-requires c κs = search needs
-
 returns-3 : tie.Need-returns-3
 returns-3 c =
     let s = c .before .before .before .before .before in
@@ -67,9 +51,6 @@ step-requires-2 c κs =
     let g = s .args .g in
     record { limits = s .pre; cell = halved-cell g (s .pre) (s .args .y) (s .args .x) (c .before .before .if1 .left) (c .before .if2 .left) }
 
-border-of-requires-2 : tie.Need-border-of-requires-2
-border-of-requires-2 c κs = search needs
-
 returns-4 : tie.Need-returns-4
 returns-4 c =
     let s = c .before .before .before .before .before in
@@ -81,17 +62,17 @@ pub border-at-spec : {M : Type 1} → statement M
 border-at-spec =
     tie.close
     (tie.spec
-    mul-if1
-    sub-if1
+    (λ c. search needs)
+    (λ c. search needs)
     returns
-    mul-if2
-    sub-if2
+    (λ c. search needs)
+    (λ c. search needs)
     returns-2
     mul-cell
     add-cell
     step-requires
-    border-of-requires
+    (λ c κs. search needs)
     returns-3
     step-requires-2
-    border-of-requires-2
+    (λ c κs. search needs)
     returns-4)

@@ -6,9 +6,6 @@ use borrow.Author.Needs.{needs}
 use Rattle.offsets.proofs.places.border_of.Statement.{statement}
 use Rattle.offsets.proofs.places.border_of.Tie as tie
 
-enum-known-b : tie.Need-enum-known-b
-enum-known-b c = search needs
-
 returns : tie.Need-returns
 returns c = no-border (c .before .args .b) (c .match .keys2)
 
@@ -16,4 +13,4 @@ returns-2 : tie.Need-returns-2
 returns-2 c = sym (ap borderOf (c .before .b .given .1))
 
 pub border-of-spec : {M : Type 1} → statement M
-border-of-spec = tie.close (tie.spec enum-known-b returns returns-2)
+border-of-spec = tie.close (tie.spec (λ c. search needs) returns returns-2)

@@ -4,26 +4,8 @@ use borrow.Author.Needs.{needs}
 use Rattle.offsets.proofs.places.coordinate.Statement.{statement}
 use Rattle.offsets.proofs.places.coordinate.Tie as tie
 
-mul-place : tie.Need-mul-place
-mul-place c = search needs
-
-cast-place : tie.Need-cast-place
-cast-place c = search needs
-
 add-place : tie.Need-add-place
 add-place c = place-fits (c .args .at) (c .args .ahead) (c .args .from) (c .args .to) (c .pre .0) (c .pre .1) (c .pre .2) (c .pre .3)
-
-mul-offset : tie.Need-mul-offset
-mul-offset c = search needs
-
-cast-offset : tie.Need-cast-offset
-cast-offset c = search needs
-
-mul-offset-2 : tie.Need-mul-offset-2
-mul-offset-2 c = search needs
-
-cast-offset-2 : tie.Need-cast-offset-2
-cast-offset-2 c = search needs
 
 sub-offset : tie.Need-sub-offset
 sub-offset c = offset-fits (c .args .at) (c .args .ahead) (c .args .from) (c .args .to) (c .pre .0) (c .pre .1) (c .pre .2) (c .pre .3)
@@ -38,13 +20,13 @@ pub coordinate-spec : {M : Type 1} → statement M
 coordinate-spec =
     tie.close
     (tie.spec
-    mul-place
-    cast-place
+    (λ c. search needs)
+    (λ c. search needs)
     add-place
-    mul-offset
-    cast-offset
-    mul-offset-2
-    cast-offset-2
+    (λ c. search needs)
+    (λ c. search needs)
+    (λ c. search needs)
+    (λ c. search needs)
     sub-offset
     add-result
     returns)

@@ -1,6 +1,5 @@
 -- `offsets::places::land` meets its contract: a negative place is outside, and the casts come after the sign tests. Assumes nothing.
-use mathlib.Core.Path.{sym, ap, ap₂, _∙_}
-use lib.IntN.{ℤ}
+use mathlib.Core.Path.{sym, ap₂, _∙_}
 use Rattle.offsets.specs.Places.{landOf}
 use Rattle.offsets.proofs.Signed.{negative, cast-fits, cast-is}
 use Rattle.offsets.proofs.PlaceLaws.{above, beside}
@@ -28,9 +27,6 @@ cast-border-at-2 c =
     let s = c .before .before in
     cast-fits (s .args .x) (s .fits .x) (c .if2 .left)
 
-border-at-requires : tie.Need-border-at-requires
-border-at-requires c κs = search needs
-
 returns-3 : tie.Need-returns-3
 unfolding landOf
 returns-3 c =
@@ -43,4 +39,4 @@ returns-3 c =
 pub land-spec : {M : Type 1} → statement M
 land-spec =
     tie.close
-    (tie.spec returns returns-2 cast-border-at cast-border-at-2 border-at-requires returns-3)
+    (tie.spec returns returns-2 cast-border-at cast-border-at-2 (λ c κs. search needs) returns-3)

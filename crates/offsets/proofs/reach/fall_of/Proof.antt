@@ -1,13 +1,10 @@
 -- `offsets::reach::fall_of` meets its contract: the row and then the column are moved, and each is tested. Assumes nothing.
-use Prim.Native.Nat.{_+_, _-_, _*_}
+use Prim.Native.Nat.{_+_, _-_}
 use native.Mathlib.Omega.{arith}
 use Rattle.offsets.proofs.ReachLaws.{before-start, behind-end, on-line, off-row, off-col, on-cell, small-cell}
 use borrow.Author.Needs.{needs}
 use Rattle.offsets.proofs.reach.fall_of.Statement.{statement}
 use Rattle.offsets.proofs.reach.fall_of.Tie as tie
-
-add-if1 : tie.Need-add-if1
-add-if1 c = search needs
 
 returns : tie.Need-returns
 returns c =
@@ -18,12 +15,6 @@ returns c =
     let x = a .args .col in
     off-row g s y x (before-start (g .height) (s .«from_row») (s .«to_row») y (c .if1 .taken))
 
-add-y : tie.Need-add-y
-add-y c = search needs
-
-sub-y : tie.Need-sub-y
-sub-y c = search needs
-
 returns-2 : tie.Need-returns-2
 returns-2 c =
     let a = c .before .before .before .before .before .before in
@@ -33,9 +24,6 @@ returns-2 c =
     let x = a .args .col in
     off-row g s y x (behind-end (g .height) (s .«from_row») (s .«to_row») y (c .before .before .before .if1 .left) (c .if2 .taken))
 
-add-if3 : tie.Need-add-if3
-add-if3 c = search needs
-
 returns-3 : tie.Need-returns-3
 returns-3 c =
     let a = c .before .before .before .before .before .before .before .before .before in
@@ -44,12 +32,6 @@ returns-3 c =
     let y = a .args .row in
     let x = a .args .col in
     off-col g s y x (y + s .«to_row» - s .«from_row») (on-line (g .height) (s .«from_row») (s .«to_row») y (c .before .before .before .before .before .before .if1 .left) (c .before .before .before .if2 .left)) (before-start (g .width) (s .«from_col») (s .«to_col») x (c .if3 .taken))
-
-add-x : tie.Need-add-x
-add-x c = search needs
-
-sub-x : tie.Need-sub-x
-sub-x c = search needs
 
 returns-4 : tie.Need-returns-4
 returns-4 c =
@@ -91,15 +73,15 @@ pub fall-of-spec : {M : Type 1} → statement M
 fall-of-spec =
     tie.close
     (tie.spec
-    add-if1
+    (λ c. search needs)
     returns
-    add-y
-    sub-y
+    (λ c. search needs)
+    (λ c. search needs)
     returns-2
-    add-if3
+    (λ c. search needs)
     returns-3
-    add-x
-    sub-x
+    (λ c. search needs)
+    (λ c. search needs)
     returns-4
     mul-t9
     add-t11

@@ -1,12 +1,11 @@
 -- `offsets::reach::reaches` meets its contract: the loop's invariant is `Walk`, what is left of the test. Assumes nothing.
 use Prim.Native.Nat.{_-_, _+_}
-use mathlib.Core.Path.{_≡_, refl, sym, ap, _∙_}
+use mathlib.Core.Path.{sym, ap, _∙_}
 use mathlib.Core.Logic.{⊎-elim}
-use mathlib.Core.Bool.{true, false}
 use native.Mathlib.Omega.{arith}
 use borrow.Author.Needs.{needs}
 use denote.Ref.{now}
-use lib.ListN.{length, getD, drop, drop-of-length-le}
+use lib.ListN.{length, drop, drop-of-length-le}
 use Rattle.offsets.proofs.ReachLaws.{
   left,
   left-start,
@@ -37,15 +36,6 @@ loop-holds : tie.Need-loop-holds Inv-loop μ-loop
 loop-holds c =
     let s = c .before .before .before .before .before .before in
     record { within = omega arith; rest = left-start (s .args .g) (s .args .s) (s .args .unit) (now (s .args .ids)) (now (s .args .pids)) (now (s .args .marks)) (now (s .args .cells)) }
-
-mul-wide : tie.Need-mul-wide Inv-loop μ-loop
-mul-wide c = omega arith
-
-shared-slice-read-wide : tie.Need-shared-slice-read-wide Inv-loop μ-loop
-shared-slice-read-wide c = omega arith
-
-wide-requires : tie.Need-wide-requires Inv-loop μ-loop
-wide-requires c κs = search needs
 
 mul-fall-of : tie.Need-mul-fall-of Inv-loop μ-loop
 mul-fall-of c =
@@ -126,9 +116,6 @@ fall-of-requires c κs =
     let x = v .wide .result in
     let k = cell-of g (s .args .s) cs (now (s .args .rows)) (now (s .args .cols)) ids pids marks (s .pre) (a .loop .i) x h (v .wide .ensures) in
     fall-small g (s .args .s) cs (now (s .args .rows)) (now (s .args .cols)) ids pids marks (s .pre) x k
-
-enum-known-x : tie.Need-enum-known-x Inv-loop μ-loop
-enum-known-x c = search needs
 
 enum-told : tie.Need-enum-told Inv-loop μ-loop
 enum-told c = search needs
@@ -265,9 +252,6 @@ shared-slice-read-wide-2 c =
     let m = moved-cell g (s .args .s) cs (now (s .args .rows)) (now (s .args .cols)) ids pids marks (s .pre) x k (f .fall-of .result) (f .fall-of .ensures) y e in
     cell-small g (s .args .s) cs (now (s .args .rows)) (now (s .args .cols)) ids pids marks (s .pre) y m .4
 
-wide-requires-2 : tie.Need-wide-requires-2 Inv-loop μ-loop
-wide-requires-2 c κs = search needs
-
 shared-slice-read-if2 : tie.Need-shared-slice-read-if2 Inv-loop μ-loop
 shared-slice-read-if2 c =
     let v = c .before .before .before .before .before .before .before .before .before .before .before in
@@ -289,12 +273,6 @@ shared-slice-read-if2 c =
     let q = moved-on g (s .args .s) cs (now (s .args .rows)) (now (s .args .cols)) ids pids marks (s .pre) x k (f .fall-of .result) (f .fall-of .ensures) y e in
     let m = moved-cell g (s .args .s) cs (now (s .args .rows)) (now (s .args .cols)) ids pids marks (s .pre) x k (f .fall-of .result) (f .fall-of .ensures) y e in
     rw (c .before .wide2 .ensures) (s .pre .pids-small y m)
-
-add-i : tie.Need-add-i Inv-loop μ-loop
-add-i c = omega arith
-
-loop-less : tie.Need-loop-less Inv-loop μ-loop
-loop-less c = omega arith
 
 loop-again : tie.Need-loop-again Inv-loop μ-loop
 loop-again c =
@@ -344,15 +322,15 @@ reaches-spec =
     Inv-loop
     μ-loop
     loop-holds
-    mul-wide
-    shared-slice-read-wide
-    wide-requires
+    (λ c. omega arith)
+    (λ c. omega arith)
+    (λ c κs. search needs)
     mul-fall-of
     shared-slice-read-fall-of
     mul-fall-of-2
     shared-slice-read-fall-of-2
     fall-of-requires
-    enum-known-x
+    (λ c. search needs)
     enum-told
     returns
     mul-if1
@@ -360,9 +338,9 @@ reaches-spec =
     returns-2
     mul-wide-2
     shared-slice-read-wide-2
-    wide-requires-2
+    (λ c κs. search needs)
     shared-slice-read-if2
-    add-i
-    loop-less
+    (λ c. omega arith)
+    (λ c. omega arith)
     loop-again
     returns-3)

@@ -6,26 +6,8 @@ use borrow.Author.Needs.{needs}
 use Rattle.unit_check.proofs.faults.append_marked.Statement.{statement}
 use Rattle.unit_check.proofs.faults.append_marked.Tie as tie
 
-shared-slice-read-if1 : tie.Need-shared-slice-read-if1
-shared-slice-read-if1 c = search needs
-
 returns : tie.Need-returns
 returns c = let p = c .before .before .before .before .before .before .before .before .pre in not-marked (p .0) (p .1 .0) (c .if1 .taken)
-
-mul-wide : tie.Need-mul-wide
-mul-wide c = search needs
-
-shared-slice-read-wide : tie.Need-shared-slice-read-wide
-shared-slice-read-wide c = search needs
-
-wide-requires : tie.Need-wide-requires
-wide-requires c κs = search needs
-
-mul-end-of : tie.Need-mul-end-of
-mul-end-of c = search needs
-
-end-of-requires : tie.Need-end-of-requires
-end-of-requires c κs = search needs
 
 mul-append-boundary : tie.Need-mul-append-boundary
 mul-append-boundary c =
@@ -57,9 +39,6 @@ append-boundary-requires c κs =
     let p = e .before .before .before .before .before .before .before .before .before .before .before .pre in
     listable (p .0) (p .1 .0) (e .before .wide .ensures) (e .end-of .ensures) (e .before .before .before .if1 .left) (p .1 .1)
 
-same-length : tie.Need-same-length
-same-length c = search needs
-
 returns-2 : tie.Need-returns-2
 returns-2 c =
     let e = c .before .before .before .before .before in
@@ -70,17 +49,17 @@ pub append-marked-spec : {M : Type 1} → statement M
 append-marked-spec =
     tie.close
     (tie.spec
-    shared-slice-read-if1
+    (λ c. search needs)
     returns
-    mul-wide
-    shared-slice-read-wide
-    wide-requires
-    mul-end-of
-    end-of-requires
+    (λ c. search needs)
+    (λ c. search needs)
+    (λ c κs. search needs)
+    (λ c. search needs)
+    (λ c κs. search needs)
     mul-append-boundary
     sub-append-boundary
     part-append-boundary-start
     part-append-boundary-end
     append-boundary-requires
-    same-length
+    (λ c. search needs)
     returns-2)

@@ -23,12 +23,6 @@ append-marked-requires c κs =
     let p = l .before .before .before .before .before .before .before .pre in
     (p .0, (c .before .loop-test .taken, left-room _ _ (l .loop .inv .1) (c .before .loop-test .taken) (p .1)))
 
-add-unit : tie.Need-add-unit Inv-loop μ-loop
-add-unit c = omega arith
-
-loop-less : tie.Need-loop-less Inv-loop μ-loop
-loop-less c = omega arith
-
 loop-again : tie.Need-loop-again Inv-loop μ-loop
 loop-again c =
     let a = c .before .before in
@@ -50,8 +44,8 @@ append-near-spec =
     μ-loop
     loop-holds
     append-marked-requires
-    add-unit
-    loop-less
+    (λ c. omega arith)
+    (λ c. omega arith)
     loop-again
     same-length
     returns)

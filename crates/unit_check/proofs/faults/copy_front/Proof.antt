@@ -15,23 +15,8 @@ abbrev μ-loop : tie.MeasureT-loop
 loop-holds : tie.Need-loop-holds Inv-loop μ-loop
 loop-holds c = copying-none _ _
 
-mul-buffer : tie.Need-mul-buffer Inv-loop μ-loop
-mul-buffer c = omega arith
-
-shared-slice-read-buffer : tie.Need-shared-slice-read-buffer Inv-loop μ-loop
-shared-slice-read-buffer c = omega arith
-
-mul-buffer-2 : tie.Need-mul-buffer-2 Inv-loop μ-loop
-mul-buffer-2 c = omega arith
-
 slice-write-buffer : tie.Need-slice-write-buffer Inv-loop μ-loop
 slice-write-buffer c = omega (arith, c .before .before .loop .inv .long)
-
-add-i : tie.Need-add-i Inv-loop μ-loop
-add-i c = omega arith
-
-loop-less : tie.Need-loop-less Inv-loop μ-loop
-loop-less c = omega arith
 
 loop-again : tie.Need-loop-again Inv-loop μ-loop
 loop-again c = let l = c .before .before in copying-turn _ _ (l .before .pre .0) (l .loop .inv) (c .before .loop-test .taken)
@@ -49,12 +34,12 @@ copy-front-spec =
     Inv-loop
     μ-loop
     loop-holds
-    mul-buffer
-    shared-slice-read-buffer
-    mul-buffer-2
+    (λ c. omega arith)
+    (λ c. omega arith)
+    (λ c. omega arith)
     slice-write-buffer
-    add-i
-    loop-less
+    (λ c. omega arith)
+    (λ c. omega arith)
     loop-again
     same-length
     returns)

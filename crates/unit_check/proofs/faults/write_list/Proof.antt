@@ -13,9 +13,6 @@ append-boundary-requires c κs = unit-listable (c .before .before .before .befor
 append-near-requires : tie.Need-append-near-requires
 append-near-requires c κs = let p = c .before .before .before .before .before .before .before .before .before .before .before .before .before .before .before .before .before .before .pre in (p .near, near-fits p (c .before .before .before .before .before .before .before .copy-front .ensures) (c .before .before .before .append-boundary .ensures))
 
-same-length : tie.Need-same-length
-same-length c = search needs
-
 returns : tie.Need-returns
 returns c = all-written (c .before .before .before .before .before .before .before .before .before .before .before .before .before .before .before .before .before .before .before .before .before .pre) (c .before .before .before .before .before .before .before .before .before .before .copy-front .ensures) (c .before .before .before .before .before .before .append-boundary .ensures) (c .before .before .append-near .ensures)
 
@@ -26,5 +23,5 @@ write-list-spec =
     copy-front-requires
     append-boundary-requires
     append-near-requires
-    same-length
+    (λ c. search needs)
     returns)

@@ -42,9 +42,6 @@ add-y c = let i = c .before in omega (arith, low-row _ (i .before .before .pre .
 add-cell : tie.Need-add-cell Inv-loop μ-loop
 add-cell c = omega (arith, cells-le _ (c .before .before .before .pre .0))
 
-loop-less : tie.Need-loop-less Inv-loop μ-loop
-loop-less c = omega arith
-
 loop-again : tie.Need-loop-again Inv-loop μ-loop
 loop-again c =
     let i = c .before in
@@ -76,7 +73,7 @@ fill-spec =
     add-x
     add-y
     add-cell
-    loop-less
+    (λ c. omega arith)
     loop-again
     same-length
     same-length-2

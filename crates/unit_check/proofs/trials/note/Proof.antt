@@ -5,20 +5,8 @@ use denote.Ref.{now}
 use Rattle.unit_check.proofs.trials.note.Statement.{statement}
 use Rattle.unit_check.proofs.trials.note.Tie as tie
 
-enum-known-t : tie.Need-enum-known-t
-enum-known-t c = search needs
-
-mul-failed : tie.Need-mul-failed
-mul-failed c = search needs
-
 slice-write-failed : tie.Need-slice-write-failed
 slice-write-failed c = note-room (c .before .t .given .1) (c .before .before .before .pre)
-
-add-result : tie.Need-add-result
-add-result c = search needs
-
-same-length : tie.Need-same-length
-same-length c = search needs
 
 returns : tie.Need-returns
 returns c = noted (c .before .t .given .1) _ _
@@ -29,4 +17,4 @@ returns-2 c = not-noted (c .before .args .t) (now (c .before .args .failed)) (c 
 pub note-spec : {M : Type 1} → statement M
 note-spec =
     tie.close
-    (tie.spec enum-known-t mul-failed slice-write-failed add-result same-length returns returns-2)
+    (tie.spec (λ c. search needs) (λ c. search needs) slice-write-failed (λ c. search needs) (λ c. search needs) returns returns-2)

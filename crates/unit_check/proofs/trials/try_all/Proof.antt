@@ -39,12 +39,6 @@ note-requires c κs =
     let t = c .before .before in
     trial-room _ _ _ _ _ (t .before .before .loop .inv) (t .before .loop-test .taken) (t .try-at .ensures) (t .before .before .before .before .before .before .before .before .before .before .before .pre .1 .1)
 
-add-to : tie.Need-add-to Inv-loop μ-loop
-add-to c = omega arith
-
-loop-less : tie.Need-loop-less Inv-loop μ-loop
-loop-less c = omega arith
-
 loop-again : tie.Need-loop-again Inv-loop μ-loop
 loop-again c =
     let n = c .before .before in
@@ -70,8 +64,8 @@ try-all-spec =
     same-length
     returns
     note-requires
-    add-to
-    loop-less
+    (λ c. omega arith)
+    (λ c. omega arith)
     loop-again
     same-length-2
     returns-2)

@@ -10,25 +10,7 @@ Inv-loop s b pairs c₀ i₀ c i = i ≤ pairs
 abbrev μ-loop : tie.MeasureT-loop
 μ-loop s b pairs c₀ i₀ c i = pairs - i
 
-loop-holds : tie.Need-loop-holds Inv-loop μ-loop
-loop-holds c = search needs
-
-replay-pair-requires : tie.Need-replay-pair-requires Inv-loop μ-loop
-replay-pair-requires c κs = search needs
-
-add-i : tie.Need-add-i Inv-loop μ-loop
-add-i c = search needs
-
-loop-less : tie.Need-loop-less Inv-loop μ-loop
-loop-less c = search needs
-
-loop-again : tie.Need-loop-again Inv-loop μ-loop
-loop-again c = search needs
-
-returns : tie.Need-returns Inv-loop μ-loop
-returns c = search needs
-
 pub replay-pairs-spec : {M : Type 1} → statement M
 replay-pairs-spec =
     tie.close
-    (tie.spec Inv-loop μ-loop loop-holds replay-pair-requires add-i loop-less loop-again returns)
+    (tie.spec Inv-loop μ-loop (λ c. search needs) (λ c κs. search needs) (λ c. search needs) (λ c. search needs) (λ c. search needs) (λ c. search needs))
