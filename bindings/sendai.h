@@ -113,23 +113,28 @@ typedef struct SendaiEdge {
 } SendaiEdge;
 SENDAI_LAYOUT(SendaiEdge, 4, v, 2);
 
-/* A room graph: edges[i] joins us[i] and vs[i]; states and ledger as a board's, over the edges. */
+/* The states of a room graph's edges by number, and in the first `len` places of the ledger the decided ones, in order. */
+typedef struct SendaiBook {
+    uint8_t states[1984];
+    uint16_t ledger[1984];
+    size_t len;
+} SendaiBook;
+SENDAI_LAYOUT(SendaiBook, 5960, len, 5952);
+SENDAI_LAYOUT(SendaiBook, 5960, ledger, 1984);
+
+/* A room graph: edge i joins us[i] and vs[i]. */
 typedef struct SendaiRoom {
     size_t vertices;
     size_t edges;
     uint16_t us[1984];
     uint16_t vs[1984];
     uint32_t count;
-    uint8_t states[1984];
-    uint16_t ledger[1984];
-    size_t len;
+    SendaiBook book;
 } SendaiRoom;
-SENDAI_LAYOUT(SendaiRoom, 13920, len, 13912);
 SENDAI_LAYOUT(SendaiRoom, 13920, us, 16);
 SENDAI_LAYOUT(SendaiRoom, 13920, vs, 3984);
 SENDAI_LAYOUT(SendaiRoom, 13920, count, 7952);
-SENDAI_LAYOUT(SendaiRoom, 13920, states, 7956);
-SENDAI_LAYOUT(SendaiRoom, 13920, ledger, 9940);
+SENDAI_LAYOUT(SendaiRoom, 13920, book, 7960);
 
 /* The groups of a board: each cell's group, and where each of the `count` groups starts in the buffer of cells. */
 typedef struct SendaiGroupInfo {
@@ -208,6 +213,15 @@ SENDAI_LAYOUT(SendaiPlace, 24, border, 16);
 SENDAI_LAYOUT(SendaiPlace, 24, ends, 1);
 SENDAI_LAYOUT(SendaiPlace, 24, cell, 8);
 
+/* A list of this length in the buffer, which no fault stands behind. */
+typedef struct SendaiAnswer {
+    uint8_t code;
+    bool fault;
+    size_t length;
+} SendaiAnswer;
+SENDAI_LAYOUT(SendaiAnswer, 16, length, 8);
+SENDAI_LAYOUT(SendaiAnswer, 16, fault, 1);
+
 /* A list of this length in the buffer. */
 typedef struct SendaiListing {
     uint8_t code;
@@ -235,7 +249,8 @@ SENDAI_LAYOUT(SendaiOutcome, 24, length, 16);
 SENDAI_LAYOUT(SendaiOutcome, 24, code, 1);
 SENDAI_LAYOUT(SendaiOutcome, 24, room, 8);
 
-/* A case file's puzzle, or the number that refuses the file (11) or its puzzle; the first call's byte, and how many calls there are. */
+/* A case file's puzzle, the first call's byte, and how many calls there are; or zeros, and the number that refuses the file (11) or its
+ * puzzle. */
 typedef struct SendaiCase {
     uint8_t code;
     SendaiPuzzle puzzle;
@@ -248,14 +263,16 @@ SENDAI_LAYOUT(SendaiCase, 12032, at, 12016);
 
 /* What calls of a case file left: the puzzle, the byte behind the last call, how many were done, and how many bytes their lines have. */
 typedef struct SendaiRan {
+    uint8_t code;
     SendaiPuzzle puzzle;
     size_t at;
     size_t done;
     size_t length;
 } SendaiRan;
-SENDAI_LAYOUT(SendaiRan, 12032, length, 12024);
-SENDAI_LAYOUT(SendaiRan, 12032, at, 12008);
-SENDAI_LAYOUT(SendaiRan, 12032, done, 12016);
+SENDAI_LAYOUT(SendaiRan, 12040, length, 12032);
+SENDAI_LAYOUT(SendaiRan, 12040, puzzle, 8);
+SENDAI_LAYOUT(SendaiRan, 12040, at, 12016);
+SENDAI_LAYOUT(SendaiRan, 12040, done, 12024);
 
 /* Where a sound file's parts stand: of each list the first byte, behind its count, and how many items it has. */
 typedef struct SendaiFileParts {
@@ -315,8 +332,8 @@ SendaiVerdict sendai_board_ask(SendaiBoard board, uint16_t *buffer, size_t buffe
  * Connected borders, potential units also by undecided ones. Refused: 1, 2, 6 (h*w cells), with a record of zeros. */
 SendaiGrouping sendai_groups(SendaiBoard board, bool is_potential, uint16_t *buffer, size_t buffer_length);
 
-/* How many cells a group has; they are copied from the buffer that sendai_groups filled to the front of `out`, as far as there is room
- * (h*w places hold any group). 0, and nothing is copied, where the record, the buffer's length or the number is bad. */
+/* How many cells a group has; they are copied from the buffer that sendai_groups filled to the front of `out` (h*w places hold any
+ * group). 0, and nothing is copied, where the record, the buffer's length or the number is bad, or `out` has fewer places. */
 size_t sendai_group(SendaiGroupInfo info, const uint16_t *buffer, size_t buffer_length, size_t group, uint16_t *out, size_t out_length);
 
 /* The list of the Connected borders that lead from target back to start, as a first-in first-out search from start finds them.
@@ -389,12 +406,11 @@ SendaiListing sendai_hand_over(const uint16_t *entries, size_t entries_length, u
 
 /* ---- Case files, in the format of the README ---- */
 
-/* A case file's puzzle and where its calls stand. Refused: 11, or as sendai_puzzle_make refuses the file's puzzle; `at` and `count` then
- * still tell of the calls. */
+/* A case file's puzzle and where its calls stand. Refused: 11, or as sendai_puzzle_make refuses the file's puzzle. */
 SendaiCase sendai_case_open(const uint8_t *file, size_t file_length);
 
 /* Does `count` calls that stand in the file from a byte on, up to the first that is unsound, and writes a line for each to the front of
- * `out`. None is done, and nothing is written, where `out` has fewer than SENDAI_MAX_LINE places for each of them. */
+ * `out`. Refused: 6 (SENDAI_MAX_LINE places for each call), with the puzzle and the byte as they came. */
 SendaiRan sendai_case_run(const uint8_t *file, size_t file_length, size_t at, size_t count, SendaiPuzzle puzzle, uint8_t *out,
                           size_t out_length);
 
@@ -407,12 +423,12 @@ SendaiFileCall sendai_file_call(const uint8_t *file, size_t file_length, size_t 
 /* The k-th number, counted from 0, of the list that has `count` numbers from a byte on; 0 where there is none. */
 size_t sendai_file_number(const uint8_t *file, size_t file_length, size_t at, size_t count, size_t k);
 
-/* The numbers of such a list, written to the front of `out`, as far as there is room. */
-void sendai_file_numbers(const uint8_t *file, size_t file_length, size_t at, size_t count, uint16_t *out, size_t out_length);
+/* The numbers of such a list, as far as the file goes. Refused: 6 (as many places as there are numbers). */
+SendaiAnswer sendai_file_numbers(const uint8_t *file, size_t file_length, size_t at, size_t count, uint16_t *buffer, size_t buffer_length);
 
-/* Writes a line as the program prints it: by its kind, with the room's or refusal's number and a fault's entries; returned is how many
- * bytes it has. 0, and nothing is written, where the buffer has fewer than 27 places and 6 for each entry. */
-size_t sendai_line(uint8_t kind, size_t number, const uint16_t *entries, size_t entries_length, uint8_t *buffer, size_t buffer_length);
+/* A line as the program prints it: by its kind, with the room's or refusal's number and a fault's entries; `length` is how many bytes it
+ * has. Refused: 6 (27 places and 6 for each entry). */
+SendaiAnswer sendai_line(uint8_t kind, size_t number, const uint16_t *entries, size_t entries_length, uint8_t *buffer, size_t buffer_length);
 
 #undef SENDAI_LAYOUT
 

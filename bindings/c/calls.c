@@ -65,6 +65,7 @@ static void lists(void) {
     CHECK(units.code == SENDAI_ACCEPTED && units.info.count == 2 && units.info.ids[2] == 1 && units.info.starts[1] == 1);
     CHECK(sendai_group(units.info, list, 3, 1, out, 3) == 2 && out[0] == 1 && out[1] == 2 && out[2] == 9);
     CHECK(sendai_group(units.info, list, 3, 2, out, 3) == 0);
+    CHECK(sendai_group(units.info, list, 3, 1, out + 2, 1) == 0 && out[2] == 9);
 }
 
 static void puzzles(void) {
@@ -94,7 +95,7 @@ static void rooms(void) {
     SendaiVerdict verdict = sendai_room_ask(room, list, 2);
     CHECK(verdict.code == SENDAI_ACCEPTED && verdict.fault && is(verdict.length, fault, 1));
     CHECK(sendai_room_ask(room, list, 1).code == SENDAI_SHORT_BUFFER);
-    CHECK(sendai_room_undo(room).room.len == 0);
+    CHECK(sendai_room_undo(room).room.book.len == 0);
     CHECK(sendai_room_check(room) == SENDAI_ACCEPTED);
 }
 
@@ -116,9 +117,10 @@ static void files(void) {
     CHECK(opened.code == SENDAI_ACCEPTED && opened.puzzle.board.width == 3 && opened.at == 13 && opened.count == 4);
     CHECK(sendai_case_open(file, 20).code == SENDAI_FILE);
     SendaiRan ran = sendai_case_run(file, 21, opened.at, opened.count, opened.puzzle, out, sizeof out);
-    CHECK(ran.done == 4 && ran.at == 21 && ran.puzzle.board.len == 1);
+    CHECK(ran.code == SENDAI_ACCEPTED && ran.done == 4 && ran.at == 21 && ran.puzzle.board.len == 1);
     CHECK(ran.length == sizeof lines - 1 && memcmp(out, lines, ran.length) == 0);
-    CHECK(sendai_case_run(file, 21, opened.at, opened.count, opened.puzzle, out, sizeof out - 1).done == 0);
+    ran = sendai_case_run(file, 21, opened.at, opened.count, opened.puzzle, out, sizeof out - 1);
+    CHECK(ran.code == SENDAI_SHORT_BUFFER && ran.done == 0 && ran.at == opened.at && ran.length == 0);
 
     SendaiFileParts parts = sendai_file_decode(file, 21);
     CHECK(parts.code == SENDAI_ACCEPTED && parts.height == 1 && parts.width == 3 && parts.walls_at == 7 && parts.walls_count == 0);
@@ -126,12 +128,12 @@ static void files(void) {
     SendaiFileCall call = sendai_file_call(file, 21, 16);
     CHECK(call.code == SENDAI_ACCEPTED && call.kind == SENDAI_CALL_CONNECTED && call.border == 1 && call.behind == 19);
     CHECK(sendai_file_number(file, 21, 9, 1, 0) == SENDAI_NO_CLUE);
-    sendai_file_numbers(file, 21, 13, 2, list, 2);
-    CHECK(list[0] == 0x0200 && list[1] == 1);
+    CHECK(sendai_file_numbers(file, 21, 13, 2, list, 2).length == 2 && list[0] == 0x0200 && list[1] == 1);
+    CHECK(sendai_file_numbers(file, 21, 13, 2, list, 1).code == SENDAI_SHORT_BUFFER);
 
     const uint16_t entries[] = {1, 2};
-    CHECK(sendai_line(SENDAI_LINE_ROOM, 4, entries, 2, out, 39) == 12 && memcmp(out, "room 4: 1 2\n", 12) == 0);
-    CHECK(sendai_line(SENDAI_LINE_ROOM, 4, entries, 2, out, 38) == 0);
+    CHECK(sendai_line(SENDAI_LINE_ROOM, 4, entries, 2, out, 39).length == 12 && memcmp(out, "room 4: 1 2\n", 12) == 0);
+    CHECK(sendai_line(SENDAI_LINE_ROOM, 4, entries, 2, out, 38).code == SENDAI_SHORT_BUFFER);
 }
 
 int main(void) {

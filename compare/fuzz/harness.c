@@ -1,5 +1,5 @@
 // Any bytes as a case file, through sendai_case_open and sendai_case_run as the program uses them. It aborts where what comes out is
-// not one of document 01's lines, where a file is taken or refused against document 01's sentence, or where a byte behind a line was
+// not one of the lines of SPEC 5.4, where a file is taken or refused against SPEC 5.3, or where a byte behind a line was
 // written. The file and the buffer end at a page that can be neither read nor written.
 #include <stdint.h>
 #include <stdio.h>
@@ -31,6 +31,7 @@ typedef struct {
 } Opened;
 
 typedef struct {
+    uint8_t code;
     Puzzle puzzle;
     size_t at, done, len;
 } Ran;
@@ -72,7 +73,7 @@ static size_t word(const uint8_t *b) {
     return 256 * (size_t)b[0] + b[1];
 }
 
-// Document 01's sentence: how many calls a sound file has, or -1.
+// SPEC 5.3: how many calls a sound file has, or -1.
 static long calls_of(const uint8_t *file, size_t length) {
     if (length < 5 || file[0] != 1 || word(file + 1) != length - 3 || length - 3 > 60000) return -1;
     size_t at = 5;
@@ -137,7 +138,7 @@ static void run(const uint8_t *file, size_t size, Opened opened) {
     uint32_t before = 0;
     for (size_t k = 0; k < opened.count; k++) {
         Ran ran = sendai_case_run(file, size, at, 1, puzzle, out, LINE_ROOM);
-        must(ran.done == 1 && ran.at > at && ran.at <= size && ran.len <= LINE_ROOM, "a call was not done");
+        must(ran.code == 0 && ran.done == 1 && ran.at > at && ran.at <= size && ran.len <= LINE_ROOM, "a call was not done");
         must(!memcmp(out + ran.len, blank, LINE_ROOM - ran.len), "a byte behind the line was written");
         memcpy(line, out, ran.len);
         line[ran.len] = 0;
@@ -171,7 +172,7 @@ int LLVMFuzzerTestOneInput(const uint8_t *data, size_t size) {
     notice(1u << 28 | (uint32_t)opened.code);
     if (opened.code != 0) {
         must(strchr("\1\3\7\10\11\13", opened.code) != NULL, "no making is refused by this number");
-        must(!memcmp(&opened.puzzle, &zero, sizeof zero), "a refused puzzle is not zero");
+        must(!memcmp(&opened.puzzle, &zero, sizeof zero) && !opened.at && !opened.count, "a refused puzzle is not zero");
         return 0;
     }
     must(opened.count == (size_t)calls, "the count of calls");

@@ -1,4 +1,4 @@
-//! Answers that both sides give, in document 01's terms.
+//! Answers that both sides give, in the terms of docs/SPEC.md.
 
 #[derive(Debug, PartialEq, Eq)]
 pub struct Groups {

@@ -5,7 +5,7 @@ pub const UNDECIDED: u8 = 0;
 pub const CONNECTED: u8 = 1;
 pub const WALL: u8 = 2;
 
-/// Which borders stand, by number, as document 01 numbers states and borders.
+/// Which borders stand, by number, as SPEC 1 numbers states and borders.
 #[derive(Clone, Debug, PartialEq, Eq)]
 pub struct Standing {
     pub height: usize,

@@ -1,4 +1,4 @@
-//! Case files by document 01's sentences: what a file says, what is printed for it, and files to compare on, sound and damaged.
+//! Case files by SPEC 5: what a file says, what is printed for it, and files to compare on, sound and damaged.
 use crate::answers::Answer;
 use crate::boards::Standing;
 use crate::port::PuzzleRecord;
@@ -197,7 +197,7 @@ fn are_entries(text: &str) -> bool {
     list.is_some_and(|list| list.windows(2).all(|pair| pair[0] < pair[1]) && list.iter().all(|&n| n < 2 * 1984))
 }
 
-/// Whether the bytes are one of document 01's lines. It looks at nothing but them.
+/// Whether the bytes are one of the lines of SPEC 5.4. It looks at nothing but them.
 pub fn is_line(bytes: &[u8]) -> bool {
     let text = std::str::from_utf8(bytes).ok().and_then(|text| text.strip_suffix('\n'));
     let Some(text) = text else { return false };

@@ -13,7 +13,6 @@ pub mod union_find;
 
 use crate::boards::{self, Standing};
 use crate::random::Random;
-use crate::sample::Sample;
 use crate::tally::Tally;
 use std::time::{Duration, Instant};
 
@@ -27,27 +26,24 @@ pub struct Limits {
     pub borders: usize,
 }
 
-/// What is compared, and the part of it that is stored.
+/// What is compared.
 pub struct Layer {
     pub name: &'static str,
-    /// The first byte of its sample; 0 where none is stored.
-    pub kind: u8,
     pub run: fn(&Limits) -> Tally,
-    pub sample: fn(&mut Sample),
 }
 
 pub const LAYERS: [Layer; 11] = [
-    Layer { name: "numbering", kind: 1, run: numbering::run, sample: numbering::sample },
-    Layer { name: "board", kind: 2, run: board::run, sample: board::sample },
-    Layer { name: "groups", kind: 3, run: groups::run, sample: groups::sample },
-    Layer { name: "path", kind: 4, run: path::run, sample: path::sample },
-    Layer { name: "boundary", kind: 5, run: boundary::run, sample: boundary::sample },
-    Layer { name: "shape", kind: 6, run: shape::run, sample: shape::sample },
-    Layer { name: "union_find", kind: 7, run: union_find::run, sample: union_find::sample },
-    Layer { name: "city_count", kind: 8, run: city_count::run, sample: city_count::sample },
-    Layer { name: "puzzle", kind: 9, run: puzzle::run, sample: puzzle::sample },
-    Layer { name: "hand_over", kind: 10, run: hand_over::run, sample: hand_over::sample },
-    Layer { name: "files", kind: 0, run: files::run, sample: files::sample },
+    Layer { name: "numbering", run: numbering::run },
+    Layer { name: "board", run: board::run },
+    Layer { name: "groups", run: groups::run },
+    Layer { name: "path", run: path::run },
+    Layer { name: "boundary", run: boundary::run },
+    Layer { name: "shape", run: shape::run },
+    Layer { name: "union_find", run: union_find::run },
+    Layer { name: "city_count", run: city_count::run },
+    Layer { name: "puzzle", run: puzzle::run },
+    Layer { name: "hand_over", run: hand_over::run },
+    Layer { name: "files", run: files::run },
 ];
 
 /// Repeats a step for so long.

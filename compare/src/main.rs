@@ -28,7 +28,7 @@ use std::path::Path;
 use std::process::ExitCode;
 use std::time::Duration;
 
-const SAMPLE: &str = concat!(env!("CARGO_MANIFEST_DIR"), "/../crates/vectors/data");
+const SAMPLE: &str = concat!(env!("CARGO_MANIFEST_DIR"), "/../crates/vectors");
 
 fn usage(word: &str) -> ! {
     let layers: Vec<&str> = LAYERS.iter().map(|layer| layer.name).collect();

@@ -80,15 +80,21 @@ mod c {
 
     #[repr(C)]
     #[derive(Clone, Copy, PartialEq, Eq)]
+    pub struct Book {
+        pub states: [u8; 1984],
+        pub ledger: [u16; 1984],
+        pub len: usize,
+    }
+
+    #[repr(C)]
+    #[derive(Clone, Copy, PartialEq, Eq)]
     pub struct CityCountConstraint {
         pub vertices: usize,
         pub edges: usize,
         pub us: [u16; 1984],
         pub vs: [u16; 1984],
         pub count: u32,
-        pub states: [u8; 1984],
-        pub ledger: [u16; 1984],
-        pub len: usize,
+        pub book: Book,
     }
 
     #[repr(C)]
@@ -137,6 +143,7 @@ mod c {
 
     #[repr(C)]
     pub struct Ran {
+        pub code: u8,
         pub puzzle: Puzzle,
         pub at: usize,
         pub done: usize,
@@ -250,7 +257,7 @@ mod c {
             count: usize,
             out: *mut u16,
             room: usize,
-        );
+        ) -> Verdict;
         pub fn sendai_line(
             kind: u8,
             number: usize,
@@ -258,7 +265,7 @@ mod c {
             length: usize,
             buffer: *mut u8,
             room: usize,
-        ) -> usize;
+        ) -> Verdict;
     }
 }
 
@@ -286,7 +293,7 @@ pub fn neighbour(height: usize, width: usize, cell: usize, direction: u8) -> Bey
     }
 }
 
-/// A code of document 01 as a result.
+/// A refusal's number as a result.
 fn accepted(code: u8) -> Result<(), u8> {
     if code == 0 { Ok(()) } else { Err(code) }
 }
@@ -510,11 +517,11 @@ impl City {
     }
 
     pub fn states(&self) -> Vec<u8> {
-        self.0.states[..self.0.edges].to_vec()
+        self.0.book.states[..self.0.edges].to_vec()
     }
 
     pub fn ledger(&self) -> Vec<u16> {
-        self.0.ledger[..self.0.len].to_vec()
+        self.0.book.ledger[..self.0.book.len].to_vec()
     }
 
     /// With a buffer of just the edge count.

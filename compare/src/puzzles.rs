@@ -1,4 +1,4 @@
-//! Puzzles to compare on, damaged records, and document 01's questions about both.
+//! Puzzles to compare on, damaged records, and SPEC's questions about both.
 use crate::boards::{self, border_count, Standing, CONNECTED, UNDECIDED, WALL};
 use crate::port::PuzzleRecord;
 use crate::random::Random;
@@ -23,7 +23,7 @@ impl Making {
         self.given.iter().map(|&border| border as usize).collect()
     }
 
-    /// The number by which document 01 refuses the making, or 0.
+    /// The number by which SPEC 3 refuses the making, or 0.
     pub fn refusal(&self) -> u8 {
         if !within_limits(self.height, self.width) {
             return 1;
@@ -44,7 +44,7 @@ impl Making {
     }
 }
 
-/// The number by which document 01's questions 1 and 2 refuse a record, or 0.
+/// The number by which SPEC's questions 1 and 2 refuse a record, or 0.
 pub fn refusal(record: &PuzzleRecord) -> u8 {
     let board = &record.board;
     let (height, width) = (board.height, board.width);
@@ -170,7 +170,7 @@ pub fn towards(random: &mut Random, board: &Standing, length: usize) -> Vec<Call
     calls
 }
 
-/// A making that document 01 may refuse: a size, a given wall, an order, a number of clues or a clue is wrong.
+/// A making that SPEC 3 may refuse: a size, a given wall, an order, a number of clues or a clue is wrong.
 pub fn spoilt(random: &mut Random, mut making: Making) -> Making {
     let borders = border_count(making.height, making.width);
     for _ in 0..random.within(1, 2) {
@@ -195,7 +195,7 @@ fn beyond(random: &mut Random, n: usize) -> usize {
     *random.pick(&[n.saturating_add(1), n.saturating_sub(1), 1025, 1985, usize::MAX])
 }
 
-/// A record with one or two numbers changed, which document 01 may refuse; numbers behind the lists may be changed too.
+/// A record with one or two numbers changed, which SPEC 3 may refuse; numbers behind the lists may be changed too.
 pub fn damaged(random: &mut Random, mut record: PuzzleRecord) -> PuzzleRecord {
     let board = &mut record.board;
     let borders = border_count(board.height, board.width);

@@ -1,87 +1,95 @@
-//! The sample of the Rust's answers that crate `vectors` replays in the gate: a file a layer.
-//!
-//! A file is a kind byte, the number of cases in 16 bits, and the cases. Numbers are big-endian; a list has its length in 16
-//! bits in front. README.md has each layer's cases.
-use crate::boards::{self, Standing};
-use crate::layers::LAYERS;
+//! The script that crate `vectors` runs in the gate, and the Rust's answers to it: a line for each call. README.md has the calls.
+use crate::boards::{self, Standing, UNDECIDED};
+use crate::layers::{board, boundary, city_count, groups, hand_over, numbering, path, puzzle, shape, union_find};
 use crate::random::Random;
+use std::fmt::Display;
 use std::path::Path;
 
-/// A layer's file as it grows.
+/// The largest number of five digits, which stands for any that is larger.
+pub const LARGEST: usize = 99_999;
+
+/// The script and the answers as they grow.
 pub struct Sample {
-    cases: u16,
-    bytes: Vec<u8>,
+    script: String,
+    answers: String,
 }
 
 impl Sample {
-    pub fn case(&mut self) {
-        self.cases += 1;
+    /// A call (the record's letter and its own) with two numbers, and the answer to it.
+    pub fn call(&mut self, name: &str, x: usize, y: usize, answer: impl Display) {
+        self.script += &format!("{name} {:05} {:05}\n", x.min(LARGEST), y.min(LARGEST));
+        self.answers += &format!("{answer}\n");
     }
 
-    pub fn byte(&mut self, n: u8) {
-        self.bytes.push(n);
+    /// Two lists for the next call that takes lists.
+    pub fn lists(&mut self, first: &[u16], second: &[u16]) {
+        self.call("le", 0, 0, 0);
+        first.iter().for_each(|&n| self.call("lf", n as usize, 0, 0));
+        second.iter().for_each(|&n| self.call("ls", n as usize, 0, 0));
     }
 
-    /// A number of 16 bits; a larger one is written as the largest.
-    pub fn word(&mut self, n: usize) {
-        self.bytes.extend(u16::try_from(n).unwrap_or(u16::MAX).to_be_bytes());
-    }
-
-    pub fn words(&mut self, list: &[u16]) {
-        self.word(list.len());
-        list.iter().for_each(|&n| self.word(n as usize));
-    }
-
-    pub fn states(&mut self, states: &[u8]) {
-        self.word(states.len());
-        self.bytes.extend(states);
-    }
-
+    /// A board that stands so, its borders decided in rising order.
     pub fn board(&mut self, board: &Standing) {
-        self.byte(board.height as u8);
-        self.byte(board.width as u8);
-        self.states(&board.states);
-    }
-
-    /// The code, and the list where it is 0.
-    pub fn answer(&mut self, answer: &Result<Vec<u16>, u8>) {
-        self.byte(*answer.as_ref().err().unwrap_or(&0));
-        if let Ok(list) = answer {
-            self.words(list);
+        self.call("bm", board.height, board.width, 0);
+        for (border, &state) in board.states.iter().enumerate().filter(|(_, &state)| state != UNDECIDED) {
+            self.call("bd", border, state as usize, 0);
         }
-    }
-
-    /// 0 for clear; 1 and the list for a fault.
-    pub fn fault(&mut self, fault: &Option<Vec<u16>>) {
-        self.byte(fault.is_some() as u8);
-        if let Some(list) = fault {
-            self.words(list);
-        }
-    }
-
-    fn write(self, kind: u8, folder: &Path, name: &str) {
-        let head = [kind, (self.cases >> 8) as u8, self.cases as u8];
-        let bytes = [&head[..], &self.bytes[..]].concat();
-        assert!(bytes.len() <= 65536, "{name} does not fit the replay's buffer");
-        std::fs::write(folder.join(name), &bytes).expect("the sample's folder");
-        println!("{name}: {} cases, {} bytes", self.cases, bytes.len());
     }
 }
 
-/// Boards for a sample: so many random ones with sides to 6, and a long snake of the largest size.
-pub fn few_boards(count: usize) -> Vec<Standing> {
-    let random = &mut Random::new(count as u64);
-    let mut list: Vec<Standing> = (0..count).map(|_| boards::random(random, 1, 6)).collect();
-    let (_, snake) = boards::structured(32, 32).into_iter().find(|(name, _)| name == "snake, open beside").unwrap();
-    list.push(snake);
-    list
+/// Numbers, each after a space.
+pub fn numbers<T: Display>(list: &[T]) -> String {
+    list.iter().map(|n| format!(" {n}")).collect()
 }
 
-/// Writes each layer's file to the folder.
+/// The number of a refusal, or 0.
+pub fn code<T>(answer: &Result<T, u8>) -> u8 {
+    *answer.as_ref().err().unwrap_or(&0)
+}
+
+/// The code, and the list where it is 0.
+pub fn listed(answer: &Result<Vec<u16>, u8>) -> String {
+    format!("{}{}", code(answer), numbers(answer.as_deref().unwrap_or(&[])))
+}
+
+/// An ask that is not refused: clear, or a fault with its list.
+pub fn fault(fault: &Option<Vec<u16>>) -> String {
+    fault.as_ref().map_or("0".into(), |list| format!("0 fault{}", numbers(list)))
+}
+
+/// A record: how many borders are decided, their numbers in turn, and the states.
+pub fn record(ledger: &[u16], states: &[u8]) -> String {
+    format!("{}{};{}", ledger.len(), numbers(ledger), numbers(states))
+}
+
+/// Boards, and what is asked of each: random ones with sides to 6, structured ones, and a long snake of the largest size.
+fn standing(sample: &mut Sample) {
+    let random = &mut Random::new(120);
+    let mut list: Vec<Standing> = (0..120).map(|_| boards::random(random, 1, 6)).collect();
+    list.extend(boards::structured(6, 6).into_iter().map(|(_, board)| board));
+    list.extend(boards::structured(32, 32).into_iter().filter(|(name, _)| name == "snake, open beside").map(|(_, board)| board));
+    for board in list {
+        sample.board(&board);
+        groups::sample(sample, &board);
+        path::sample(sample, random, &board);
+        boundary::sample(sample, &board);
+        shape::sample(sample, &board);
+    }
+}
+
+/// Writes the script of all layers and the answers to it.
 pub fn write(folder: &Path) {
-    for layer in LAYERS.iter().filter(|layer| layer.kind != 0) {
-        let mut sample = Sample { cases: 0, bytes: vec![] };
-        (layer.sample)(&mut sample);
-        sample.write(layer.kind, folder, &format!("{}.bin", layer.name));
-    }
+    let sample = &mut Sample { script: String::new(), answers: String::new() };
+    numbering::sample(sample);
+    board::sample(sample);
+    standing(sample);
+    union_find::sample(sample);
+    city_count::sample(sample);
+    puzzle::sample(sample);
+    hand_over::sample(sample);
+    sample.script += ".  00000 00000\n";
+    sample.answers += "end\n";
+    println!("{} calls", sample.script.lines().count() - 1);
+    std::fs::write(folder.join("stdin"), &sample.script).expect("the crate's folder");
+    std::fs::write(folder.join("stdout"), &sample.answers).expect("the crate's folder");
 }

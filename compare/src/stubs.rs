@@ -169,8 +169,7 @@ pub mod cspuz_rs {
             pub index_in_room: Vec<Vec<usize>>,
         }
 
-        /// Document 01: rooms are the sets of cells joined when only given walls part cells, numbered from 0 by first cell
-        /// in row order; their cells are in row order.
+        /// Rooms by SPEC 1.7, numbered by first cell in row order; their cells are in row order.
         pub fn borders_to_room_partition(borders: &InnerGridEdges<Vec<Vec<bool>>>) -> RoomPartition {
             let (height, width) = borders.base_shape();
             let mut room_of = vec![vec![None; width]; height];

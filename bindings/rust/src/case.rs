@@ -9,7 +9,7 @@ use crate::{accepted, sys, Puzzle, Refusal};
 /// let file = [1, 0, 0x12, 1, 3, 0, 0, 0, 1, 0xff, 0xff, 0, 4, 2, 0, 0, 1, 0, 1, 3, 0];
 /// let mut case = Case::open(&file)?;
 /// let mut out = vec![0; MAX_LINE * case.left()];
-/// assert_eq!(case.run(4, &mut out), b"decided\ndecided\nshape: 1 2\nundone\n");
+/// assert_eq!(case.run(4, &mut out)?, b"decided\ndecided\nshape: 1 2\nundone\n");
 /// assert_eq!(case.puzzle().ledger().collect::<Vec<_>>(), [(0, true)]);
 /// # Ok::<(), sendai::Refusal>(())
 /// ```
@@ -39,9 +39,9 @@ impl<'f> Case<'f> {
         self.left
     }
 
-    /// Does the next `count` calls, or all that are left, and returns the lines that they print. Nothing is done or written where `out`
-    /// has fewer than [`MAX_LINE`](crate::MAX_LINE) places for each of them.
-    pub fn run<'o>(&mut self, count: usize, out: &'o mut [u8]) -> &'o [u8] {
+    /// Does the next `count` calls, or all that are left, and returns the lines that they print. Refused: `ShortBuffer`
+    /// ([`MAX_LINE`](crate::MAX_LINE) places for each of them); the case is then as it was.
+    pub fn run<'o>(&mut self, count: usize, out: &'o mut [u8]) -> Result<&'o [u8], Refusal> {
         let (file, count) = (self.file, count.min(self.left));
         let (to, places) = (out.as_mut_ptr(), out.len());
         // SAFETY: both slices live through the call, and one that is lent to be written overlaps no other.
@@ -49,6 +49,7 @@ impl<'f> Case<'f> {
         self.puzzle = Puzzle(ran.puzzle);
         self.at = ran.at;
         self.left -= ran.done;
-        &out[..ran.length]
+        accepted(ran.code)?;
+        Ok(&out[..ran.length])
     }
 }

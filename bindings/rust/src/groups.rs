@@ -47,11 +47,11 @@ impl<'b> Groups<'b> {
         &self.info.starts[..self.info.count]
     }
 
-    /// A group's cells, copied to the front of `out`; as many as it has room for. Empty where there is no such group.
+    /// A group's cells, copied to the front of `out`. Empty where there is no such group, or where `out` has fewer places.
     pub fn group<'o>(&self, group: usize, out: &'o mut [u16]) -> &'o [u16] {
         let (buffer, places) = (self.buffer, out.len());
         // SAFETY: both slices live through the call, and one that is lent to be written overlaps no other.
         let cells = unsafe { sys::sendai_group(self.info, buffer.as_ptr(), buffer.len(), group, out.as_mut_ptr(), places) };
-        &out[..cells.min(places)]
+        &out[..cells]
     }
 }

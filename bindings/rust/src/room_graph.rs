@@ -88,12 +88,12 @@ impl RoomGraph {
 
     /// The states, by edge.
     pub fn states(&self) -> impl Iterator<Item = State> + '_ {
-        self.0.states[..self.0.edges].iter().map(|&state| State::of(state))
+        self.0.book.states[..self.0.edges].iter().map(|&state| State::of(state))
     }
 
     /// The decided edges in order, each with whether it is a Wall.
     pub fn ledger(&self) -> impl Iterator<Item = (usize, bool)> + '_ {
-        board::decisions(&self.0.ledger[..self.0.len], &self.0.states)
+        board::decisions(&self.0.book.ledger[..self.0.book.len], &self.0.book.states)
     }
 }
 

@@ -34,15 +34,19 @@ records! {
         u: u16 = 0,
         v: u16 = 2,
     }
+    /// States and ledger of a room graph's edges.
+    Book, 5960 {
+        states: [u8; 1984] = 0,
+        ledger: [u16; 1984] = 1984,
+        len: usize = 5952,
+    }
     Room, 13920 {
         vertices: usize = 0,
         edges: usize = 8,
         us: [u16; 1984] = 16,
         vs: [u16; 1984] = 3984,
         count: u32 = 7952,
-        states: [u8; 1984] = 7956,
-        ledger: [u16; 1984] = 9940,
-        len: usize = 13912,
+        book: Book = 7960,
     }
     GroupInfo, 4120 {
         height: usize = 0,
@@ -91,6 +95,11 @@ records! {
         cell: usize = 8,
         border: usize = 16,
     }
+    Answer, 16 {
+        code: u8 = 0,
+        fault: bool = 1,
+        length: usize = 8,
+    }
     Listing, 16 {
         code: u8 = 0,
         length: usize = 8,
@@ -112,11 +121,12 @@ records! {
         at: usize = 12016,
         count: usize = 12024,
     }
-    Ran, 12032 {
-        puzzle: Puzzle = 0,
-        at: usize = 12008,
-        done: usize = 12016,
-        length: usize = 12024,
+    Ran, 12040 {
+        code: u8 = 0,
+        puzzle: Puzzle = 8,
+        at: usize = 12016,
+        done: usize = 12024,
+        length: usize = 12032,
     }
     FileParts, 72 {
         code: u8 = 0,
@@ -208,7 +218,14 @@ unsafe extern "C" {
     pub fn sendai_file_decode(file: *const u8, length: usize) -> FileParts;
     pub fn sendai_file_call(file: *const u8, length: usize, at: usize) -> FileCall;
     pub fn sendai_file_number(file: *const u8, length: usize, at: usize, count: usize, k: usize) -> usize;
-    pub fn sendai_file_numbers(file: *const u8, length: usize, at: usize, count: usize, out: *mut u16, out_length: usize);
+    pub fn sendai_file_numbers(
+        file: *const u8,
+        length: usize,
+        at: usize,
+        count: usize,
+        buffer: *mut u16,
+        buffer_length: usize,
+    ) -> Answer;
     pub fn sendai_line(
         kind: u8,
         number: usize,
@@ -216,5 +233,5 @@ unsafe extern "C" {
         length: usize,
         buffer: *mut u8,
         buffer_length: usize,
-    ) -> usize;
+    ) -> Answer;
 }

@@ -6,7 +6,7 @@ use crate::port;
 use crate::random::Random;
 use crate::reference::Board;
 use crate::runs::{self, Call};
-use crate::sample::Sample;
+use crate::sample::{code, record, Sample, LARGEST};
 use crate::tally::Tally;
 
 fn compare(tally: &mut Tally, height: usize, width: usize, calls: &[Call]) {
@@ -67,25 +67,20 @@ pub fn run(limits: &Limits) -> Tally {
     tally.done()
 }
 
-/// A size, calls with the Rust's answers, and the ledger and the states that they left.
+/// A board, calls with the Rust's answers, and the record that they left.
 fn store(sample: &mut Sample, height: usize, width: usize, calls: &[Call]) {
-    sample.case();
-    sample.byte(height as u8);
-    sample.byte(width as u8);
-    sample.word(calls.len());
+    sample.call("bm", height, width, 0);
     let mut rust = Board::new(height, width);
     for &call in calls {
-        let (kind, named) = call.coded();
-        sample.byte(kind);
-        sample.word(named);
-        let answer = match call {
-            Call::Decide { border, wall } => rust.decide(border.min(65535), wall),
-            Call::Undo => rust.undo(),
-        };
-        sample.byte(answer.err().unwrap_or(0));
+        match call {
+            Call::Decide { border, wall } => {
+                let answer = rust.decide(border.min(LARGEST), wall);
+                sample.call("bd", border, 1 + wall as usize, code(&answer));
+            }
+            Call::Undo => sample.call("bu", 0, 0, code(&rust.undo())),
+        }
     }
-    sample.words(&rust.ledger());
-    sample.states(&rust.states());
+    sample.call("br", border_count(height, width), 0, record(&rust.ledger(), &rust.states()));
 }
 
 pub fn sample(sample: &mut Sample) {

@@ -3,7 +3,7 @@ use super::{on_boards, Limits};
 use crate::boards::Standing;
 use crate::port;
 use crate::reference::Board;
-use crate::sample::{few_boards, Sample};
+use crate::sample::{listed, Sample};
 use crate::tally::Tally;
 
 fn compare(tally: &mut Tally, board: &Standing) {
@@ -27,24 +27,14 @@ pub fn run(limits: &Limits) -> Tally {
     tally.done()
 }
 
-/// A board, the number of lists, and for each its kind (1 for a potential unit), the group and the answer.
-pub fn sample(sample: &mut Sample) {
-    for board in few_boards(30) {
-        sample.case();
-        sample.board(&board);
-        let rust = Board::standing(board.height, board.width, &board.states);
-        let info = rust.info();
-        let (units, potential) = (info.count(false).min(12), info.count(true).min(12));
-        sample.word(units + potential + 2);
-        for unit in 0..=units {
-            sample.byte(0);
-            sample.word(unit);
-            sample.answer(&rust.unit_boundary(&info, unit));
-        }
-        for unit in 0..=potential {
-            sample.byte(1);
-            sample.word(unit);
-            sample.answer(&rust.potential_unit_boundary(&info, unit));
-        }
+/// The lists of some groups, and of one that does not exist.
+pub fn sample(sample: &mut Sample, board: &Standing) {
+    let rust = Board::standing(board.height, board.width, &board.states);
+    let info = rust.info();
+    for unit in (0..info.count(false).min(4)).chain([info.count(false)]) {
+        sample.call("bv", unit, 0, listed(&rust.unit_boundary(&info, unit)));
+    }
+    for unit in (0..info.count(true).min(4)).chain([info.count(true)]) {
+        sample.call("bw", unit, 0, listed(&rust.potential_unit_boundary(&info, unit)));
     }
 }

@@ -4,7 +4,7 @@ use crate::port;
 use crate::random::Random;
 use crate::reference::City;
 use crate::runs::{self, Call};
-use crate::sample::Sample;
+use crate::sample::{code, fault, Sample, LARGEST};
 use crate::tally::Tally;
 
 type Edges = Vec<(usize, usize)>;
@@ -134,40 +134,28 @@ pub fn run(limits: &Limits) -> Tally {
     tally.done()
 }
 
-/// The vertices, each edge's first and second vertex, the count (32 bits), the making's code, and calls (as in a case file, each
-/// with its edge) with their codes, an ask's code being followed by its answer.
+/// The edges, the vertices and the count, and calls with an ask after each.
 pub fn sample(sample: &mut Sample) {
     let random = &mut Random::new(8);
     for _ in 0..60 {
-        sample.case();
         let vertices = random.within(1, 9);
         let edges = random.below(12);
         let graph = drawn(random, vertices, edges);
-        let count = random.below(vertices + 2) as u32;
+        let count = random.below(vertices + 2);
         let ends = |end: fn(&(usize, usize)) -> usize| graph.iter().map(|e| end(e) as u16).collect::<Vec<u16>>();
-        sample.word(vertices);
-        sample.words(&ends(|e| e.0));
-        sample.words(&ends(|e| e.1));
-        sample.word((count >> 16) as usize);
-        sample.word((count & 0xffff) as usize);
-        let made = City::new(vertices, &graph, count);
-        sample.byte(*made.as_ref().err().unwrap_or(&0));
-        let calls = if made.is_ok() { runs::random(random, edges, 12, 4) } else { vec![] };
-        sample.word(2 * calls.len());
+        sample.lists(&ends(|e| e.0), &ends(|e| e.1));
+        let made = City::new(vertices, &graph, count as u32);
+        sample.call("rm", vertices, count, code(&made));
         let Ok(mut rust) = made else { continue };
-        for call in calls {
-            let (kind, edge) = call.coded();
-            let answer = match call {
-                Call::Decide { border, wall } => rust.decide(border.min(65535), wall),
-                Call::Undo => rust.undo(),
-            };
-            sample.byte(kind);
-            sample.word(edge);
-            sample.byte(answer.err().unwrap_or(0));
-            sample.byte(3);
-            sample.word(0);
-            sample.byte(0);
-            sample.fault(&rust.ask());
+        for call in runs::random(random, edges, 12, 4) {
+            match call {
+                Call::Decide { border, wall } => {
+                    let answer = rust.decide(border.min(LARGEST), wall);
+                    sample.call("rd", border, 1 + wall as usize, code(&answer));
+                }
+                Call::Undo => sample.call("ru", 0, 0, code(&rust.undo())),
+            }
+            sample.call("ra", 0, 0, fault(&rust.ask()));
         }
     }
 }

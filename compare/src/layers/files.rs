@@ -1,11 +1,10 @@
-//! Case files, sound and damaged: what is read of them and what is printed for them, beside document 01's sentences and the Rust's
+//! Case files, sound and damaged: what is read of them and what is printed for them, beside SPEC 5 and the Rust's
 //! answers.
 use super::{until, Limits};
 use crate::files::{self, Case, Line};
 use crate::port::file::{self as port, Lent, Parts, LINE_ROOM};
 use crate::port::PuzzleRecord;
 use crate::random::Random;
-use crate::sample::Sample;
 use crate::tally::Tally;
 use std::path::{Path, PathBuf};
 use std::process::Command;
@@ -61,7 +60,7 @@ fn parts(case: Option<&Case>) -> Parts {
 }
 
 impl Compared {
-    /// A printed line: the Rust's, and one of document 01's by its look alone.
+    /// A printed line: the Rust's, and one of SPEC 5.4 by its look alone.
     fn line(&mut self, expected: &Line, printed: &[u8], on: impl Fn() -> String) {
         self.counts.lines[expected.fields().0 as usize] += 1;
         self.tally.same(&expected.text(), &text(printed), &on);
@@ -101,9 +100,9 @@ impl Compared {
             let (kind, number, entries) = line.fields();
             let room = 27 + 6 * entries.len();
             let printed = port::line(kind, number, entries, &mut self.lent, room);
-            self.tally.same(&line.text(), &text(&printed), || format!("{line:?}"));
+            self.tally.same(&Ok(line.text()), &printed.map(|line| text(&line)), || format!("{line:?}"));
             let short = port::line(kind, number, entries, &mut self.lent, room - 1);
-            self.tally.same(&vec![], &short, || format!("{line:?} in {} places", room - 1));
+            self.tally.same(&Err(6), &short, || format!("{line:?} in {} places", room - 1));
         }
     }
 
@@ -114,7 +113,7 @@ impl Compared {
             let on = || format!("call {k} of {}", hexadecimal(bytes));
             let (ran, printed) = port::run(bytes, at, 1, puzzle, &mut self.lent, LINE_ROOM);
             self.line(line, &printed, on);
-            self.tally.same(&1, &ran.done, on);
+            self.tally.same(&(0, 1), &(ran.code, ran.done), on);
             (puzzle, at) = (ran.puzzle, ran.at);
         }
         self.tally.same(&(bytes.len(), left), &(at, &puzzle), || hexadecimal(bytes));
@@ -127,11 +126,11 @@ impl Compared {
             let count = self.random.within(1, AT_ONCE);
             let on = || format!("{count} calls from call {done} of {}", hexadecimal(bytes));
             let (ran, printed) = port::run(bytes, at, count, puzzle, &mut self.lent, count * LINE_ROOM - 1);
-            self.tally.same(&(puzzle, at, 0, String::new()), &(ran.puzzle, ran.at, ran.done, text(&printed)), on);
+            self.tally.same(&(6, puzzle, at, 0, String::new()), &(ran.code, ran.puzzle, ran.at, ran.done, text(&printed)), on);
             let (ran, printed) = port::run(bytes, at, count, puzzle, &mut self.lent, count * LINE_ROOM);
             let some = &lines[done..lines.len().min(done + count)];
             let expected: String = some.iter().map(Line::text).collect();
-            self.tally.same(&(some.len(), expected), &(ran.done, text(&printed)), on);
+            self.tally.same(&(0, some.len(), expected), &(ran.code, ran.done, text(&printed)), on);
             if ran.done == 0 {
                 return;
             }
@@ -151,10 +150,10 @@ impl Compared {
         let opened = port::open(bytes);
         match files::printed(case.as_ref()) {
             Err(number) => {
-                self.tally.same(&number, &opened.code, on);
+                self.tally.same(&(number, 0, 0), &(opened.code, opened.at, opened.count), on);
                 let line = Line::Refused(number);
                 // one line is printed, of what the port answered
-                let printed = port::line(5, opened.code as usize, &[], &mut self.lent, 27);
+                let printed = port::line(5, opened.code as usize, &[], &mut self.lent, 27).unwrap_or_default();
                 self.line(&line, &printed, on);
                 (case.is_some(), line.text())
             }
@@ -231,7 +230,7 @@ impl Compared {
         }
     }
 
-    /// Files at document 01's limit of length.
+    /// Files at the limit of length (SPEC 5.1).
     fn lengths(&mut self) {
         for rest in [59_999, 60_000, 60_001, 65_535] {
             let bytes = files::of_length(rest);
@@ -293,6 +292,3 @@ pub fn run(limits: &Limits) -> Tally {
     println!("files: lines: {decided} decided, {undone} undone, {clear} clear, {shape} shape, {room} room, {refused} refused");
     compared.tally.done()
 }
-
-/// Nothing is stored: crate `examples` has its files.
-pub fn sample(_: &mut Sample) {}

@@ -3,7 +3,7 @@ use super::{on_boards, Limits};
 use crate::boards::Standing;
 use crate::port;
 use crate::reference::Board;
-use crate::sample::{few_boards, Sample};
+use crate::sample::{numbers, Sample};
 use crate::tally::Tally;
 
 fn compare(tally: &mut Tally, board: &Standing) {
@@ -33,17 +33,17 @@ pub fn run(limits: &Limits) -> Tally {
     tally.done()
 }
 
-/// A board, and for units and then potential units each cell's group, the cells in turn and the starts.
-pub fn sample(sample: &mut Sample) {
-    for board in few_boards(40) {
-        sample.case();
-        sample.board(&board);
-        let info = Board::standing(board.height, board.width, &board.states).info();
-        for potential in [false, true] {
-            let groups = info.groups(potential);
-            sample.words(&groups.of);
-            sample.words(&groups.cells);
-            sample.words(&groups.starts);
+/// The units and the potential units, and the cells that are handed out for some of them and for one that does not exist.
+pub fn sample(sample: &mut Sample, board: &Standing) {
+    let info = Board::standing(board.height, board.width, &board.states).info();
+    for potential in [false, true] {
+        let groups = info.groups(potential);
+        let lists = [numbers(&groups.of), numbers(&groups.cells), numbers(&groups.starts)];
+        sample.call("bg", board.cells(), potential as usize, format!("0{}", lists.join(";")));
+        let count = info.count(potential);
+        for group in (0..count.min(2)).chain([count]) {
+            let cells = info.group(potential, group).unwrap_or_default();
+            sample.call("bh", group, potential as usize, format!("{}{}", cells.len(), numbers(&cells)));
         }
     }
 }

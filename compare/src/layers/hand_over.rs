@@ -4,7 +4,7 @@ use crate::boards;
 use crate::port;
 use crate::random::Random;
 use crate::reference::Board;
-use crate::sample::Sample;
+use crate::sample::{listed, Sample};
 use crate::tally::Tally;
 
 fn sorted(entries: &[u16]) -> Vec<u16> {
@@ -51,13 +51,15 @@ pub fn run(limits: &Limits) -> Tally {
     tally.done()
 }
 
-/// A list, and what is handed over of it.
+/// A list, and what is handed over of it, into as many places and into one less.
 pub fn sample(sample: &mut Sample) {
     let random = &mut Random::new(10);
     for _ in 0..60 {
-        sample.case();
         let entries = drawn(random, 40);
-        sample.words(&entries);
-        sample.words(&sorted(&entries));
+        sample.lists(&entries, &[]);
+        sample.call("lh", entries.len(), 0, listed(&Ok(sorted(&entries))));
+        if let Some(short) = entries.len().checked_sub(1) {
+            sample.call("lh", short, 0, 6);
+        }
     }
 }

@@ -59,18 +59,23 @@ pub fn run(_: &Limits) -> Tally {
     tally.done()
 }
 
-/// A size, the number of its cells, and for each cell the borders right of it and under it, 65535 where there is none.
+/// A size, and the neighbours of its cells and of one that does not exist; of a large size those under and right of each cell.
 pub fn sample(sample: &mut Sample) {
     for (height, width) in [(1, 1), (1, 2), (2, 1), (1, 32), (32, 1), (2, 2), (2, 3), (3, 2), (5, 7), (7, 5), (32, 32)] {
-        sample.case();
-        sample.byte(height as u8);
-        sample.byte(width as u8);
-        sample.word(height * width);
+        sample.call("gm", height, width, 0);
         let rust = numbering(height, width);
         for cell in 0..height * width {
-            let (y, x) = (cell / width, cell % width);
-            sample.word(if x < width - 1 { rust.right_of(y, x) } else { usize::MAX });
-            sample.word(if y < height - 1 { rust.under(y, x) } else { usize::MAX });
+            let directions = if height * width < 1024 { &[UP, DOWN, LEFT, RIGHT][..] } else { &[DOWN, RIGHT] };
+            for &direction in directions {
+                let answer = match beyond(&rust, (height, width), (cell / width, cell % width), direction) {
+                    Beyond::At { cell, border } => format!("0 {cell} {border}"),
+                    _ => "0".into(),
+                };
+                sample.call("gn", cell, direction as usize, answer);
+            }
         }
+        sample.call("gn", height * width, UP as usize, 3);
     }
+    sample.call("gm", 33, 1, 0);
+    sample.call("gn", 0, UP as usize, 1);
 }

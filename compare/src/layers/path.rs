@@ -4,7 +4,7 @@ use crate::boards::Standing;
 use crate::port;
 use crate::random::Random;
 use crate::reference::Board;
-use crate::sample::{few_boards, Sample};
+use crate::sample::{listed, Sample, LARGEST};
 use crate::tally::Tally;
 
 /// The pairs to try on a board: all of a small one; else the corners and some others, and cells that do not exist.
@@ -38,21 +38,12 @@ pub fn run(limits: &Limits) -> Tally {
     tally.done()
 }
 
-/// A board, the number of pairs, and for each the two cells and the answer.
-pub fn sample(sample: &mut Sample) {
-    let random = &mut Random::new(4);
-    for board in few_boards(40) {
-        sample.case();
-        sample.board(&board);
-        let rust = Board::standing(board.height, board.width, &board.states);
-        let mut pairs = pairs(random, board.cells());
-        random.shuffle(&mut pairs[2..]);
-        pairs.truncate(8);
-        sample.word(pairs.len());
-        for (from, to) in pairs {
-            sample.word(from);
-            sample.word(to);
-            sample.answer(&rust.path(from.min(65535), to.min(65535)));
-        }
+/// Some pairs of cells.
+pub fn sample(sample: &mut Sample, random: &mut Random, board: &Standing) {
+    let rust = Board::standing(board.height, board.width, &board.states);
+    let mut pairs = pairs(random, board.cells());
+    random.shuffle(&mut pairs[2..]);
+    for &(from, to) in &pairs[..pairs.len().min(6)] {
+        sample.call("bp", from, to, listed(&rust.path(from.min(LARGEST), to.min(LARGEST))));
     }
 }

@@ -1,4 +1,4 @@
-//! The puzzle: making, decide, undo and ask beside the checks that `solve_sendai` lays out; damaged records by document 01's questions.
+//! The puzzle: making, decide, undo and ask beside the checks that `solve_sendai` lays out; damaged records by SPEC's questions.
 use super::{until, Limits};
 use crate::answers::Answer;
 use crate::boards::{self, border_count, Standing, UNDECIDED, WALL};
@@ -7,7 +7,7 @@ use crate::puzzles::{self, Making};
 use crate::random::Random;
 use crate::reference::Puzzle;
 use crate::runs::Call;
-use crate::sample::Sample;
+use crate::sample::{code, numbers, record, Sample, LARGEST};
 use crate::tally::Tally;
 
 /// The tally, and how many of the accepted asks were clear, faults of the shape check, and faults of a room.
@@ -36,7 +36,7 @@ impl Both<'_> {
 }
 
 impl Compared {
-    /// Makes a puzzle on both sides; where document 01 refuses it and the Rust has a word on it, that is the same one.
+    /// Makes a puzzle on both sides; where SPEC 3 refuses it and the Rust has a word on it, that is the same one.
     fn made<'a>(&mut self, making: &'a Making, absent: bool) -> Option<Both<'a>> {
         self.tally.case();
         let on = || format!("{making:?}");
@@ -238,59 +238,40 @@ pub fn run(limits: &Limits) -> Tally {
     compared.tally.done()
 }
 
-/// An ask with so many places: its code, and where it is 0 the answer.
+/// An ask with so many places.
 fn store_ask(sample: &mut Sample, rust: &mut Puzzle, places: usize, needed: usize) {
-    sample.byte(3);
-    sample.word(places);
-    if places < needed {
-        return sample.byte(6);
-    }
-    sample.byte(0);
-    match rust.ask() {
-        Answer::Clear => sample.byte(0),
-        Answer::Shape(list) => {
-            sample.byte(1);
-            sample.words(&list);
-        }
-        Answer::Room(room, list) => {
-            sample.byte(2);
-            sample.word(room);
-            sample.words(&list);
-        }
-    }
+    let answer = match rust.ask() {
+        _ if places < needed => "6".into(),
+        Answer::Clear => "0".into(),
+        Answer::Shape(list) => format!("shape 0 fault{}", numbers(&list)),
+        Answer::Room(room, list) => format!("room {room} 0 fault{}", numbers(&list)),
+    };
+    sample.call("pa", places, 0, answer);
 }
 
-/// A making with its code, calls with their codes, an ask after each, and the ledger and the states that they left.
+/// A making, calls with an ask after each, and the record that they left.
 fn store(sample: &mut Sample, random: &mut Random, making: &Making, calls: &[Call]) {
-    sample.case();
-    sample.byte(making.height as u8);
-    sample.byte(making.width as u8);
-    sample.words(&making.given);
-    sample.words(&making.clues);
-    let code = making.refusal();
-    sample.byte(code);
-    if code != 0 {
-        // no calls, and a record of zeros
-        return (0..3).for_each(|_| sample.word(0));
+    sample.lists(&making.given, &making.clues);
+    sample.call("pm", making.height, making.width, making.refusal());
+    if making.refusal() != 0 {
+        // a record of zeros
+        return sample.call("pr", 0, 0, record(&[], &[]));
     }
     let mut rust = Puzzle::new(making.height, making.width, &making.walls(), &making.clues, true).expect("made");
     let needed = 9 * making.height * making.width;
-    sample.word(2 * calls.len() + 1);
     store_ask(sample, &mut rust, needed, needed);
     for &call in calls {
-        let (kind, named) = call.coded();
-        sample.byte(kind);
-        sample.word(named);
-        let answer = match call {
-            Call::Decide { border, wall } => rust.decide(border.min(65535), wall),
-            Call::Undo => rust.undo(),
-        };
-        sample.byte(answer.err().unwrap_or(0));
+        match call {
+            Call::Decide { border, wall } => {
+                let answer = rust.decide(border.min(LARGEST), wall);
+                sample.call("pd", border, 1 + wall as usize, code(&answer));
+            }
+            Call::Undo => sample.call("pu", 0, 0, code(&rust.undo())),
+        }
         let places = if random.chance(1, 8) { needed - 1 } else { needed };
         store_ask(sample, &mut rust, places, needed);
     }
-    sample.words(&rust.ledger());
-    sample.states(&rust.states());
+    sample.call("pr", rust.states().len(), 0, record(&rust.ledger(), &rust.states()));
 }
 
 pub fn sample(sample: &mut Sample) {
@@ -298,7 +279,7 @@ pub fn sample(sample: &mut Sample) {
     for turn in 0..100 {
         let (board, making) = puzzles::drawn(random, 1, 5);
         let making = if turn % 5 == 4 { puzzles::spoilt(random, making) } else { making };
-        let making = Making { height: making.height.min(255), ..making };
+        let making = Making { height: making.height.min(LARGEST), width: making.width.min(LARGEST), ..making };
         let calls = puzzles::towards(random, &board, 12);
         store(sample, random, &making, &calls);
     }

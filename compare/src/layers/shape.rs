@@ -4,7 +4,7 @@ use crate::boards::{self, Standing};
 use crate::port;
 use crate::random::Random;
 use crate::reference::Board;
-use crate::sample::{few_boards, Sample};
+use crate::sample::{fault, Sample};
 use crate::tally::Tally;
 
 fn compare(tally: &mut Tally, board: &Standing) {
@@ -24,13 +24,7 @@ pub fn run(limits: &Limits) -> Tally {
     tally.done()
 }
 
-/// A board, and clear or the fault's list.
-pub fn sample(sample: &mut Sample) {
-    let mut list = few_boards(120);
-    list.extend(boards::structured(6, 6).into_iter().map(|(_, board)| board));
-    for board in list {
-        sample.case();
-        sample.board(&board);
-        sample.fault(&Board::standing(board.height, board.width, &board.states).ask());
-    }
+/// Clear, or the fault's list.
+pub fn sample(sample: &mut Sample, board: &Standing) {
+    sample.call("ba", 0, 0, fault(&Board::standing(board.height, board.width, &board.states).ask()));
 }

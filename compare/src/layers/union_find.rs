@@ -3,7 +3,7 @@ use super::{until, Limits};
 use crate::port;
 use crate::random::Random;
 use crate::reference::Union;
-use crate::sample::Sample;
+use crate::sample::{code, numbers, Sample, LARGEST};
 use crate::tally::Tally;
 
 #[derive(Clone, Copy, Debug)]
@@ -80,28 +80,21 @@ pub fn run(limits: &Limits) -> Tally {
     tally.done()
 }
 
-/// The vertices, calls (0 find, 1 unite, two vertices) with the code and the answer, and the parents that they left.
+/// The vertices, calls, and the parents that they left.
 pub fn sample(sample: &mut Sample) {
     let random = &mut Random::new(7);
     for at in 0..40 {
-        sample.case();
         let vertices = if at == 0 { 1024 } else { random.within(0, 12) };
-        let calls = drawn(random, vertices, 20);
-        sample.word(vertices);
-        sample.word(calls.len());
+        sample.call("um", vertices, 0, 0);
         let mut rust = Union::new(vertices);
-        for call in calls {
-            let (kind, x, y) = match call {
-                Call::Find(x) => (0, x.min(65535), 0),
-                Call::Unite(x, y) => (1, x.min(65535), y.min(65535)),
+        for call in drawn(random, vertices, 20) {
+            let (name, x, y, answer) = match call {
+                Call::Find(x) => ("uf", x, 0, rust.find(x.min(LARGEST))),
+                Call::Unite(x, y) => ("uu", x, y, rust.unite(x.min(LARGEST), y.min(LARGEST)).map(usize::from)),
             };
-            let answer = if kind == 0 { rust.find(x) } else { rust.unite(x, y).map(usize::from) };
-            sample.byte(kind);
-            sample.word(x);
-            sample.word(y);
-            sample.byte(*answer.as_ref().err().unwrap_or(&0));
-            sample.word(answer.unwrap_or(0));
+            sample.call(name, x, y, format!("{} {}", code(&answer), answer.unwrap_or(0)));
         }
-        sample.words(&rust.parents());
+        let parents = rust.parents();
+        sample.call("up", 0, 0, format!("{}{}", parents.len(), numbers(&parents)));
     }
 }

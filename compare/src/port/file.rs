@@ -47,12 +47,13 @@ pub fn run(file: &[u8], at: usize, count: usize, from: c::Puzzle, lent: &mut Len
 }
 
 /// A line with so many places for it.
-pub fn line(kind: u8, number: usize, entries: &[u16], lent: &mut Lent, room: usize) -> Vec<u8> {
-    let written = lent.lend(room, |out, room| {
+pub fn line(kind: u8, number: usize, entries: &[u16], lent: &mut Lent, room: usize) -> Result<Vec<u8>, u8> {
+    let (code, written) = lent.lend(room, |out, room| {
         // both slices live through the call, and neither overlaps the other
-        ((), unsafe { c::sendai_line(kind, number, entries.as_ptr(), entries.len(), out, room) })
+        let told = unsafe { c::sendai_line(kind, number, entries.as_ptr(), entries.len(), out, room) };
+        (told.code, told.length)
     });
-    written.1
+    if code == 0 { Ok(written) } else { Err(code) }
 }
 
 /// Where the file's parts stand.
@@ -78,18 +79,20 @@ pub fn number(file: &[u8], at: usize, count: usize, k: usize) -> usize {
     unsafe { c::sendai_file_number(file.as_ptr(), file.len(), at, count, k) }
 }
 
-/// The numbers of a list in a buffer of so many places; where nothing was written it is as it was.
-pub fn numbers(file: &[u8], at: usize, count: usize, room: usize) -> Vec<u16> {
+/// The numbers of a list, lent so many places: the code, how many there are, and the buffer that the call left.
+pub fn numbers(file: &[u8], at: usize, count: usize, room: usize) -> (u8, usize, Vec<u16>) {
     let mut buffer = vec![UNTOUCHED; room];
     // both slices live through the call, and neither overlaps the other
-    unsafe { c::sendai_file_numbers(file.as_ptr(), file.len(), at, count, buffer.as_mut_ptr(), room) };
-    buffer
+    let told = unsafe { c::sendai_file_numbers(file.as_ptr(), file.len(), at, count, buffer.as_mut_ptr(), room) };
+    (told.code, told.length, buffer)
 }
 
-/// The numbers of a list as `numbers` leaves them.
-pub fn in_buffer(list: &[u16], room: usize) -> Vec<u16> {
+/// What `numbers` is to answer for this list.
+pub fn in_buffer(list: &[u16], room: usize) -> (u8, usize, Vec<u16>) {
     let mut buffer = vec![UNTOUCHED; room];
-    let reach = room.min(list.len());
-    buffer[..reach].copy_from_slice(&list[..reach]);
-    buffer
+    if room < list.len() {
+        return (6, 0, buffer);
+    }
+    buffer[..list.len()].copy_from_slice(list);
+    (0, list.len(), buffer)
 }

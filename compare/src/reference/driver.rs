@@ -1,7 +1,7 @@
-// Calls of the Rust in document 01's terms: cells and borders by number, states and entries as numbers, a panic as the
+// Calls of the Rust in the terms of docs/SPEC.md: cells and borders by number, states and entries as numbers, a panic as the
 // refusal that stands for it. Included into the module of sendai.rs.
 
-/// Document 01's number of a state.
+/// A state's number (SPEC 1.3).
 fn state_of(border: Border) -> u8 {
     match border {
         Border::Undecided => 0,
@@ -236,7 +236,7 @@ struct Room {
     borders: Vec<usize>,
 }
 
-/// Document 01's mark for a room without a clue.
+/// No clue (SPEC 1.7).
 pub const NO_CLUE: u16 = 65535;
 
 /// Given walls as `solve_sendai` takes them.

@@ -1,5 +1,5 @@
 //! Where the Rust panics, the port refuses. A panic's text says which of the Rust's asserts failed, and so which of
-//! document 01's questions was answered no.
+//! SPEC's questions was answered no.
 use std::cell::RefCell;
 use std::panic::{catch_unwind, set_hook, take_hook, AssertUnwindSafe};
 
@@ -33,12 +33,12 @@ pub fn heard<T>(call: impl FnOnce() -> T) -> Result<T, String> {
     result.map_err(|_| text)
 }
 
-/// Runs a call of the Rust: its result, or the number by which document 01 refuses such a call.
+/// Runs a call of the Rust: its result, or the number by which SPEC 3 refuses such a call.
 pub fn quietly<T>(call: impl FnOnce() -> T) -> Result<T, u8> {
     heard(call).map_err(|text| refusal(&text))
 }
 
-/// The refusal for a panic's text; 0 for one that no question of document 01 foresees.
+/// The refusal for a panic's text; 0 for one that no question of SPEC 3 foresees.
 fn refusal(text: &str) -> u8 {
     let asserts = [
         ("y < self.height && x < self.width", 3),

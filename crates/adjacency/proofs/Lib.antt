@@ -1,4 +1,3 @@
-pub mod TurnLaws
 pub mod LookLaws
 pub mod MarkLaws
 pub mod ListingLaws

@@ -21,11 +21,11 @@ use Rattle.borders.specs.Border.{stands}
 use Rattle.borders.proofs.BorderLaws.{stands-step}
 use Rattle.boundary.specs.Boundary.{ahead}
 use Rattle.groups.specs.Groups.{cellsOf}
-use Rattle.groups.specs.Info.{endOf, part}
+use Rattle.groups.specs.Info.{endOf, stretch}
+use Rattle.groups.specs.Lent.{InTurn}
 use Rattle.groups.proofs.GroupLaws.{in-cells}
 use Rattle.groups.proofs.InfoLaws.{end-next}
 use Rattle.shape.specs.Shape.{wallTo}
-use Rattle.adjacency.specs.Turns.{InTurn}
 use Rattle.adjacency.specs.Adjacency.{behind, parted, Looks, Noted, Looked, Written, Unmarked, Listed, Listing, Adjacency, Marking}
 
 -- ONE POTENTIAL UNIT
@@ -129,33 +129,33 @@ module _ {g : Grid} {states pids : List ℕ} {count : ℕ} {first flat marks₀ 
 
   module _ {marks starts list : List ℕ} {len p : ℕ} (a : At marks starts list len p) (h : p < count) {from to : ℕ} (from-is : from ≡ getD first p 0) (to-is : to ≡ endOf (cells g) count first p) where
     pub from-to : from ≤ to
-    from-to = omega (arith, w .turns .order p h)
+    from-to = omega (arith, w .turns .between p h .some)
 
     pub to-fits : to ≤ length flat
-    to-fits = omega (arith, w .turns .within p h, w .turns .flat-long)
+    to-fits = omega (arith, w .turns .between p h .within, w .turns .flat-long)
 
-    pub cells-are : part flat from to ≡ cellsOf g pids p
-    cells-are = rw (from-is, to-is) (w .turns .cells-are p h)
+    pub cells-are : stretch flat from to ≡ cellsOf g pids p
+    cells-are = rw (from-is, to-is) (w .turns .between p h .are)
 
-    how-many : length (part flat from to) ≡ to - from
+    how-many : length (stretch flat from to) ≡ to - from
     how-many = length-take-le (to - from) (drop from flat) (simp length-drop (omega (arith, to-fits)))
 
-    pub on-board : (i : ℕ) → i < length (part flat from to) → Cell g (getD (part flat from to) i 0)
+    pub on-board : (i : ℕ) → i < length (stretch flat from to) → Cell g (getD (stretch flat from to) i 0)
     on-board i l =
         let z : i < length (cellsOf g pids p) = rw cells-are at l in
         rw cells-are (in-cells g pids p (getD (cellsOf g pids p) i 0) (getD-in 0 (cellsOf g pids p) i z) .0)
 
-    pub looks : Looks g states pids (4 * length (part flat from to)) marks list len
+    pub looks : Looks g states pids (4 * length (stretch flat from to)) marks list len
     looks =
         record {
           limits = w .limits;
           states-long = w .states-long;
           pids-long = w .turns .ids-long;
           small = λ c l. omega (arith, w .turns .small c l, w .marks-long, a .marks-long);
-          room = omega (arith, how-many, a .next-room h, w .turns .within p h, w .list-long, a .list-long, from-to);
+          room = omega (arith, how-many, a .next-room h, w .turns .between p h .within, w .list-long, a .list-long, from-to);
         }
 
-    module _ {marks' list' : List ℕ} {len' : ℕ} (l : Listed (parted g states pids (part flat from to)) (4 * length (part flat from to)) marks list len marks' list' len') where
+    module _ {marks' list' : List ℕ} {len' : ℕ} (l : Listed (parted g states pids (stretch flat from to)) (4 * length (stretch flat from to)) marks list len marks' list' len') where
       starts' : List ℕ
       starts' = set starts (p + 1) len'
 
@@ -196,7 +196,7 @@ module _ {g : Grid} {states pids : List ℕ} {count : ℕ} {first flat marks₀ 
                 let lower : k ≤ p = omega arith in
                 omega (arith, old k lower, new, a .lists .within k lower, a .end, l .more))
                 (eq-or-ne k (p + 1));
-            fits = omega (arith, new, upto, w .turns .within p h, w .list-long, a .list-long, l .list-long);
+            fits = omega (arith, new, upto, w .turns .between p h .within, w .list-long, a .list-long, l .list-long);
             has = λ k q z t.
                 ⊎-elim
                 (λ (e : k ≡ p). let r : parted g states pids (cellsOf g pids k) q ≡ true → Has k q = rw e (has-new q) in r t)
@@ -227,7 +227,7 @@ module _ {g : Grid} {states pids : List ℕ} {count : ℕ} {first flat marks₀ 
             lists = all-lists;
             end = new;
             next-room = λ z. omega (arith, upto, end-next (cells g) count first p z);
-            room = omega (arith, upto, w .turns .within p h);
+            room = omega (arith, upto, w .turns .between p h .within);
             clear = l .clear;
             marks-long = l .marks-long ∙ a .marks-long;
             starts-long = simp length-set (a .starts-long);

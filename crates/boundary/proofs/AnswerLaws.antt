@@ -61,7 +61,7 @@ pub record Made (b : Board) (p : Bool) (flat : List ℕ) (made : Grouping) : Typ
 
 module _ {b : Board} {p : Bool} {flat : List ℕ} {made : Grouping} (o : Made b p flat made) where
   code : made .code ≡ boardCode b
-  code = ap (λ (m : Grouping). m .code) (o .is) ∙ code-of (groupingCode b (length flat)) (infoOf (sizeOf b) (b .states) p) zeroInfo ∙ code-is b (length flat) (o .long)
+  code = ap (λ (m : Grouping). m .code) (o .is) ∙ code-of (groupingCode b (length flat)) (infoOf (sizeOf b) (b .book .states) p) zeroInfo ∙ code-is b (length flat) (o .long)
 
   pub board-refused : (k room : ℕ) → made .code ≢ 0 → boundaryOutcome b p k room ≡ refused (made .code)
   board-refused k room z = rw (← code, ne-eqb (made .code) 0 z)
@@ -76,39 +76,39 @@ module _ {b : Board} {p : Bool} {flat : List ℕ} {made : Grouping} (o : Made b 
     accepted : groupingCode b (length flat) ≡ 0
     accepted = code-is b (length flat) (o .long) ∙ whole
 
-    info-is : made .info ≡ infoOf (sizeOf b) (b .states) p
-    info-is = ap (λ (m : Grouping). m .info) (o .is) ∙ info-of (groupingCode b (length flat)) (infoOf (sizeOf b) (b .states) p) zeroInfo accepted
+    info-is : made .info ≡ infoOf (sizeOf b) (b .book .states) p
+    info-is = ap (λ (m : Grouping). m .info) (o .is) ∙ info-of (groupingCode b (length flat)) (infoOf (sizeOf b) (b .book .states) p) zeroInfo accepted
 
-    count-is : made .info .count ≡ groupCount (sizeOf b) (b .states) p
+    count-is : made .info .count ≡ groupCount (sizeOf b) (b .book .states) p
     count-is = ap (λ (i : GroupInfo). i .count) info-is
 
     -- questions 3 and 6
     module _ (k room : ℕ) where
       pub no-group : made .info .count ≤ k → boundaryOutcome b p k room ≡ refused 3
-      no-group l = rw (whole, le-ltb k (groupCount (sizeOf b) (b .states) p) (omega (arith, count-is)))
+      no-group l = rw (whole, le-ltb k (groupCount (sizeOf b) (b .book .states) p) (omega (arith, count-is)))
 
       module _ (l : k < made .info .count) where
-        named : k < groupCount (sizeOf b) (b .states) p
+        named : k < groupCount (sizeOf b) (b .book .states) p
         named = omega (arith, count-is)
 
         pub short-buffer : room < 9 * cells (sizeOf b) → boundaryOutcome b p k room ≡ refused 6
-        short-buffer m = rw (whole, lt-ltb k (groupCount (sizeOf b) (b .states) p) named, lt-leb (9 * cells (sizeOf b)) room m)
+        short-buffer m = rw (whole, lt-ltb k (groupCount (sizeOf b) (b .book .states) p) named, lt-leb (9 * cells (sizeOf b)) room m)
 
-        group-listed : 9 * cells (sizeOf b) ≤ room → boundaryOutcome b p k room ≡ listed (boundary (sizeOf b) (b .states) (groupIds (sizeOf b) (b .states) p) p k)
-        group-listed m = rw (whole, lt-ltb k (groupCount (sizeOf b) (b .states) p) named, le-leb (9 * cells (sizeOf b)) room m)
+        group-listed : 9 * cells (sizeOf b) ≤ room → boundaryOutcome b p k room ≡ listed (boundary (sizeOf b) (b .book .states) (groupIds (sizeOf b) (b .book .states) p) p k)
+        group-listed m = rw (whole, lt-ltb k (groupCount (sizeOf b) (b .book .states) p) named, le-leb (9 * cells (sizeOf b)) room m)
 
     -- the numbers of the cells' groups, at the front of the record's array
-    ids-front : take (cells (sizeOf b)) (made .info .ids) ≡ groupIds (sizeOf b) (b .states) p
+    ids-front : take (cells (sizeOf b)) (made .info .ids) ≡ groupIds (sizeOf b) (b .book .states) p
     unfolding blankPlaces
     ids-front =
-        let I = groupIds (sizeOf b) (b .states) p in
-        let n : length I ≡ cells (sizeOf b) = ids-length (sizeOf b) (b .states) p in
+        let I = groupIds (sizeOf b) (b .book .states) p in
+        let n : length I ≡ cells (sizeOf b) = ids-length (sizeOf b) (b .book .states) p in
         let q : made .info .ids ≡ I ++ drop (0 + length I) blankPlaces =
         ap (λ (i : GroupInfo). i .ids) info-is ∙ sets-eq I blankPlaces 0 (omega (arith, cells-le (sizeOf b) board-limits, length-replicate {A = ℕ} 1024 0)) in
         rw (← n, q) (take-append-seam I (drop (0 + length I) blankPlaces))
 
     pub ids-size : cells (sizeOf b) ≡ length (take (cells (sizeOf b)) (made .info .ids))
-    ids-size = sym (ap length ids-front ∙ ids-length (sizeOf b) (b .states) p)
+    ids-size = sym (ap length ids-front ∙ ids-length (sizeOf b) (b .book .states) p)
 
     pub ids-long : cells (sizeOf b) ≤ length (made .info .ids)
     unfolding blankPlaces
@@ -117,21 +117,21 @@ module _ {b : Board} {p : Bool} {flat : List ℕ} {made : Grouping} (o : Made b 
         omega (arith, cells-le (sizeOf b) board-limits)
 
     module _ (k : ℕ) (l : k < made .info .count) {buffer : List ℕ} (m : 9 * cells (sizeOf b) ≤ length buffer) where
-      pub listable : length (b .states) ≡ 1984 → {flat' cs : List ℕ} → flat' ≡ bufferOf b p flat → cs ≡ handOutOf (made .info) flat' k
-          → Listable (sizeOf b) (b .states) (take (cells (sizeOf b)) (made .info .ids)) cs p k buffer 0
+      pub listable : length (b .book .states) ≡ 1984 → {flat' cs : List ℕ} → flat' ≡ bufferOf b p flat → cs ≡ handOutOf (made .info) flat' k
+          → Listable (sizeOf b) (b .book .states) (take (cells (sizeOf b)) (made .info .ids)) cs p k buffer 0
       listable size f q =
           rw
           ids-front
           (record {
-            lent = record { limits = board-limits; states-long = omega (arith, borderCount-le (sizeOf b) board-limits); ids-long = omega (arith, ids-length (sizeOf b) (b .states) p) };
+            lent = record { limits = board-limits; states-long = omega (arith, borderCount-le (sizeOf b) board-limits); ids-long = omega (arith, ids-length (sizeOf b) (b .book .states) p) };
             cells-are = q ∙ rw (f, o .is) (grouping-hand-out b p flat k accepted (named k (length buffer) l));
-            room = omega (arith, boundary-most (sizeOf b) (b .states) (groupIds (sizeOf b) (b .states) p) p k);
+            room = omega (arith, boundary-most (sizeOf b) (b .book .states) (groupIds (sizeOf b) (b .book .states) p) p k);
           })
 
-      pub group-written : {buffer' : List ℕ} {r : ℕ} → Appended buffer 0 (boundary (sizeOf b) (b .states) (take (cells (sizeOf b)) (made .info .ids)) p k) buffer' r
+      pub group-written : {buffer' : List ℕ} {r : ℕ} → Appended buffer 0 (boundary (sizeOf b) (b .book .states) (take (cells (sizeOf b)) (made .info .ids)) p k) buffer' r
           → (Listed r ≡ answerOf (boundaryOutcome b p k (length buffer))) × (buffer' ≡ written (boundaryOutcome b p k (length buffer)) buffer)
       group-written {buffer'} {r} a =
-          let xs = boundary (sizeOf b) (b .states) (groupIds (sizeOf b) (b .states) p) p k in
+          let xs = boundary (sizeOf b) (b .book .states) (groupIds (sizeOf b) (b .book .states) p) p k in
           let w : Appended buffer 0 xs buffer' r = rw ids-front at a in
           let n : r ≡ length xs = omega (arith, w .place) in
           let q = group-listed k (length buffer) l m in

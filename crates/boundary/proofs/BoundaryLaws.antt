@@ -26,7 +26,7 @@ use Rattle.borders.proofs.EntryLaws.{connected-stands, wall-stands}
 use Rattle.borders.proofs.BorderLaws.{stands-state, stands-step, step-stands}
 use Rattle.grid.specs.Orders.{around, forward, unitOrder}
 use Rattle.borders.proofs.Directions.{Ahead, down-or-right, in-around, in-unit-order}
-use Rattle.groups.specs.Groups.{cellsOf}
+use Rattle.groups.specs.Groups.{cellsIn, cellsOf}
 use Rattle.groups.proofs.GroupLaws.{in-cells, cells-in}
 use Rattle.boundary.specs.Boundary.{ahead, connectedAt, wallAt, outerWallAt, unitCell, unitBoundary, potentialCell, potentialBoundary}
 use Rattle.boundary.proofs.Lengths.{when-most, when-either, keep-most, gather-most}
@@ -239,5 +239,5 @@ module _ (g : Grid) (states ids : List ℕ) (k : ℕ) where
   potential-most = gather-most (potentialCell g states ids k) 4 potential-cell-most (cellsOf g ids k)
 
 pub cells-most : (g : Grid) (ids : List ℕ) (k : ℕ) → length (cellsOf g ids k) ≤ cells g
-unfolding cellsOf
+unfolding cellsIn
 cells-most g ids k = omega (arith, keep-most (λ c. eqb (getD ids c 0) k) (range (cells g)), range-length (cells g))

@@ -31,4 +31,4 @@ groupOutcome g states potential k room =
 -- "Each call takes a board and a group's number, and groups the board itself": questions 1 and 2 come first
 abbrev pub boundaryOutcome : Board → Bool → ℕ → ℕ → Outcome
 boundaryOutcome b potential k room =
-    pick (eqb (boardCode b) 0) (groupOutcome (sizeOf b) (b .states) potential k room) (refused (boardCode b))
+    pick (eqb (boardCode b) 0) (groupOutcome (sizeOf b) (b .book .states) potential k room) (refused (boardCode b))

@@ -8,7 +8,7 @@ use Rattle.lists.specs.Lists.{count}
 use Rattle.grid.specs.Grid.{grid}
 use Rattle.ledger.specs.Ledger.{holdsOf}
 use Rattle.board.specs.declared.Board.{Board}
-use Rattle.board.specs.Board.{together}
+use Rattle.ledger.specs.Books.{bookHolds}
 use Rattle.groups.specs.Groups.{groupIds, groupCount}
 use Rattle.boundary.specs.Boundary.{unitBoundary, potentialBoundary}
 use Rattle.boundary.specs.Answer.{boundaryOutcome}
@@ -37,25 +37,25 @@ middle-potential = refl
 
 -- the same board by the public calls' definition: 27 places are enough, 26 are not; there is no unit 2
 abbrev three : Board
-three = record { height = 1; width = 3; states = 2 ∷ 1 ∷ []; ledger = 0 ∷ 1 ∷ []; len = 2 }
+three = record { grid = grid 1 3; book = record { states = 2 ∷ 1 ∷ []; names = 0 ∷ 1 ∷ []; len = 2 } }
 
 three-unit : boundaryOutcome three false 1 27 ≡ listed (2 ∷ 1 ∷ [])
-unfolding unitBoundary groupIds groupCount together holdsOf count
+unfolding unitBoundary groupIds groupCount bookHolds holdsOf count
 three-unit = refl
 
 three-potential : boundaryOutcome three true 1 27 ≡ listed (1 ∷ [])
-unfolding potentialBoundary groupIds groupCount together holdsOf count
+unfolding potentialBoundary groupIds groupCount bookHolds holdsOf count
 three-potential = refl
 
 no-such-unit : boundaryOutcome three false 2 27 ≡ refused 3
-unfolding unitBoundary groupIds groupCount together holdsOf count
+unfolding unitBoundary groupIds groupCount bookHolds holdsOf count
 no-such-unit = refl
 
 short : boundaryOutcome three true 1 26 ≡ refused 6
-unfolding potentialBoundary groupIds groupCount together holdsOf count
+unfolding potentialBoundary groupIds groupCount bookHolds holdsOf count
 short = refl
 
 -- its ledger names border 0 twice
-unsound : boundaryOutcome (record { height = 1; width = 3; states = 2 ∷ 1 ∷ []; ledger = 0 ∷ 0 ∷ []; len = 2 }) true 1 27 ≡ refused 2
-unfolding potentialBoundary groupIds groupCount together holdsOf count
+unsound : boundaryOutcome (record { grid = grid 1 3; book = record { states = 2 ∷ 1 ∷ []; names = 0 ∷ 0 ∷ []; len = 2 } }) true 1 27 ≡ refused 2
+unfolding potentialBoundary groupIds groupCount bookHolds holdsOf count
 unsound = refl

@@ -1,14 +1,17 @@
 -- The numbers of a list: how many there are, the k-th, and the loop that copies them.
 -- Assumes nothing.
 use Prim.Native.Nat.{ℕ, zero, suc, _+_, _*_, _-_, _/_, _≤_, _<_, min}
-use mathlib.Core.Path.{_≡_, refl, sym, _∙_}
-use mathlib.Core.Logic.{⊎-elim}
+use mathlib.Core.Path.{_≡_, refl, ap, _∙_}
 use mathlib.Core.List.{List, [], _∷_}
 use native.Mathlib.Omega.{arith}
 use native.Mathlib.Numerals.{add-one}
 use lib.ListN.{length, getD, set, take, drop, length-set, length-take, length-drop, drop-of-length-le}
-use lib.Seq.{drop-cons, sets, set-out, getD-take, getD-drop}
-use Rattle.lists.proofs.Cases.{le-or-lt}
+use lib.Dec.{leb}
+use lib.Seq.{drop-cons, sets, getD-take, getD-drop}
+use borrow.Author.Tests.{le-leb}
+use Rattle.lists.specs.Choice.{pick}
+use Rattle.answers.specs.Answers.{refused, listed, listedOf, written}
+use Rattle.answers.specs.declared.Listed.the-variants as case
 use Rattle.case_file.specs.Sound.{wordsOf}
 use Rattle.case_file.specs.Layout.{wordAt, numbersAt}
 
@@ -45,31 +48,23 @@ module _ (bs : List ℕ) (at count : ℕ) where
       words-at (take (2 * count) (drop at bs)) k (omega (arith, numbers-count))
       ∙ rw (byte-in (2 * k) (omega (arith, numbers-count)), byte-in (2 * k + 1) (omega (arith, numbers-count)), e)
 
-sets-out : (vs l : List ℕ) (i : ℕ) → length l ≤ i → sets l i vs ≡ l
-sets-out [] l i h = refl
-sets-out (v ∷ vs) l i h = sets-out vs (set l i v) (suc i) (simp length-set (omega arith)) ∙ set-out l i v h
-
 -- The loop that copies the numbers xs: the rest of them, stored from place k on, gives all of them stored from place 0 on.
-pub record Copying (xs out₀ : List ℕ) (n : ℕ) (out : List ℕ) (k : ℕ) : Type 0 where
-  pub within : k ≤ n
-  pub all : n ≡ min (length xs) (length out₀)
+pub record Copying (xs out₀ out : List ℕ) (k : ℕ) : Type 0 where
+  pub within : k ≤ length xs
   pub long : length out ≡ length out₀
   pub left : sets out k (drop k xs) ≡ sets out₀ 0 xs
 
-module _ {xs out₀ : List ℕ} {n : ℕ} {out : List ℕ} {k : ℕ} (f : Copying xs out₀ n out k) where
-  pub copying-next : (v : ℕ) → k < n → v ≡ getD xs k 0 → Copying xs out₀ n (set out k v) (k + 1)
+module _ {xs out₀ out : List ℕ} {k : ℕ} (f : Copying xs out₀ out k) where
+  pub copying-next : (v : ℕ) → k < length xs → v ≡ getD xs k 0 → Copying xs out₀ (set out k v) (k + 1)
   copying-next v h e = record {
     within = omega arith;
-    all = f .all;
     long = simp length-set (f .long);
     left =
-        let q : drop k xs ≡ v ∷ drop (suc k) xs = rw e (drop-cons xs k 0 (omega (arith, f .all))) in
+        let q : drop k xs ≡ v ∷ drop (suc k) xs = rw e (drop-cons xs k 0 h) in
         rw add-one (rw q at (f .left));
   }
 
-  pub copying-end : n ≤ k → out ≡ sets out₀ 0 xs
-  copying-end h =
-      ⊎-elim
-      (λ (l : length xs ≤ k). rw (drop-of-length-le xs l) at (f .left))
-      (λ (l : k < length xs). sym (sets-out (drop k xs) out k (omega (arith, f .all, f .long))) ∙ f .left)
-      (le-or-lt (length xs) k)
+  -- the end of the loop: all are copied
+  pub copied : {n : ℕ} → n ≡ length xs → n ≤ k → n ≤ length out₀
+      → let o = pick (leb (length xs) (length out₀)) (listed xs) (refused 6) in (case.List n ≡ listedOf o) × (out ≡ written o out₀)
+  copied e h l = let d : length xs ≤ k = omega arith in rw (le-leb (length xs) (length out₀) (omega arith)) (ap case.List e, rw (drop-of-length-le xs d) at (f .left))

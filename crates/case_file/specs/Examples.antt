@@ -1,4 +1,4 @@
--- 01's file, read.
+-- The file of SPEC 7.9, read, and files that are unsound.
 -- Assumes nothing.
 use Prim.Native.Nat.{ℕ}
 use mathlib.Core.Path.{_≡_, refl}
@@ -9,7 +9,7 @@ use Rattle.lists.specs.Choice.{give, through}
 use Rattle.case_file.specs.declared.Call.the-variants.{Undo, Decide, Ask}
 use Rattle.case_file.specs.Sound.{byteOf, wordOf, wordsOf, manyOf, numbersOf, decideOf, kindOf, callOf, callsOf, callListOf, listsOf, restOf, decodeOf}
 
--- 01: "01 00 12 01 03 00 00 00 01 FF FF 00 04 02 00 00 01 00 01 03 00"
+-- SPEC 7.9: 01 00 12 01 03 00 00 00 01 FF FF 00 04 02 00 00 01 00 01 03 00
 pub bytes : List ℕ
 bytes = 1 ∷ 0 ∷ 0x12 ∷ 1 ∷ 3 ∷ 0 ∷ 0 ∷ 0 ∷ 1 ∷ 0xff ∷ 0xff ∷ 0 ∷ 4 ∷ 2 ∷ 0 ∷ 0 ∷ 1 ∷ 0 ∷ 1 ∷ 3 ∷ 0 ∷ []
 

@@ -3,7 +3,10 @@
 use Prim.Native.Nat.{ℕ, _+_, _*_, _-_}
 use mathlib.Core.List.{List}
 use mathlib.Core.Option.{Option, none, some}
+use lib.Dec.{leb}
 use lib.ListN.{length, getD, take, drop}
+use Rattle.lists.specs.Choice.{pick}
+use Rattle.answers.specs.Answers.{Outcome, refused, listed}
 use Rattle.case_file.specs.declared.Call.{Call}
 use Rattle.case_file.specs.declared.Call.the-variants.{Undo, Decide, Ask}
 use Rattle.case_file.specs.declared.Step.{Step}
@@ -23,6 +26,10 @@ wordAt bs at = 256 * getD bs at 0 + getD bs (at + 1) 0
 -- the count numbers from a byte on
 abbrev pub numbersAt : List ℕ → ℕ → ℕ → List ℕ
 numbersAt bs at count = wordsOf (take (2 * count) (drop at bs))
+
+-- a list of the file into so many places: as many as it has numbers, or refused (SPEC 3.6)
+abbrev pub numbersInto : List ℕ → Span → ℕ → Outcome
+numbersInto bs list places = pick (leb (length (numbersAt bs (list .at) (list .count))) places) (listed (numbersAt bs (list .at) (list .count))) (refused 6)
 
 -- a call's bytes
 abbrev pub sizeOf : Call → ℕ
@@ -58,12 +65,12 @@ abbrev pub fileOf : Option Case → File
 fileOf none = file.Unsound
 fileOf (some f) = file.Sound (layoutOf f)
 
--- 01's number for each case of the answer: 0 for a sound file, with its layout, and 11 for any other
+-- the number of each case of the answer (SPEC 3.16): 0 for a sound file, with its layout, and 11 for any other
 abbrev pub numberOf : File → ℕ
 numberOf (file.Sound l) = 0
 numberOf file.Unsound = 11
 
--- 01, question 11: "is the file sound?"
+-- question 11 (SPEC 3.11)
 abbrev pub refusalOf : Option Case → ℕ
 refusalOf none = 11
 refusalOf (some f) = 0

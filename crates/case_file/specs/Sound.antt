@@ -1,4 +1,4 @@
--- 01, Program: what a file of bytes says, or that it is unsound. Each reader takes its part off the front and hands on the bytes behind it.
+-- What a file of bytes says, or that it is unsound (SPEC 5.1 to 5.3). Each reader takes its part off the front and hands on the bytes behind it.
 -- Assumes nothing.
 use Prim.Native.Nat.{ℕ, zero, suc, _+_, _*_}
 use mathlib.Core.Bool.{Bool, true, false}
@@ -39,7 +39,7 @@ unfoldable pub manyOf : ℕ → List ℕ → Option (List ℕ × List ℕ)
 unfolding wordsOf give
 manyOf n r = give (leb (2 * n) (length r)) (wordsOf (take (2 * n) r), drop (2 * n) r)
 
--- "given walls, clues ..., each with a 16-bit count in front"; "Walls and clues have 16 bits"
+-- given walls or clues: a count, and so many numbers of 16 bits (SPEC 5.1)
 unfoldable pub numbersOf : List ℕ → Option (List ℕ × List ℕ)
 unfolding wordOf manyOf through
 numbersOf bs = through (wordOf bs) (λ n. manyOf (n .0) (n .1))
@@ -49,7 +49,7 @@ unfoldable pub decideOf : Bool → List ℕ → Option (Call × List ℕ)
 unfolding wordOf through
 decideOf wall bs = through (wordOf bs) (λ b. some (Decide (b .0) wall, b .1))
 
--- "A call's first byte is 0 undo, 1 Connected or 2 Wall (each with its border, 16 bits), 3 ask"; another kind is unsound
+-- a call by its kind: 0 undo, 1 Connected, 2 Wall, 3 ask (SPEC 5.2); another kind is unsound (5.3)
 unfoldable pub kindOf : ℕ → List ℕ → Option (Call × List ℕ)
 unfolding decideOf
 kindOf k r =
@@ -68,7 +68,7 @@ unfolding callOf through
 callsOf zero bs = some ([], bs)
 callsOf (suc n) bs = through (callOf bs) (λ c. through (callsOf n (c .1)) (λ cs. some (c .0 ∷ cs .0, cs .1)))
 
--- the calls too have "a 16-bit count in front"
+-- the calls behind their count (SPEC 5.1)
 unfoldable pub callListOf : List ℕ → Option (List Call × List ℕ)
 unfolding wordOf callsOf through
 callListOf bs = through (wordOf bs) (λ n. callsOf (n .0) (n .1))
@@ -77,7 +77,7 @@ abbrev pub isEnd : List ℕ → Bool
 isEnd [] = true
 isEnd (a ∷ r) = false
 
--- "then given walls, clues and calls", "exactly to its end"
+-- given walls, clues and calls, and nothing behind them (SPEC 5.1, 5.3)
 unfoldable pub listsOf : ℕ → ℕ → List ℕ → Option Case
 unfolding numbersOf callListOf through give
 listsOf height width bs =
@@ -86,12 +86,12 @@ listsOf height width bs =
     through (callListOf (clues .1)) (λ calls.
     give (isEnd (calls .1)) (record { height = height; width = width; walls = walls .0; clues = clues .0; calls = calls .0 }))))
 
--- "height and width, a byte each"
+-- height and width, a byte each (SPEC 5.1)
 unfoldable pub restOf : List ℕ → Option Case
 unfolding byteOf listsOf through
 restOf bs = through (byteOf bs) (λ h. through (byteOf (h .1)) (λ w. listsOf (h .0) (w .0) (w .1)))
 
--- "version byte 1; length of the rest, 16 bits, at most 60,000"
+-- the version, 1, and the length of the rest, at most 60,000 (SPEC 5.1)
 unfoldable pub decodeOf : List ℕ → Option Case
 unfolding byteOf wordOf restOf through
 decodeOf bs =

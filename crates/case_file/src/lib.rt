@@ -1,11 +1,12 @@
-// Case files: 01's `sendai.bin`, read where it lies. `decode` finds where its parts stand or says that the file is unsound;
+// Case files (SPEC 5.1): `sendai.bin`, read where it lies. `decode` finds where its parts stand or says that the file is unsound;
 // `numbers` and `call_at` then read the given walls, the clues and the calls.
 ghost use mathlib.Core.Path.{_≡_};
-ghost use Prim.Native.Nat.{_+_, _≤_, _<_, min};
+ghost use Prim.Native.Nat.{_+_, _≤_, _<_};
 ghost use lib.ListN.{length, drop, getD};
-ghost use lib.Seq.{sets};
+ghost use Rattle.answers.specs.Answers.{listedOf, written};
 ghost use Rattle.case_file.specs.Sound.{decodeOf, restOf, numbersOf, callListOf, callOf};
-ghost use Rattle.case_file.specs.Layout.{wordAt, numbersAt, countedAt, stepAt, fileOf, numberOf, refusalOf};
+ghost use Rattle.case_file.specs.Layout.{wordAt, numbersAt, countedAt, stepAt, fileOf, numberOf, refusalOf, numbersInto};
+use answers::Listed;
 
 // A call of the file: its border and whether it is a Wall, for a decide.
 pub enum Call {
@@ -196,22 +197,21 @@ pub fn number(file: &[u8], list: Span, k: usize) -> usize
     word(file, at + 2 * k)
 }
 
-fn least(a: usize, b: usize) -> usize
-    ensures { λ r. ⌜ r ≡ min a b ⌝ }
-{
-    if a < b { a } else { b }
-}
-
-// Writes the numbers of a list of the file to a buffer, as many as it has places for.
-pub fn numbers(file: &[u8], list: Span, out: &mut [u16])
-    ensures { λ _. ⌜ now (out .exit) ≡ sets (now (out .entry)) 0 (numbersAt (now (file .entry)) (list .at) (list .count)) ⌝ }
+// Writes the numbers of a list of the file to the buffer's first places, and answers how many.
+pub fn numbers(file: &[u8], list: Span, buffer: &mut [u16]) -> Listed
+    ensures { λ r. ⌜ r ≡ listedOf (numbersInto (now (file .entry)) list (length (now (buffer .entry)))) ⌝ }
+    ensures { λ _. ⌜ now (buffer .exit) ≡ written (numbersInto (now (file .entry)) list (length (now (buffer .entry)))) (now (buffer .entry)) ⌝ }
 {
     let at = list.at;
     let count = list.count;
-    let n = least(reach(file, at, count), out.len());
+    let n = reach(file, at, count);
+    if buffer.len() < n {
+        return Listed::Refused(6);
+    }
     let mut k = 0;
     while k < n {
-        out[k] = word(file, at + 2 * k) as u16;
+        buffer[k] = word(file, at + 2 * k) as u16;
         k += 1;
     }
+    Listed::List(n)
 }

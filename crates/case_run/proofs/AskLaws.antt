@@ -52,15 +52,15 @@ pub record Filled (n : ℕ) (buf : List ℕ) : Type 0 where
   pub few : length (take n buf) ≤ 9216
 
 module _ (p : Puzzle) where
-  states-ok : Ready p → StatesOk (gridOf p) (p .board .states)
-  states-ok r e l = holds-question (bordersOf (p .board)) (isGiven (givenOf p)) (p .board .states) (namesOf (p .board)) (r .holds) .kept e l .state
+  states-ok : Ready p → StatesOk (gridOf p) (p .board .book .states)
+  states-ok r e l = holds-question (bordersOf (p .board)) (isGiven (givenOf p)) (p .board .book .states) (namesOf (p .board)) (r .holds) .kept e l .state
 
   -- a fault's list has its places in the program's buffer
   pub fault-few : (buf : List ℕ) (k : Check) (n : ℕ) → Fault k n ≡ askOf p buf .answer → n ≤ 9216
   fault-few buf k n e =
       let f = fault-says (askCode p buf) (faultIn p) k n e in
       let r = ready p (asked-code (puzzleCode p) (pick (longEnough (gridOf p) buf) 0 6) (f .0)) in
-      omega (arith, f .3, cells-le (gridOf p) (r .limits), fault-most (gridOf p) (givenOf p) (cluesOf p) (p .board .states) (states-ok r) (f .1) (f .2))
+      omega (arith, f .3, cells-le (gridOf p) (r .limits), fault-most (gridOf p) (givenOf p) (cluesOf p) (p .board .book .states) (states-ok r) (f .1) (f .2))
 
   -- a part of the buffer that a fault filled
   pub fault-part : (k : Check) (n : ℕ) (a : Answer) (buf' : List ℕ) → a ≡ Fault k n → a ≡ askOf p blank .answer → length buf' ≡ length blank

@@ -11,6 +11,7 @@ use mir.Val.{Fits}
 use mir.Syntax.{w16}
 use lib.ListN.{length, getD, take, length-append, length-replicate}
 use lib.Seq.{sets, length-sets}
+use Rattle.limits.specs.Limits.{mostEntries, longestLine}
 use Rattle.lists.specs.Lists.{In, gather}
 use Rattle.lists.proofs.ListLaws.{in-getD}
 use Rattle.hand_over.specs.Sorted.{sortedOnce}
@@ -21,7 +22,7 @@ use Rattle.hand_over.proofs.SortedLaws.{met, no-longer}
 use Rattle.hand_over.proofs.HandOverLaws.{written, refused}
 use Rattle.lines.specs.declared.Line.{Line}
 use Rattle.lines.specs.declared.Line.the-variants as line
-use Rattle.lines.specs.Line.{spacedOf, lineOf, needed, lengthIn, printedTo}
+use Rattle.lines.specs.Line.{spacedOf, lineOf}
 use Rattle.lines.proofs.DecimalLaws.{digits-most}
 use Rattle.lines.proofs.LineLaws.{entries-fit}
 use Rattle.case_file.specs.declared.Call.{Call}
@@ -34,19 +35,14 @@ use Rattle.puzzle.specs.Run.{puzzleAfter, replyTo}
 use Rattle.case_run.specs.declared.Turn.{Turn}
 use Rattle.puzzle.specs.declared.Check.{Check}
 use Rattle.puzzle.specs.declared.Check.the-variants.{Shape, Room}
-use Rattle.case_run.specs.CaseRun.{asCall, checkLine, codeLine, lineBy, lineRoom, blank, Counts, Turned}
+use Rattle.case_run.specs.CaseRun.{asCall, checkLine, codeLine, lineBy, blank, Counts, Turned}
 
 pub blank-length : length blank ≡ 9216
 unfolding blank
 blank-length = length-replicate {A = ℕ} 9216 0
 
--- what `write_line` ensures, where the buffer is long enough
-pub line-written : (line : Line) (l buf : List ℕ) {r : ℕ} {buf' : List ℕ} → needed l ≤ length buf
-    → (r ≡ lengthIn line l (length buf)) × (buf' ≡ printedTo line l buf) → (r ≡ length (lineOf line l)) × (buf' ≡ sets buf 0 (lineOf line l))
-line-written line l buf h e = rw (le-leb (needed l) (length buf) h) at e
-
 -- a line without entries has at most 29 bytes
-pub bare-short : (line : Line) → length (lineOf line []) ≤ lineRoom
+pub bare-short : (line : Line) → length (lineOf line []) ≤ longestLine
 unfolding spacedOf gather
 bare-short line.Decided = omega arith
 bare-short line.Undone = omega arith
@@ -55,11 +51,9 @@ bare-short line.Shape = omega arith
 bare-short (line.Room k) = simp length-append (omega (arith, digits-most 20 k))
 bare-short (line.Refused k) = simp length-append (omega (arith, digits-most 20 k))
 
-pub bare-written : (line : Line) (buf : List ℕ) {r : ℕ} {buf' : List ℕ} → lineRoom ≤ length buf
-    → (r ≡ lengthIn line [] (length buf)) × (buf' ≡ printedTo line [] buf) → Counts r (lineOf line []) × (buf' ≡ sets buf 0 (lineOf line []))
-bare-written line buf h e =
-    let k = line-written line [] buf (omega arith) e in
-    (record { count = k .0; fits = omega (arith, k .0, bare-short line) }, k .1)
+pub bare-written : (line : Line) (buf : List ℕ) {r : ℕ} {buf' : List ℕ}
+    → (r ≡ length (lineOf line [])) × (buf' ≡ sets buf 0 (lineOf line [])) → Counts r (lineOf line []) × (buf' ≡ sets buf 0 (lineOf line []))
+bare-written line buf e = (record { count = e .0; fits = omega (arith, e .0, bare-short line) }, e .1)
 
 -- the line of a decide or an undo: accepted, or refused by number
 pub code-well : (well : Line) (code : ℕ) → code ≡ 0 → lineOf well [] ≡ codeLine well code
@@ -76,6 +70,7 @@ by-line l m buf q e = rw q at e
 pub record Listed (list : List ℕ) (n : ℕ) (buf : List ℕ) : Type 0 where
   pub within : n ≤ length buf
   pub long : n ≡ length (take n buf)
+  pub few : n ≤ mostEntries
   pub is : take n buf ≡ sortedOnce list
 
 module _ (list : List ℕ) (few : length list ≤ 9216) where
@@ -87,22 +82,22 @@ module _ (list : List ℕ) (few : length list ≤ 9216) where
       let o = written list (length blank) n (rw k at e) in
       let s : buf ≡ sets blank 0 (sortedOnce list) = rw (le-leb (length list) (length blank) (o .0)) at m in
       let t : take n buf ≡ sortedOnce list = rw (s, o .1) (front blank (sortedOnce list) (omega (arith, o .0, no-longer list))) in
-      record { within = omega (arith, ap length s, length-sets blank 0 (sortedOnce list), o .0, o .1, no-longer list); long = o .1 ∙ ap length (sym t); is = t }
+      record { within = omega (arith, ap length s, length-sets blank 0 (sortedOnce list), o .0, o .1, no-longer list); long = o .1 ∙ ap length (sym t); few = omega (arith, o .1, no-longer list); is = t }
 
 -- the line of a fault
 module _ (list : List ℕ) (fits : (i : ℕ) → Fits w16 (getD list i 0)) (few : length list ≤ 9216) where
   small : (e : ℕ) → In e (sortedOnce list) → e < 65536
   small e m = let o = in-getD 0 e list (met list e m) in omega (arith, fits (o .0), o .2)
 
-  fault-short : (k : Check) → length (lineOf (checkLine k) (sortedOnce list)) ≤ lineRoom
+  fault-short : (k : Check) → length (lineOf (checkLine k) (sortedOnce list)) ≤ longestLine
   fault-short Shape = simp length-append (omega (arith, entries-fit (sortedOnce list) small, no-longer list))
   fault-short (Room r) = simp length-append (omega (arith, digits-most 20 r, entries-fit (sortedOnce list) small, no-longer list))
 
-  pub fault-written : (k : Check) (line : Line) (l buf : List ℕ) {r : ℕ} {buf' : List ℕ} → lineRoom ≤ length buf → line ≡ checkLine k → l ≡ sortedOnce list
-      → (r ≡ lengthIn line l (length buf)) × (buf' ≡ printedTo line l buf)
+  pub fault-written : (k : Check) (line : Line) (l buf : List ℕ) {r : ℕ} {buf' : List ℕ} → line ≡ checkLine k → l ≡ sortedOnce list
+      → (r ≡ length (lineOf line l)) × (buf' ≡ sets buf 0 (lineOf line l))
       → Counts r (lineOf (checkLine k) (sortedOnce list)) × (buf' ≡ sets buf 0 (lineOf (checkLine k) (sortedOnce list)))
-  fault-written k line l buf h p q e =
-      let w = line-written (checkLine k) (sortedOnce list) buf (omega (arith, no-longer list)) (rw (p, q) at e) in
+  fault-written k line l buf p q e =
+      let w = rw (p, q) at e in
       (record { count = w .0; fits = omega (arith, w .0, fault-short k) }, w .1)
 
 -- A DECIDE OR AN UNDO by what the puzzle answers

@@ -3,10 +3,12 @@
 use Prim.Native.Nat.{ℕ, zero, suc, _+_, _-_, _*_, _/_, _≤_, _<_}
 use mathlib.Core.Path.{_≡_, refl, sym, ap, _∙_}
 use mathlib.Core.Logic.{⊎-elim}
+use mathlib.Core.Bool.{true}
 use mathlib.Core.List.{List, [], _∷_, _++_, append-nil}
 use mathlib.Core.Option.{none, some}
 use native.Mathlib.Omega.{arith}
 use borrow.Author.Tests.{le-leb, lt-leb}
+use lib.Dec.{leb}
 use lib.ListN.{length, take, drop, set, length-append, drop-of-length-le, length-drop}
 use lib.Seq.{sets, length-sets, take-length}
 use Rattle.case_file.specs.declared.Call.{Call}
@@ -14,12 +16,13 @@ use Rattle.case_file.specs.declared.Step.the-variants as step
 use Rattle.case_file.specs.Sound.{callOf}
 use Rattle.case_file.specs.Layout.{sizeOf, stepAt}
 use Rattle.case_file.proofs.ListLaws.{Whole, call-cases, step-unsound}
+use Rattle.limits.specs.Limits.{longestLine}
 use Rattle.lists.proofs.SetsLaws.{sets-append}
 use Rattle.puzzle.specs.declared.Puzzle.{Puzzle}
 use Rattle.puzzle.specs.Run.{puzzleAfter, run, replies}
 use Rattle.case_run.specs.declared.Turn.{Turn}
 use Rattle.case_run.specs.declared.Ran.{Ran}
-use Rattle.case_run.specs.CaseRun.{asCall, callsIn, bytesOf, linesOf, runOf, printedBy, lineBy, lineRoom, doneIn, ranOf, Turned}
+use Rattle.case_run.specs.CaseRun.{asCall, callsIn, bytesOf, linesOf, runOf, printedBy, lineBy, codeIn, doneIn, ranOf, Turned}
 
 -- THE CALLS at a byte
 pub calls-none : (n : ℕ) (r : List ℕ) → callOf r ≡ none → callsIn n r ≡ []
@@ -46,10 +49,10 @@ stepped bs at next c q =
 
 -- WHAT IS LEFT of a run, behind calls that are done
 abbrev ranFrom : Puzzle → ℕ → ℕ → ℕ → List Call → Ran
-ranFrom p at done len cs = record { puzzle = runOf p cs; at = at + bytesOf cs; done = done + length cs; len = len + length (printedBy p cs) }
+ranFrom p at done len cs = record { code = 0; puzzle = runOf p cs; at = at + bytesOf cs; done = done + length cs; len = len + length (printedBy p cs) }
 
-ran-same : (p : Puzzle) {a b c d e f : ℕ} → a ≡ b → c ≡ d → e ≡ f
-    → _≡_ {A = Ran} (record { puzzle = p; at = a; done = c; len = e }) (record { puzzle = p; at = b; done = d; len = f })
+ran-same : {k : ℕ} (p : Puzzle) {a b c d e f : ℕ} → a ≡ b → c ≡ d → e ≡ f
+    → _≡_ {A = Ran} (record { code = k; puzzle = p; at = a; done = c; len = e }) (record { code = k; puzzle = p; at = b; done = d; len = f })
 ran-same p x y z = rw (x, y, z)
 
 module _ (p : Puzzle) (c : Call) (cs : List Call) where
@@ -92,14 +95,14 @@ lent-part xs a h = let z : length xs - a ≡ length (drop a xs) = omega (arith, 
 -- THE LOOP of `run_calls`
 pub record Running (p : Puzzle) (bs : List ℕ) (at count : ℕ) (out₀ : List ℕ) (puzzle : Puzzle) (next done len : ℕ) (out : List ℕ) : Type 0 where
   pub long : length out ≡ length out₀
-  pub room : lineRoom * count ≤ length out₀
+  pub room : longestLine * count ≤ length out₀
   pub within : done ≤ count
-  pub short : len ≤ lineRoom * done
-  pub ran : ranFrom puzzle next done len (callsIn (count - done) (drop next bs)) ≡ ranOf p at (callsIn count (drop at bs))
+  pub short : len ≤ longestLine * done
+  pub ran : ranFrom puzzle next done len (callsIn (count - done) (drop next bs)) ≡ ranOf 0 p at (callsIn count (drop at bs))
   pub lines : sets out len (printedBy puzzle (callsIn (count - done) (drop next bs))) ≡ sets out₀ 0 (printedBy p (callsIn count (drop at bs)))
 
 module _ (p : Puzzle) (bs : List ℕ) (at count : ℕ) (out₀ : List ℕ) where
-  pub running : count ≤ length out₀ / 55323 → Running p bs at count out₀ p at 0 0 out₀
+  pub running : count ≤ length out₀ / longestLine → Running p bs at count out₀ p at 0 0 out₀
   running h =
       let z : count - 0 ≡ count = omega arith in
       let e : callsIn (count - 0) (drop at bs) ≡ callsIn count (drop at bs) = ap (λ n. callsIn n (drop at bs)) z in
@@ -113,18 +116,18 @@ module _ (p : Puzzle) (bs : List ℕ) (at count : ℕ) (out₀ : List ℕ) where
       }
 
   -- too short a buffer
-  pub no-room : length out₀ / 55323 < count → (_≡_ {A = Ran} (record { puzzle = p; at = at; done = 0; len = 0 }) (ranOf p at (doneIn count (drop at bs) (length out₀))))
+  pub no-room : length out₀ / longestLine < count → (_≡_ {A = Ran} (record { code = 6; puzzle = p; at = at; done = 0; len = 0 }) (ranOf (codeIn count (length out₀)) p at (doneIn count (drop at bs) (length out₀))))
       × ((out₀ ≡ sets out₀ 0 (printedBy p (doneIn count (drop at bs) (length out₀)))) × (0 ≤ length out₀))
   unfolding run bytesOf linesOf replies
-  no-room h = let q = lt-leb (lineRoom * count) (length out₀) (omega arith) in (rw q (ran-same p (omega arith) refl refl), (rw q, omega arith))
+  no-room h = let q = lt-leb (longestLine * count) (length out₀) (omega arith) in (rw q (ran-same p (omega arith) refl refl), (rw q, omega arith))
 
 module _ {p : Puzzle} {bs : List ℕ} {at count : ℕ} {out₀ : List ℕ} {puzzle : Puzzle} {next done len : ℕ} {out : List ℕ} (r : Running p bs at count out₀ puzzle next done len out) where
   -- the part that the next line is lent
-  pub part-room : done < count → len + lineRoom ≤ length out
+  pub part-room : done < count → len + longestLine ≤ length out
   part-room h = omega (arith, r .long, r .room, r .short)
 
   -- the whole of it
-  pub part-long : done < count → lineRoom ≤ length (take (length out - len) (drop len out))
+  pub part-long : done < count → longestLine ≤ length (take (length out - len) (drop len out))
   part-long h = let k = part-room h in rw (lent-part out len (omega arith)) (omega (arith, length-drop len out))
 
   -- and given back
@@ -136,19 +139,19 @@ module _ {p : Puzzle} {bs : List ℕ} {at count : ℕ} {out₀ : List ℕ} {puzz
       let q : part ≡ sets (drop len out) 0 l = rw (lent-part out len (omega arith)) at e in
       rw q (part-sets out l len (length out - len) z)
 
-  all-done : doneIn count (drop at bs) (length out₀) ≡ callsIn count (drop at bs)
-  all-done = rw (le-leb (lineRoom * count) (length out₀) (r .room))
+  has-room : leb (longestLine * count) (length out₀) ≡ true
+  has-room = le-leb (longestLine * count) (length out₀) (r .room)
 
   abbrev Ended : Type 0
-  Ended = (_≡_ {A = Ran} (record { puzzle = puzzle; at = next; done = done; len = len }) (ranOf p at (doneIn count (drop at bs) (length out₀))))
+  Ended = (_≡_ {A = Ran} (record { code = 0; puzzle = puzzle; at = next; done = done; len = len }) (ranOf (codeIn count (length out₀)) p at (doneIn count (drop at bs) (length out₀))))
       × ((out ≡ sets out₀ 0 (printedBy p (doneIn count (drop at bs) (length out₀)))) × (len ≤ length out₀))
 
   ended : callsIn (count - done) (drop next bs) ≡ [] → Ended
   unfolding run bytesOf linesOf replies
   ended e =
-      let a : ranFrom puzzle next done len [] ≡ ranOf p at (callsIn count (drop at bs)) = rw e at (r .ran) in
+      let a : ranFrom puzzle next done len [] ≡ ranOf 0 p at (callsIn count (drop at bs)) = rw e at (r .ran) in
       let b : sets out len (printedBy puzzle []) ≡ sets out₀ 0 (printedBy p (callsIn count (drop at bs))) = rw e at (r .lines) in
-      rw all-done (ran-same puzzle (omega arith) (omega arith) (omega arith) ∙ a, (b, omega (arith, r .within, r .short, r .room)))
+      rw has-room (ran-same puzzle (omega arith) (omega arith) (omega arith) ∙ a, (b, omega (arith, r .within, r .short, r .room)))
 
   -- all calls done, or one that is unsound
   pub counted : count ≤ done → Ended
@@ -165,7 +168,7 @@ module _ {p : Puzzle} {bs : List ℕ} {at count : ℕ} {out₀ : List ℕ} {puzz
       let n : count - done ≡ suc (count - (done + 1)) = omega arith in
       let cs = callsIn (count - (done + 1)) (drop behind bs) in
       let calls : callsIn (count - done) (drop next bs) ≡ c ∷ cs = ap (λ m. callsIn m (drop next bs)) n ∙ calls-some (count - (done + 1)) (drop next bs) (drop behind bs) c (s .1) in
-      let ran : ranFrom puzzle next done len (c ∷ cs) ≡ ranOf p at (callsIn count (drop at bs)) = rw calls at (r .ran) in
+      let ran : ranFrom puzzle next done len (c ∷ cs) ≡ ranOf 0 p at (callsIn count (drop at bs)) = rw calls at (r .ran) in
       let lines : sets out len (printedBy puzzle (c ∷ cs)) ≡ sets out₀ 0 (printedBy p (callsIn count (drop at bs))) = rw calls at (r .lines) in
       let tp : t .puzzle ≡ puzzleAfter puzzle (asCall c) = ap (λ (x : Turn). x .puzzle) (k .turned) in
       let tl : t .len ≡ length (lineBy puzzle c) = ap (λ (x : Turn). x .len) (k .turned) in

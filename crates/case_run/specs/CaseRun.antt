@@ -4,8 +4,9 @@ use Prim.Native.Nat.{ℕ, zero, suc, _+_, _*_, _≤_}
 use mathlib.Core.Path.{_≡_}
 use mathlib.Core.List.{List, [], _∷_, _++_, map}
 use mathlib.Core.Option.{Option, none, some}
-use lib.Dec.{leb}
+use lib.Dec.{eqb, leb}
 use lib.ListN.{length, take, replicate}
+use Rattle.limits.specs.Limits.{mostEntries, longestLine}
 use Rattle.lists.specs.Choice.{pick}
 use Rattle.hand_over.specs.Sorted.{sortedOnce}
 use Rattle.case_file.specs.declared.Call.{Call}
@@ -32,8 +33,9 @@ use Rattle.case_run.specs.declared.Ran.{Ran}
 abbrev pub opened : ℕ → Puzzle → ℕ → ℕ → Opened
 opened code p at count = record { code = code; puzzle = p; at = at; count = count }
 
+-- a refused making leaves zeros (SPEC 3.13)
 abbrev pub openedAs : Made → ℕ → ℕ → Opened
-openedAs m at count = opened (m .code) (m .puzzle) at count
+openedAs m at count = pick (eqb (m .code) 0) (opened 0 (m .puzzle) at count) (opened (m .code) (m .puzzle) 0 0)
 
 -- question 11 "comes before all others"; else the making of the file's size, given walls and clues, and where its calls stand
 abbrev pub openedOf : Option Case → Opened
@@ -42,7 +44,7 @@ openedOf (some f) = openedAs (makeOf (f .height) (f .width) (f .walls) (f .clues
 
 -- THE CALLS of a file, as calls of demand 3's run: an ask is lent 9,216 zeros, as many as the largest board needs
 unfoldable pub blank : List ℕ
-blank = replicate 9216 0
+blank = replicate mostEntries 0
 
 abbrev pub asCall : Call → puzzle.Call
 asCall Undo = puzzle.undo
@@ -113,23 +115,23 @@ turn p l = record { puzzle = p; len = length l }
 abbrev pub turnOf : Puzzle → Call → Turn
 turnOf p c = turn (puzzleAfter p (asCall c)) (lineBy p c)
 
--- the bytes that hold any call's line: 27, and 6 for each of 9,216 entries
-abbrev pub lineRoom : ℕ
-lineRoom = 55323
-
 -- what the functions that write one line answer: how many bytes it has, and that they are no more than that
 pub record Counts (r : ℕ) (l : List ℕ) : Type 0 where
   pub count : r ≡ length l
-  pub fits : r ≤ lineRoom
+  pub fits : r ≤ longestLine
 
 pub record Turned (r : Turn) (p : Puzzle) (c : Call) : Type 0 where
   pub turned : r ≡ turnOf p c
-  pub fits : r .len ≤ lineRoom
+  pub fits : r .len ≤ longestLine
 
 -- the calls that a run with a buffer of so many places does: all, or none where some line may not fit
 abbrev pub doneIn : ℕ → List ℕ → ℕ → List Call
-doneIn count bs room = pick (leb (lineRoom * count) room) (callsIn count bs) []
+doneIn count bs room = pick (leb (longestLine * count) room) (callsIn count bs) []
+
+-- which is refused (SPEC 3.6)
+abbrev pub codeIn : ℕ → ℕ → ℕ
+codeIn count room = pick (leb (longestLine * count) room) 0 6
 
 -- the puzzle after the calls, the byte behind them, how many were done, and how many bytes their lines have
-abbrev pub ranOf : Puzzle → ℕ → List Call → Ran
-ranOf p at cs = record { puzzle = runOf p cs; at = at + bytesOf cs; done = length cs; len = length (printedBy p cs) }
+abbrev pub ranOf : ℕ → Puzzle → ℕ → List Call → Ran
+ranOf code p at cs = record { code = code; puzzle = runOf p cs; at = at + bytesOf cs; done = length cs; len = length (printedBy p cs) }

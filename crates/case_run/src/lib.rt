@@ -5,11 +5,12 @@ ghost use mathlib.Core.Option.{none};
 ghost use Prim.Native.Nat.{_≤_};
 ghost use lib.ListN.{length, drop};
 ghost use lib.Seq.{sets};
+ghost use Rattle.limits.specs.Limits.{mostEntries, longestLine};
 ghost use Rattle.hand_over.specs.Sorted.{sortedOnce};
 ghost use Rattle.case_file.specs.Sound.{decodeOf};
 ghost use Rattle.case_file.specs.declared.Call.the-variants.{Undo, Decide, Ask};
 ghost use Rattle.lines.specs.Line.{lineOf};
-ghost use Rattle.case_run.specs.CaseRun.{openedOf, checkLine, codeLine, lineBy, printedBy, doneIn, ranOf, Counts, Turned};
+ghost use Rattle.case_run.specs.CaseRun.{openedOf, checkLine, codeLine, lineBy, printedBy, codeIn, doneIn, ranOf, Counts, Turned};
 use case_file::Call;
 use case_file::File;
 use case_file::Step;
@@ -19,7 +20,7 @@ use puzzle::Answer;
 use puzzle::Check;
 use puzzle::Puzzle;
 
-// A file's puzzle, or the number that refuses the file (11) or its puzzle; its first call's byte, and how many calls it has.
+// A file's puzzle, its first call's byte, and how many calls it has; or zeros, and the number that refuses the file (11) or its puzzle.
 #[repr(C)]
 pub struct Opened {
     pub code: u8,
@@ -34,9 +35,11 @@ pub struct Turn {
     pub len: usize,
 }
 
-// What a list of calls left: the puzzle, the byte behind the last call, how many calls were done, and how many bytes their lines have.
+// What a list of calls left: the puzzle, the byte behind the last call, how many calls were done, and how many bytes their lines have;
+// code 6 where the buffer is too short for them.
 #[repr(C)]
 pub struct Ran {
+    pub code: u8,
     pub puzzle: Puzzle,
     pub at: usize,
     pub done: usize,
@@ -79,8 +82,16 @@ pub fn open(file: &[u8]) -> Opened
         &clues[..clue_count],
     );
     let p = made.puzzle;
+    if made.code != 0 {
+        return Opened {
+            code: made.code,
+            puzzle: p,
+            at: 0,
+            count: 0,
+        };
+    }
     Opened {
-        code: made.code,
+        code: 0,
         puzzle: p,
         at: layout.calls.at,
         count: layout.calls.count,
@@ -89,17 +100,17 @@ pub fn open(file: &[u8]) -> Opened
 
 // A line without entries.
 fn bare_line(line: Line, out: &mut [u8]) -> usize
-    requires { ⌜ 55323 ≤ length (now out) ⌝ }
+    requires { ⌜ longestLine ≤ length (now out) ⌝ }
     ensures { λ r. ⌜ Counts r (lineOf line []) ⌝ }
     ensures { λ _. ⌜ now (out .exit) ≡ sets (now (out .entry)) 0 (lineOf line []) ⌝ }
 {
     let none = [0u16; 1];
-    lines::write_line(line, &none[..0], out)
+    lines::put_line(line, &none[..0], out)
 }
 
 // The line of a decide or an undo, by its number.
 fn code_line(well: Line, code: u8, out: &mut [u8]) -> usize
-    requires { ⌜ 55323 ≤ length (now out) ⌝ }
+    requires { ⌜ longestLine ≤ length (now out) ⌝ }
     ensures { λ r. ⌜ Counts r (codeLine well code) ⌝ }
     ensures { λ _. ⌜ now (out .exit) ≡ sets (now (out .entry)) 0 (codeLine well code) ⌝ }
 {
@@ -121,25 +132,25 @@ fn check_line(check: Check) -> Line
 
 // The line of a fault, its entries handed over.
 fn fault_line(check: Check, list: &[u16], out: &mut [u8]) -> usize
-    requires { ⌜ (length (now list) ≤ 9216) × (55323 ≤ length (now out)) ⌝ }
+    requires { ⌜ (length (now list) ≤ mostEntries) × (longestLine ≤ length (now out)) ⌝ }
     ensures { λ r. ⌜ Counts r (lineOf (checkLine check) (sortedOnce (now (list .entry)))) ⌝ }
     ensures { λ _. ⌜ now (out .exit) ≡ sets (now (out .entry)) 0 (lineOf (checkLine check) (sortedOnce (now (list .entry)))) ⌝ }
 {
-    let mut entries = [0u16; 9216];
+    let mut entries = [0u16; limits::ENTRIES];
     let Handed::Written(n) = hand_over::hand_over(list, &mut entries) else {
         return 0;
     };
     let line = check_line(check);
-    lines::write_line(line, &entries[..n], out)
+    lines::put_line(line, &entries[..n], out)
 }
 
 // The line of an ask.
 fn ask_line(p: Puzzle, out: &mut [u8]) -> usize
-    requires { ⌜ 55323 ≤ length (now out) ⌝ }
+    requires { ⌜ longestLine ≤ length (now out) ⌝ }
     ensures { λ r. ⌜ Counts r (lineBy p Ask) ⌝ }
     ensures { λ _. ⌜ now (out .exit) ≡ sets (now (out .entry)) 0 (lineBy p Ask) ⌝ }
 {
-    let mut list = [0u16; 9216];
+    let mut list = [0u16; limits::ENTRIES];
     match puzzle::ask(p, &mut list) {
         Answer::Clear => bare_line(Line::Clear, out),
         Answer::Fault(check, n) => fault_line(check, &list[..n], out),
@@ -149,7 +160,7 @@ fn ask_line(p: Puzzle, out: &mut [u8]) -> usize
 
 // An undo, and its line.
 fn undo_call(p: Puzzle, out: &mut [u8]) -> Turn
-    requires { ⌜ 55323 ≤ length (now out) ⌝ }
+    requires { ⌜ longestLine ≤ length (now out) ⌝ }
     ensures { λ r. ⌜ Turned r p Undo ⌝ }
     ensures { λ _. ⌜ now (out .exit) ≡ sets (now (out .entry)) 0 (lineBy p Undo) ⌝ }
 {
@@ -161,7 +172,7 @@ fn undo_call(p: Puzzle, out: &mut [u8]) -> Turn
 
 // A decide, and its line.
 fn decide_call(p: Puzzle, border: usize, wall: bool, out: &mut [u8]) -> Turn
-    requires { ⌜ 55323 ≤ length (now out) ⌝ }
+    requires { ⌜ longestLine ≤ length (now out) ⌝ }
     ensures { λ r. ⌜ Turned r p (Decide border wall) ⌝ }
     ensures { λ _. ⌜ now (out .exit) ≡ sets (now (out .entry)) 0 (lineBy p (Decide border wall)) ⌝ }
 {
@@ -173,7 +184,7 @@ fn decide_call(p: Puzzle, border: usize, wall: bool, out: &mut [u8]) -> Turn
 
 // One call on a puzzle, and its line.
 fn do_call(p: Puzzle, call: Call, out: &mut [u8]) -> Turn
-    requires { ⌜ 55323 ≤ length (now out) ⌝ }
+    requires { ⌜ longestLine ≤ length (now out) ⌝ }
     ensures { λ r. ⌜ Turned r p call ⌝ }
     ensures { λ _. ⌜ now (out .exit) ≡ sets (now (out .entry)) 0 (lineBy p call) ⌝ }
 {
@@ -188,9 +199,9 @@ fn do_call(p: Puzzle, call: Call, out: &mut [u8]) -> Turn
 }
 
 // Runs so many calls of the file, from a byte on, and writes their lines to the buffer's front. It ends early at a call that is
-// unsound, and does nothing where the buffer has fewer than 55,323 places for each call.
+// unsound, and is refused where the buffer has fewer than `limits::LINE` places for each call.
 pub fn run_calls(file: &[u8], at: usize, count: usize, p: Puzzle, out: &mut [u8]) -> Ran
-    ensures { λ r. ⌜ r ≡ ranOf p at (doneIn count (drop at (now (file .entry))) (length (now (out .entry)))) ⌝ }
+    ensures { λ r. ⌜ r ≡ ranOf (codeIn count (length (now (out .entry)))) p at (doneIn count (drop at (now (file .entry))) (length (now (out .entry)))) ⌝ }
     ensures { λ _.
         ⌜ now (out .exit) ≡ sets (now (out .entry)) 0 (printedBy p (doneIn count (drop at (now (file .entry))) (length (now (out .entry))))) ⌝ }
     ensures { λ r. ⌜ r .len ≤ length (now (out .entry)) ⌝ }
@@ -199,8 +210,9 @@ pub fn run_calls(file: &[u8], at: usize, count: usize, p: Puzzle, out: &mut [u8]
     let mut next = at;
     let mut done = 0;
     let mut len = 0;
-    if out.len() / 55323 < count {
+    if out.len() / limits::LINE < count {
         return Ran {
+            code: 6,
             puzzle: p,
             at: at,
             done: 0,
@@ -218,6 +230,7 @@ pub fn run_calls(file: &[u8], at: usize, count: usize, p: Puzzle, out: &mut [u8]
         len += turn.len;
     }
     Ran {
+        code: 0,
         puzzle: puzzle,
         at: next,
         done: done,

@@ -1,15 +1,13 @@
--- One turn and the end of the loops that look at a graph's ends and copy its slices.
+-- One turn and the end of the loop that looks at a graph's ends.
 -- Assumes nothing.
 use Prim.Native.Nat.{ℕ, _+_, _-_, _≤_, _<_}
 use mathlib.Core.Path.{_≡_, sym}
 use mathlib.Core.Bool.{Bool, true, false}
 use mathlib.Core.List.{List}
 use native.Mathlib.Omega.{arith}
-use native.Mathlib.Numerals.{add-one}
 use borrow.Author.Tests.{ltb-true, lt-ltb, le-ltb}
 use lib.Dec.{ltb}
-use lib.ListN.{length, getD, set, drop, drop-of-length-le}
-use lib.Seq.{sets, drop-cons}
+use lib.ListN.{getD}
 use Rattle.lists.specs.Choice.{both}
 use Rattle.lists.specs.Lists.{countFrom, range, all}
 use Rattle.lists.proofs.ChoiceLaws.{both-true, true-both, same-truth}
@@ -77,11 +75,3 @@ module _ (n : ℕ) (us vs : List ℕ) where
   all-ends m t j h =
       let o = both-true (ltb (getD us j 0) n) (ltb (getD vs j 0) n) (all-true ends-at (range m) t j (range-in m j h)) in
       (ltb-true _ n (o .0), ltb-true _ n (o .1))
-
--- what is left to copy
-module _ (from to : List ℕ) (i : ℕ) where
-  pub copy-more : {x : ℕ} → i < length from → x ≡ getD from i 0 → sets to i (drop i from) ≡ sets (set to i x) (i + 1) (drop (i + 1) from)
-  copy-more h e = rw (add-one, drop-cons from i 0 h, e)
-
-  pub copy-none : length from ≤ i → sets to i (drop i from) ≡ to
-  copy-none h = rw (drop-of-length-le from h)

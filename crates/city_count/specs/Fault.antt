@@ -1,7 +1,6 @@
--- What the room check lists (01, "Union and room count").
+-- What the room check lists (SPEC 4.14).
 -- Assumes nothing.
 use Prim.Native.Nat.{ℕ}
-use mathlib.Core.Bool.{Bool, true, false}
 use mathlib.Core.List.{List, []}
 use mathlib.Core.Option.{Option, none, some}
 use lib.Dec.{eqb, ltb}
@@ -9,10 +8,6 @@ use Rattle.lists.specs.Choice.{when, give, orElse}
 use Rattle.lists.specs.Lists.{range, gather}
 use Rattle.borders.specs.Entry.{connectedEntry, wallEntry}
 use Rattle.room_parts.specs.Graph.{Graph, tippedOf, joinedParts, partsIf}
-
-abbrev pub entryOf : Bool → ℕ → ℕ
-entryOf true = wallEntry
-entryOf false = connectedEntry
 
 -- the entries of those of the first m edges that have the state k, in the order of the edges
 unfoldable pub entriesOf : (ℕ → ℕ) → ℕ → ℕ → (ℕ → ℕ) → List ℕ

@@ -4,9 +4,10 @@ use Prim.Native.Nat.{ℕ}
 use mathlib.Core.List.{List, [], _∷_}
 use lib.ListN.{length}
 use Rattle.ledger.specs.Ledger.{Call, decide, undo, ask, ledgerOf, standing}
+use Rattle.ledger.specs.Books.{noneGiven}
 use Rattle.room_parts.specs.Graph.{Graph, graph}
 use Rattle.city_count.specs.declared.CityCountConstraint.{CityCountConstraint}
-use Rattle.city_count.specs.Room.{noneGiven, makeOf, decideOf, undoOf}
+use Rattle.city_count.specs.Room.{makeOf, decideOf, undoOf}
 
 -- an ask returns no graph and changes none
 unfoldable pub roomAfter : CityCountConstraint → Call → CityCountConstraint

@@ -9,6 +9,7 @@ use native.Mathlib.Numerals.{add-one}
 use borrow.Author.Tests.{le-leb, lt-leb}
 use lib.ListN.{length, getD, set, take, length-map, length-set, List·getD-map}
 use lib.Seq.{take-suc, take-set-le, take-all, length-take-le, getD-set-same}
+use Rattle.limits.specs.Limits.{mostCells, mostBorders}
 use Rattle.lists.proofs.Cases.{le-or-lt}
 use Rattle.city_count.specs.Room.{makeOf}
 use Rattle.city_count.proofs.RoomLaws.{make-vertices, make-edges}
@@ -56,12 +57,12 @@ module _ (n : ℕ) (xs ys : List ℕ) (l count : ℕ) (p : length xs ≡ l) (q :
 
   long : 1985 < l → makeOf n (take (heldOf l) xs) (take (heldOf l) ys) count ≡ makeOf n xs ys count
   long h =
-      let k : 1984 < length (take 1985 xs) = rw (length-take-le 1985 xs (omega (arith, p))) (omega arith) in
+      let k : mostBorders < length (take 1985 xs) = rw (length-take-le 1985 xs (omega (arith, p))) (omega arith) in
       rw (lt-leb l 1985 h)
       (⊎-elim
-      (λ (m : n ≤ 1024). sym (make-edges n (take 1985 xs) (take 1985 ys) count m k) ∙ make-edges n xs ys count m (omega (arith, p)))
-      (λ (m : 1024 < n). sym (make-vertices n (take 1985 xs) (take 1985 ys) count m) ∙ make-vertices n xs ys count m)
-      (le-or-lt n 1024))
+      (λ (m : n ≤ mostCells). sym (make-edges n (take 1985 xs) (take 1985 ys) count m k) ∙ make-edges n xs ys count m (omega (arith, p)))
+      (λ (m : mostCells < n). sym (make-vertices n (take 1985 xs) (take 1985 ys) count m) ∙ make-vertices n xs ys count m)
+      (le-or-lt n mostCells))
 
   made-alike : makeOf n (take (heldOf l) xs) (take (heldOf l) ys) count ≡ makeOf n xs ys count
   made-alike = ⊎-elim (λ (h : l ≤ 1985). short h) (λ (h : 1985 < l). long h) (le-or-lt l 1985)

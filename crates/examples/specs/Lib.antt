@@ -1,2 +1,2 @@
--- Defined here: 01's starred examples as a table, and one computed check of it (`Starred`).
+-- Defined here: the starred examples of SPEC 7 as a table, and one computed check of it (`Starred`).
 pub mod Starred

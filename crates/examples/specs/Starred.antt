@@ -1,5 +1,5 @@
--- 01's starred examples of boards, room graphs, puzzles and hand-over: a table, and one computed check of it. Each board is also a puzzle without
--- given walls and with one unclued room, on which the borders are decided in turn.
+-- The starred examples (SPEC 7.1 to 7.7), of boards, room graphs, puzzles and hand-over: a table, and one computed check of it. Each board is also a
+-- puzzle without given walls and with one unclued room, on which the borders are decided in turn.
 -- Assumes nothing.
 use Prim.Native.Nat.{ℕ, _*_}
 use mathlib.Core.Path.{_≡_, refl}
@@ -7,11 +7,13 @@ use mathlib.Core.Bool.{true, false}
 use mathlib.Core.List.{List, [], _∷_, map}
 use mathlib.Core.Option.{Option, none, some}
 use lib.ListN.{length, replicate}
+use Rattle.limits.specs.Limits.{noClue}
 use Rattle.lists.specs.Lists.{count}
 use Rattle.grid.specs.Grid.{grid}
 use Rattle.shape.specs.Shape.{shapeFault}
-use Rattle.board.specs.Board.{zeros}
-use Rattle.puzzle.specs.declared.Check.the-variants.{Shape}
+use Rattle.ledger.specs.Books.{zeros}
+use Rattle.puzzle.specs.declared.Check.{Check}
+use Rattle.puzzle.specs.declared.Check.the-variants.{Shape, Room}
 use Rattle.puzzle.specs.declared.Answer.{Answer}
 use Rattle.puzzle.specs.declared.Answer.the-variants.{Clear, Fault, Refused}
 use Rattle.room_parts.specs.Graph.{graph, statesIn}
@@ -32,56 +34,73 @@ pub data Question : Type 0 where
   -- entries, to hand-over
   entries : List ℕ → Question
 
--- the list of a fault, or nothing where it is clear; a refusal would give a list that is in no example
-abbrev pub tells : Answer → List ℕ → Option (List ℕ)
-tells Clear l = none
-tells (Fault k n) l = some l
-tells (Refused n) l = some (n ∷ [])
+-- what an example says: clear; a fault's check and list; a list alone, that of a lone room graph or of hand-over; the number of a refusal
+pub data Told : Type 0 where
+  clear : Told
+  fault : Check → List ℕ → Told
+  list : List ℕ → Told
+  refused : ℕ → Told
 
-abbrev pub told : Question → Option (List ℕ)
-told (board h w states) = shapeFault (grid h w) states
-told (room n us vs k states) = roomFault (graph n (length us) us vs) k (statesIn states)
+abbrev pub foundBy : (List ℕ → Told) → Option (List ℕ) → Told
+foundBy kind none = clear
+foundBy kind (some l) = kind l
+
+-- an ask's answer, and its list
+abbrev pub tells : Answer → List ℕ → Told
+tells Clear l = clear
+tells (Fault k n) l = fault k l
+tells (Refused n) l = refused n
+
+abbrev pub told : Question → Told
+told (board h w states) = foundBy (fault Shape) (shapeFault (grid h w) states)
+told (room n us vs k states) = foundBy list (roomFault (graph n (length us) us vs) k (statesIn states))
 told (puzzle h w given clues calls) =
     let a = askOf (after h w given clues calls) (replicate (9 * (h * w)) 0) in tells (a .answer) (listOf a)
-told (entries l) = some (sortedOnce l)
+told (entries l) = list (sortedOnce l)
 
 pub record Example : Type 0 where
   pub question : Question
-  pub answer : Option (List ℕ)
+  pub answer : Told
 
 infix 10 _gives_
-abbrev _gives_ : Question → Option (List ℕ) → Example
+abbrev _gives_ : Question → Told → Example
 q gives a = record { question = q; answer = a }
 
 -- one room, no clue
 abbrev free : ℕ → ℕ → List Call → Question
-free h w calls = puzzle h w [] (65535 ∷ []) calls
+free h w calls = puzzle h w [] (noClue ∷ []) calls
+
+-- 2 by 2, with given walls that part a room above and a room below, each cut in two by a Wall
+abbrev halves : List ℕ → Question
+halves clues = puzzle 2 2 (2 ∷ 3 ∷ []) clues (decide 1 true ∷ decide 0 true ∷ [])
 
 pub table : List Example
 table =
-    -- "1 by 1: fault, empty list"
-    (board 1 1 [] gives some []) ∷ (free 1 1 [] gives some [])
-    -- "1 by 2: undecided clear; Connected, list 0; Wall, clear"
-    ∷ (board 1 2 (0 ∷ []) gives none) ∷ (free 1 2 [] gives none)
-    ∷ (board 1 2 (1 ∷ []) gives some (0 ∷ [])) ∷ (free 1 2 (decide 0 false ∷ []) gives some (0 ∷ []))
-    ∷ (board 1 2 (2 ∷ []) gives none) ∷ (free 1 2 (decide 0 true ∷ []) gives none)
-    -- "1 by 3, Wall, Connected: raw 2, 2, 1, 1, 1; handed over 1, 2"
-    ∷ (board 1 3 (2 ∷ 1 ∷ []) gives some (2 ∷ 2 ∷ 1 ∷ 1 ∷ 1 ∷ [])) ∷ (free 1 3 (decide 0 true ∷ decide 1 false ∷ []) gives some (2 ∷ 2 ∷ 1 ∷ 1 ∷ 1 ∷ []))
-    ∷ (entries (2 ∷ 2 ∷ 1 ∷ 1 ∷ 1 ∷ []) gives some (1 ∷ 2 ∷ []))
-    -- "2 by 2, borders 0, 1, 2 Connected, 3 Wall: raw 2, 4, 0, 7"
-    ∷ (board 2 2 (1 ∷ 1 ∷ 1 ∷ 2 ∷ []) gives some (2 ∷ 4 ∷ 0 ∷ 7 ∷ []))
-    ∷ (free 2 2 (decide 3 true ∷ decide 2 false ∷ decide 1 false ∷ decide 0 false ∷ []) gives some (2 ∷ 4 ∷ 0 ∷ 7 ∷ []))
-    -- "2 by 2, 0 and 1 Connected, 2 and 3 Wall: clear"
-    ∷ (board 2 2 (1 ∷ 1 ∷ 2 ∷ 2 ∷ []) gives none) ∷ (free 2 2 (decide 0 false ∷ decide 1 false ∷ decide 2 true ∷ decide 3 true ∷ []) gives none)
-    -- "Edges 0–1, 1–2, count 3: undecided clear; both Connected, list 0, 2. Count 1, first Wall: list 1"
-    ∷ (room 3 (0 ∷ 1 ∷ []) (1 ∷ 2 ∷ []) 3 (0 ∷ 0 ∷ []) gives none)
-    ∷ (room 3 (0 ∷ 1 ∷ []) (1 ∷ 2 ∷ []) 3 (1 ∷ 1 ∷ []) gives some (0 ∷ 2 ∷ []))
-    ∷ (room 3 (0 ∷ 1 ∷ []) (1 ∷ 2 ∷ []) 1 (2 ∷ 0 ∷ []) gives some (1 ∷ []))
-    -- "Two vertices, no edge, count 3: clear. One vertex, count 0: fault, empty"
-    ∷ (room 2 [] [] 3 [] gives none) ∷ (room 1 [] [] 0 [] gives some [])
-    -- not 01's: a clue is counted, in border numbers, behind given walls that part two rooms (2 by 2, 2 and 3 given, rooms above and below)
-    ∷ (puzzle 2 2 (2 ∷ 3 ∷ []) (65535 ∷ 1 ∷ []) (decide 1 true ∷ decide 0 true ∷ []) gives some (3 ∷ []))
-    ∷ (puzzle 2 2 (2 ∷ 3 ∷ []) (65535 ∷ 2 ∷ []) (decide 1 true ∷ decide 0 true ∷ []) gives none)
+    -- 7.1
+    (board 1 1 [] gives fault Shape []) ∷ (free 1 1 [] gives fault Shape [])
+    -- 7.2
+    ∷ (board 1 2 (0 ∷ []) gives clear) ∷ (free 1 2 [] gives clear)
+    ∷ (board 1 2 (1 ∷ []) gives fault Shape (0 ∷ [])) ∷ (free 1 2 (decide 0 false ∷ []) gives fault Shape (0 ∷ []))
+    ∷ (board 1 2 (2 ∷ []) gives clear) ∷ (free 1 2 (decide 0 true ∷ []) gives clear)
+    -- 7.3
+    ∷ (board 1 3 (2 ∷ 1 ∷ []) gives fault Shape (2 ∷ 2 ∷ 1 ∷ 1 ∷ 1 ∷ []))
+    ∷ (free 1 3 (decide 0 true ∷ decide 1 false ∷ []) gives fault Shape (2 ∷ 2 ∷ 1 ∷ 1 ∷ 1 ∷ []))
+    ∷ (entries (2 ∷ 2 ∷ 1 ∷ 1 ∷ 1 ∷ []) gives list (1 ∷ 2 ∷ []))
+    -- 7.4
+    ∷ (board 2 2 (1 ∷ 1 ∷ 1 ∷ 2 ∷ []) gives fault Shape (2 ∷ 4 ∷ 0 ∷ 7 ∷ []))
+    ∷ (free 2 2 (decide 3 true ∷ decide 2 false ∷ decide 1 false ∷ decide 0 false ∷ []) gives fault Shape (2 ∷ 4 ∷ 0 ∷ 7 ∷ []))
+    -- 7.5
+    ∷ (board 2 2 (1 ∷ 1 ∷ 2 ∷ 2 ∷ []) gives clear) ∷ (free 2 2 (decide 0 false ∷ decide 1 false ∷ decide 2 true ∷ decide 3 true ∷ []) gives clear)
+    -- 7.6
+    ∷ (room 3 (0 ∷ 1 ∷ []) (1 ∷ 2 ∷ []) 3 (0 ∷ 0 ∷ []) gives clear)
+    ∷ (room 3 (0 ∷ 1 ∷ []) (1 ∷ 2 ∷ []) 3 (1 ∷ 1 ∷ []) gives list (0 ∷ 2 ∷ []))
+    ∷ (room 3 (0 ∷ 1 ∷ []) (1 ∷ 2 ∷ []) 1 (2 ∷ 0 ∷ []) gives list (1 ∷ []))
+    -- 7.7
+    ∷ (room 2 [] [] 3 [] gives clear) ∷ (room 1 [] [] 0 [] gives list [])
+    -- more than the starred ones: a clued room's fault has the room's number and the board's borders, and shape comes before rooms
+    ∷ (halves (noClue ∷ 1 ∷ []) gives fault (Room 1) (3 ∷ [])) ∷ (halves (1 ∷ 1 ∷ []) gives fault (Room 0) (1 ∷ []))
+    ∷ (halves (noClue ∷ 2 ∷ []) gives clear)
+    ∷ (puzzle 1 2 [] (2 ∷ []) (decide 0 false ∷ []) gives fault Shape (0 ∷ []))
     ∷ []
 
 -- THE CHECK
@@ -89,8 +108,8 @@ pub starred : map (λ (x : Example). told (x .question)) table ≡ map (λ (x : 
 unfolding table run shapeFault roomFault listsCode together zeros noClues statesOf faultOf count sortedOnce
 starred = refl
 
--- the calls of 01's file: decided, decided, a fault of five entries, undone; refused calls among them change nothing
-file : replies (freshOf 1 3 [] (65535 ∷ []))
+-- the calls of the file of SPEC 7.9 (decided, decided, a fault of five entries, undone), with refused calls among them that change nothing
+file : replies (freshOf 1 3 [] (noClue ∷ []))
     (undo ∷ decide 0 true ∷ decide 2 true ∷ ask [] ∷ decide 0 false ∷ decide 1 false ∷ ask (replicate 28 9) ∷ undo ∷ [])
     ≡ coded 5 ∷ coded 0 ∷ coded 3 ∷ asked (record { answer = Refused 6; buffer = [] }) ∷ coded 4 ∷ coded 0
     ∷ asked (record { answer = Fault Shape 5; buffer = 2 ∷ 2 ∷ 1 ∷ 1 ∷ 1 ∷ replicate 23 9 }) ∷ coded 0 ∷ []

@@ -1,8 +1,8 @@
 -- A room's answer as numbers.
 -- Assumes nothing.
 use mathlib.Core.Bool.{true, false}
-use Rattle.city_count.specs.declared.Answer.{Answer}
-use Rattle.city_count.specs.declared.Answer.the-variants.{Clear, Fault, Refused}
+use Rattle.answers.specs.declared.Answer.{Answer}
+use Rattle.answers.specs.declared.Answer.the-variants.{Clear, Fault, Refused}
 use Rattle.exports.specs.declared.rooms.Verdict.{Verdict}
 
 abbrev pub verdictOf : Answer → Verdict

@@ -4,7 +4,7 @@ ghost use Prim.Native.Nat.{_≤_};
 ghost use lib.ListN.{length, drop};
 ghost use lib.Seq.{sets};
 ghost use Rattle.case_file.specs.Sound.{decodeOf};
-ghost use Rattle.case_run.specs.CaseRun.{openedOf, printedBy, doneIn, ranOf};
+ghost use Rattle.case_run.specs.CaseRun.{openedOf, printedBy, codeIn, doneIn, ranOf};
 use case_run::Opened;
 use case_run::Ran;
 use puzzle::Puzzle;
@@ -24,7 +24,7 @@ pub extern "C" fn sendai_case_run(
     p: Puzzle,
     out: &mut [u8],
 ) -> Ran
-    ensures { λ r. ⌜ r ≡ ranOf p at (doneIn count (drop at (now (file .entry))) (length (now (out .entry)))) ⌝ }
+    ensures { λ r. ⌜ r ≡ ranOf (codeIn count (length (now (out .entry)))) p at (doneIn count (drop at (now (file .entry))) (length (now (out .entry)))) ⌝ }
     ensures { λ _.
         ⌜ now (out .exit) ≡ sets (now (out .entry)) 0 (printedBy p (doneIn count (drop at (now (file .entry))) (length (now (out .entry))))) ⌝ }
     ensures { λ r. ⌜ r .len ≤ length (now (out .entry)) ⌝ }

@@ -1,11 +1,12 @@
 // The case file's readers, with a layout and a call as numbers. A list of the file is named by its first byte and its count.
 ghost use mathlib.Core.Path.{_≡_};
-ghost use lib.ListN.{drop, getD};
-ghost use lib.Seq.{sets};
+ghost use lib.ListN.{length, drop, getD};
 ghost use Rattle.lists.specs.Choice.{pick};
+ghost use Rattle.answers.specs.Answers.{listedOf, written, plainListed};
 ghost use Rattle.case_file.specs.Sound.{decodeOf, callOf};
-ghost use Rattle.case_file.specs.Layout.{fileOf, numbersAt, stepAt};
+ghost use Rattle.case_file.specs.Layout.{fileOf, numbersAt, numbersInto, spanOf, stepAt};
 ghost use Rattle.exports.specs.Files.{partsOf, callFields, stepFields};
+use answers::Plain;
 use case_file::Call;
 use case_file::File;
 use case_file::Span;
@@ -132,10 +133,16 @@ pub extern "C" fn sendai_file_number(file: &[u8], at: usize, count: usize, k: us
     case_file::number(file, Span { at, count }, k)
 }
 
-// The numbers of a list, as many as the buffer has places for.
+// The numbers of a list.
 #[no_mangle]
-pub extern "C" fn sendai_file_numbers(file: &[u8], at: usize, count: usize, out: &mut [u16])
-    ensures { λ _. ⌜ now (out .exit) ≡ sets (now (out .entry)) 0 (numbersAt (now (file .entry)) at count) ⌝ }
+pub extern "C" fn sendai_file_numbers(
+    file: &[u8],
+    at: usize,
+    count: usize,
+    buffer: &mut [u16],
+) -> Plain
+    ensures { λ r. ⌜ r ≡ plainListed (listedOf (numbersInto (now (file .entry)) (spanOf at count) (length (now (buffer .entry))))) ⌝ }
+    ensures { λ _. ⌜ now (buffer .exit) ≡ written (numbersInto (now (file .entry)) (spanOf at count) (length (now (buffer .entry)))) (now (buffer .entry)) ⌝ }
 {
-    case_file::numbers(file, Span { at, count }, out)
+    answers::of_listed(case_file::numbers(file, Span { at, count }, buffer))
 }

@@ -4,7 +4,6 @@
 mod boards;
 mod boundaries;
 mod cases;
-mod copies;
 mod edges;
 mod files;
 mod groupings;

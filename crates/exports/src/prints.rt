@@ -1,8 +1,10 @@
 // The program's lines, with the kind of a line by its number.
 ghost use mathlib.Core.Path.{_≡_};
 ghost use lib.ListN.{length};
-ghost use Rattle.lines.specs.Line.{lengthIn, printedTo};
+ghost use Rattle.answers.specs.Answers.{listedOf, written, plainListed};
+ghost use Rattle.lines.specs.Line.{lineInto};
 ghost use Rattle.exports.specs.Prints.{lineBy};
+use answers::Plain;
 use lines::Line;
 
 // A kind of line with its number: a room's, or a refusal's, which has 8 bits.
@@ -20,10 +22,10 @@ fn line_of(kind: u8, number: usize) -> Line
 }
 
 #[no_mangle]
-pub extern "C" fn sendai_line(kind: u8, number: usize, entries: &[u16], buffer: &mut [u8]) -> usize
-    ensures { λ r. ⌜ r ≡ lengthIn (lineBy kind number) (now (entries .entry)) (length (now (buffer .entry))) ⌝ }
-    ensures { λ _. ⌜ now (buffer .exit) ≡ printedTo (lineBy kind number) (now (entries .entry)) (now (buffer .entry)) ⌝ }
+pub extern "C" fn sendai_line(kind: u8, number: usize, entries: &[u16], buffer: &mut [u8]) -> Plain
+    ensures { λ r. ⌜ r ≡ plainListed (listedOf (lineInto (lineBy kind number) (now (entries .entry)) (length (now (buffer .entry))))) ⌝ }
+    ensures { λ _. ⌜ now (buffer .exit) ≡ written (lineInto (lineBy kind number) (now (entries .entry)) (length (now (buffer .entry)))) (now (buffer .entry)) ⌝ }
 {
     let line = line_of(kind, number);
-    lines::write_line(line, entries, buffer)
+    answers::of_listed(lines::write_line(line, entries, buffer))
 }

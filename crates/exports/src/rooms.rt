@@ -1,9 +1,10 @@
 // The room graph's calls.
 ghost use mathlib.Core.Path.{_≡_};
 ghost use lib.ListN.{length};
-ghost use Rattle.city_count.specs.Room.{makeOf, roomCode, decideOf, undoOf, askOf, askedIn};
+ghost use Rattle.answers.specs.Answers.{answerOf, written};
+ghost use Rattle.city_count.specs.Room.{makeOf, roomCode, decideOf, undoOf, askOf};
 ghost use Rattle.exports.specs.Rooms.{verdictOf};
-use city_count::Answer;
+use answers::Answer;
 use city_count::CityCountConstraint;
 use city_count::Decided;
 
@@ -72,8 +73,8 @@ pub extern "C" fn sendai_room_undo(r: CityCountConstraint) -> Decided
 
 #[no_mangle]
 pub extern "C" fn sendai_room_ask(r: CityCountConstraint, buf: &mut [u16]) -> Verdict
-    ensures { λ v. ⌜ v ≡ verdictOf (askOf r (length (now (buf .entry)))) ⌝ }
-    ensures { λ v. ⌜ now (buf .exit) ≡ askedIn r (now (buf .entry)) ⌝ }
+    ensures { λ v. ⌜ v ≡ verdictOf (answerOf (askOf r (length (now (buf .entry))))) ⌝ }
+    ensures { λ v. ⌜ now (buf .exit) ≡ written (askOf r (length (now (buf .entry)))) (now (buf .entry)) ⌝ }
 {
     verdict_of(city_count::ask(r, buf))
 }

@@ -25,11 +25,11 @@ pub data Chain (R : ℕ → ℕ → Type 0) : ℕ → ℕ → Type 0 where
 abbrev pub Link : Relation → (ℕ → Type 0) → ℕ → ℕ → Type 0
 Link Nb Q a b = (e : ℕ) × Nb a b e × Q e
 
--- "A unit is a largest set of cells joined by Connected borders": a and b are in one unit
+-- a and b are in one unit (SPEC 2.2)
 abbrev pub SameUnit : Relation → States → ℕ → ℕ → Type 0
 SameUnit Nb s = Chain (Link Nb (λ e. s e ≡ 1))
 
--- "Potential units also over undecided": a and b are in one potential unit
+-- a and b are in one potential unit (SPEC 4.1)
 abbrev pub SamePotential : Relation → States → ℕ → ℕ → Type 0
 SamePotential Nb s = Chain (Link Nb (λ e. s e ≢ 2))
 
@@ -43,20 +43,20 @@ pub record Parted (Nb : Relation) (s : States) (a b : ℕ) : Type 0 where
   pub is-wall : s wall ≡ 2
   pub far-in : SamePotential Nb s far b
 
--- "Potential units are adjacent if they are one, or a Wall parts them"
+-- the potential units of a and b are adjacent (SPEC 4.7)
 abbrev pub Adjacent : Relation → States → ℕ → ℕ → Type 0
 Adjacent Nb s a b = SamePotential Nb s a b ⊎ Parted Nb s a b
 
 -- LAWS OF A FULL BOARD
--- "A board is full when no border is undecided"
+-- no border is undecided (SPEC 2.1)
 abbrev pub Full : Relation → States → Type 0
 Full Nb s = (a b e : ℕ) → Nb a b e → (s e ≡ 1) ⊎ (s e ≡ 2)
 
--- "No Wall has one unit on both sides"
+-- the second law (SPEC 2.4)
 abbrev pub NoInnerWall : Relation → States → Type 0
 NoInnerWall Nb s = (a b e : ℕ) → Nb a b e → s e ≡ 2 → SameUnit Nb s a b → ⊥
 
--- The unit of t is a different unit, on which T puts the unit of f cell by cell, and it shares a Wall with that one. `T a x` says that T puts a on x.
+-- The third law (SPEC 2.5) for the unit of f: that of t is a different unit, T puts f's on it cell by cell, and the two share a Wall. `T a x`: T puts a on x.
 pub record Partner (Nb : Relation) (s : States) (T : ℕ → ℕ → Type 0) (f t : ℕ) : Type 0 where
   pub onto : (a : ℕ) → SameUnit Nb s f a → (x : ℕ) × T a x × SameUnit Nb s t x
   pub from : (x : ℕ) → SameUnit Nb s t x → (a : ℕ) × T a x × SameUnit Nb s f a

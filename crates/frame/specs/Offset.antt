@@ -11,12 +11,12 @@ pub record Placement (Nb : Relation) (T : ℕ → ℕ → Type 0) : Type 0 where
   pub keeps : (a b x y e : ℕ) → T a x → T b y → Nb a b e → (e' : ℕ) × Nb x y e'
   pub comes : (a b x y e : ℕ) → T a x → T b y → Nb x y e → (e' : ℕ) × Nb a b e'
 
--- "An offset is passed over if a cell leaves the board or falls in the unit, or if no cell falls in a potential unit adjacent to the unit's own": this one is not.
+-- An offset that is not passed over (SPEC 4.8): each cell falls on the board and off the unit, and some cell in a potential unit adjacent to the unit's own.
 pub record Tried (Nb : Relation) (s : States) (f : ℕ) (T : ℕ → ℕ → Type 0) : Type 0 where
   pub falls : (a : ℕ) → SameUnit Nb s f a → (x : ℕ) × T a x × (SameUnit Nb s f x → ⊥)
   pub meets : (a : ℕ) × (x : ℕ) × SameUnit Nb s f a × T a x × Adjacent Nb s f x
 
--- A good offset: "the unit's inner borders must not land on a Wall; its Walls and board edges must not land on a Connected border"
+-- A good offset (SPEC 4.9): no inner border lands on a Wall, and no Wall or edge of the board on a Connected border.
 pub record Good (Nb : Relation) (s : States) (f : ℕ) (T : ℕ → ℕ → Type 0) : Type 0 where
   pub tried : Tried Nb s f T
   pub joins : (a b x y e e' : ℕ) → SameUnit Nb s f a → SameUnit Nb s f b → Nb a b e → T a x → T b y → Nb x y e' → s e' ≢ 2

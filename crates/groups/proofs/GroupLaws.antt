@@ -26,7 +26,7 @@ use Rattle.borders.proofs.Directions.{Ahead, down-or-right}
 use Rattle.parts.specs.Parts.{edge, Has, Joined, same, over, back, then, begun, part, Within, parts}
 use Rattle.parts.proofs.PartLaws.{edge-ends, joined-part, part-joined, part-lt, part-used}
 use Rattle.parts.proofs.PartLists.{begun-at, parts-at, within}
-use Rattle.groups.specs.Groups.{passes, edgeAt, edgesOver, edges, groupIds, groupCount, cellsOf}
+use Rattle.groups.specs.Groups.{passes, edgeAt, edgesOver, edges, groupIds, groupCount, cellsIn, cellsOf}
 
 -- `ids` numbers the classes of J, which are `count` in all, from 0 on
 pub record Labels (g : Grid) (ids : List ℕ) (count : ℕ) (J : ℕ → ℕ → Type 0) : Type 0 where
@@ -38,11 +38,11 @@ pub record Labels (g : Grid) (ids : List ℕ) (count : ℕ) (J : ℕ → ℕ →
 -- the cells of a group are those with its number
 module _ (g : Grid) (ids : List ℕ) (k c : ℕ) where
   pub in-cells : In c (cellsOf g ids k) → Cell g c × (getD ids c 0 ≡ k)
-  unfolding cellsOf
+  unfolding cellsIn
   in-cells m = let o = in-keep (λ c. eqb (getD ids c 0) k) (range (cells g)) c m in (in-range (cells g) c (o .0), eqb-true (getD ids c 0) k (o .1))
 
   pub cells-in : Cell g c → getD ids c 0 ≡ k → In c (cellsOf g ids k)
-  unfolding cellsOf
+  unfolding cellsIn
   cells-in l q = keep-in (λ c. eqb (getD ids c 0) k) (range (cells g)) c (range-in (cells g) c l) (eq-eqb (getD ids c 0) k q)
 
 -- a chain of links stays on the board

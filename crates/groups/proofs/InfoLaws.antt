@@ -14,6 +14,7 @@ use Rattle.lists.specs.Choice.{pick}
 use Rattle.lists.specs.Lists.{countFrom, range, all}
 use Rattle.lists.proofs.ChoiceLaws.{both-true}
 use Rattle.lists.proofs.ListLaws.{all-step, all-end, all-true, range-in}
+use Rattle.grid.specs.declared.Grid.{Grid}
 use Rattle.grid.specs.Grid.{cells, sizesOk, Limits}
 use Rattle.grid.proofs.Geometry.{limits, limits-ok}
 use Rattle.board.specs.declared.Board.{Board}
@@ -22,8 +23,8 @@ use Rattle.board.proofs.Laws.{board-ready}
 use Rattle.groups.specs.declared.GroupInfo.{GroupInfo}
 use Rattle.groups.specs.Groups.{groupIds, groupCount}
 use Rattle.groups.specs.Turn.{inTurn}
-use Rattle.groups.specs.Lent.{Lent, Grouped}
-use Rattle.groups.specs.Info.{blankPlaces, grouping, zeroInfo, infoOf, groupingCode, groupingOf, bufferOf, endOf, startsRise, groupsExist, infoTogether, infoGrid, infoCode, part, handOutOf, handOutCode, handOutStart, addressOf}
+use Rattle.groups.specs.Lent.{Lent, Grouped, Slot}
+use Rattle.groups.specs.Info.{blankPlaces, grouping, zeroInfo, infoOf, groupingCode, groupingOf, bufferOf, endOf, startsRise, groupsExist, infoTogether, infoCode, groupPart, handOutOf, handOutCode, handOutStart, addressOf}
 
 -- A LOOP THAT TESTS ALL NUMBERS BELOW n
 
@@ -74,8 +75,8 @@ pub lent : (n : ℕ) (buffer : List ℕ) → n ≤ 1024 → n ≤ length buffer 
 unfolding blankPlaces
 lent n buffer h k = record { ids-long = h; starts-long = h; flat-long = k }
 
-abbrev pub info : ℕ → ℕ → ℕ → List ℕ → List ℕ → GroupInfo
-info h w count ids starts = record { height = h; width = w; count = count; ids = ids; starts = starts }
+abbrev pub info : Grid → ℕ → List ℕ → List ℕ → GroupInfo
+info g count ids starts = record { grid = g; count = count; ids = ids; starts = starts }
 
 module _ (b : Board) (p : Bool) {code : ℕ} (told : code ≡ boardCode b) where
   pub grouping-refused : (places : ℕ) → code ≢ 0 → grouping code zeroInfo ≡ groupingOf b p places
@@ -98,62 +99,62 @@ module _ (b : Board) (p : Bool) {code : ℕ} (told : code ≡ boardCode b) where
       accepted : groupingCode b places ≡ 0
       accepted = rw (← told, z, le-leb (cells (sizeOf b)) places h)
 
-      pub grouping-is : (i : GroupInfo) → i ≡ infoOf (sizeOf b) (b .states) p → grouping 0 i ≡ groupingOf b p places
+      pub grouping-is : (i : GroupInfo) → i ≡ infoOf (sizeOf b) (b .book .states) p → grouping 0 i ≡ groupingOf b p places
       grouping-is i e = rw (accepted, e)
 
     -- the record of what was grouped
     pub info-is : {ids starts flat ids' starts' flat' : List ℕ} {count : ℕ} → ids ≡ blankPlaces → starts ≡ blankPlaces
-        → Grouped (sizeOf b) (b .states) p ids starts flat ids' starts' flat' count
-        → info (b .height) (b .width) count ids' starts' ≡ infoOf (sizeOf b) (b .states) p
+        → Grouped (sizeOf b) (b .book .states) p ids starts flat ids' starts' flat' count
+        → info (b .grid) count ids' starts' ≡ infoOf (sizeOf b) (b .book .states) p
     info-is e f w = rw (w .count-is, w .ids-are, w .starts-are, e, f)
 
     pub buffer-is : (buffer buffer' : List ℕ) → cells (sizeOf b) ≤ length buffer
-        → buffer' ≡ sets buffer 0 (inTurn (cells (sizeOf b)) (groupIds (sizeOf b) (b .states) p) (groupCount (sizeOf b) (b .states) p)) → buffer' ≡ bufferOf b p buffer
+        → buffer' ≡ sets buffer 0 (inTurn (cells (sizeOf b)) (groupIds (sizeOf b) (b .book .states) p) (groupCount (sizeOf b) (b .book .states) p)) → buffer' ≡ bufferOf b p buffer
     buffer-is buffer buffer' h e = e ∙ rw (accepted (length buffer) h)
 
 -- QUESTIONS 1 AND 2 OF A GROUP RECORD
 
 pub record Holds (i : GroupInfo) : Type 0 where
-  pub limits : Limits (infoGrid i)
-  pub few : i .count ≤ cells (infoGrid i)
-  pub rise : startsRise (cells (infoGrid i)) (i .count) (i .starts) ≡ true
-  pub exist : groupsExist (cells (infoGrid i)) (i .count) (i .ids) ≡ true
+  pub limits : Limits (i .grid)
+  pub few : i .count ≤ cells (i .grid)
+  pub rise : startsRise (cells (i .grid)) (i .count) (i .starts) ≡ true
+  pub exist : groupsExist (cells (i .grid)) (i .count) (i .ids) ≡ true
 
 module _ (i : GroupInfo) where
-  pub info-no-size : {t : Bool} → t ≡ sizesOk (infoGrid i) → t ≡ false → 1 ≡ infoCode i
+  pub info-no-size : {t : Bool} → t ≡ sizesOk (i .grid) → t ≡ false → 1 ≡ infoCode i
   info-no-size e z = rw (← e, z)
 
-  module _ {t : Bool} (e : t ≡ sizesOk (infoGrid i)) (z : t ≡ true) where
-    pub info-limits : Limits (infoGrid i)
-    info-limits = limits (infoGrid i) (sym e ∙ z)
+  module _ {t : Bool} (e : t ≡ sizesOk (i .grid)) (z : t ≡ true) where
+    pub info-limits : Limits (i .grid)
+    info-limits = limits (i .grid) (sym e ∙ z)
 
-    pub too-many : cells (infoGrid i) < i .count → 2 ≡ infoCode i
-    too-many h = rw (← e, z, lt-leb (i .count) (cells (infoGrid i)) h)
+    pub too-many : cells (i .grid) < i .count → 2 ≡ infoCode i
+    too-many h = rw (← e, z, lt-leb (i .count) (cells (i .grid)) h)
 
-    module _ (h : i .count ≤ cells (infoGrid i)) {r : Bool} (f : r ≡ startsRise (cells (infoGrid i)) (i .count) (i .starts)) where
+    module _ (h : i .count ≤ cells (i .grid)) {r : Bool} (f : r ≡ startsRise (cells (i .grid)) (i .count) (i .starts)) where
       pub not-rising : r ≡ false → 2 ≡ infoCode i
-      not-rising q = rw (← e, z, le-leb (i .count) (cells (infoGrid i)) h, ← f, q)
+      not-rising q = rw (← e, z, le-leb (i .count) (cells (i .grid)) h, ← f, q)
 
-      module _ (q : r ≡ true) {s : Bool} (g : s ≡ groupsExist (cells (infoGrid i)) (i .count) (i .ids)) where
+      module _ (q : r ≡ true) {s : Bool} (g : s ≡ groupsExist (cells (i .grid)) (i .count) (i .ids)) where
         pub not-existing : s ≡ false → 2 ≡ infoCode i
-        not-existing k = rw (← e, z, le-leb (i .count) (cells (infoGrid i)) h, ← f, q, ← g, k)
+        not-existing k = rw (← e, z, le-leb (i .count) (cells (i .grid)) h, ← f, q, ← g, k)
 
         pub together : s ≡ true → 0 ≡ infoCode i
-        together k = rw (← e, z, le-leb (i .count) (cells (infoGrid i)) h, ← f, q, ← g, k)
+        together k = rw (← e, z, le-leb (i .count) (cells (i .grid)) h, ← f, q, ← g, k)
 
   pub holds : infoCode i ≡ 0 → Holds i
-  holds = go (sizesOk (infoGrid i)) refl (infoTogether (cells (infoGrid i)) (i .count) (i .ids) (i .starts)) refl
+  holds = go (sizesOk (i .grid)) refl (infoTogether (cells (i .grid)) (i .count) (i .ids) (i .starts)) refl
     where
-      go : (s : Bool) → sizesOk (infoGrid i) ≡ s → (t : Bool) → infoTogether (cells (infoGrid i)) (i .count) (i .ids) (i .starts) ≡ t → _≡_ {A = ℕ} (pick s (pick t 0 2) 1) 0 → Holds i
+      go : (s : Bool) → sizesOk (i .grid) ≡ s → (t : Bool) → infoTogether (cells (i .grid)) (i .count) (i .ids) (i .starts) ≡ t → _≡_ {A = ℕ} (pick s (pick t 0 2) 1) 0 → Holds i
       go true p true q z =
-          let a = both-true (leb (i .count) (cells (infoGrid i))) _ q in
-          let b = both-true (startsRise (cells (infoGrid i)) (i .count) (i .starts)) (groupsExist (cells (infoGrid i)) (i .count) (i .ids)) (a .1) in
-          record { limits = limits (infoGrid i) p; few = leb-true _ _ (a .0); rise = b .0; exist = b .1 }
+          let a = both-true (leb (i .count) (cells (i .grid))) _ q in
+          let b = both-true (startsRise (cells (i .grid)) (i .count) (i .starts)) (groupsExist (cells (i .grid)) (i .count) (i .ids)) (a .1) in
+          record { limits = limits (i .grid) p; few = leb-true _ _ (a .0); rise = b .0; exist = b .1 }
       go true p false q z = absurd (omega arith)
       go false p t q z = absurd (omega arith)
 
   pub holds-code : Holds i → infoCode i ≡ 0
-  holds-code w = rw (limits-ok (infoGrid i) (w .limits), le-leb (i .count) (cells (infoGrid i)) (w .few), w .rise, w .exist)
+  holds-code w = rw (limits-ok (i .grid) (w .limits), le-leb (i .count) (cells (i .grid)) (w .few), w .rise, w .exist)
 
 -- starts that rise: each group has a cell, and ends at the last cell or before it
 module _ (n count : ℕ) (starts : List ℕ) (rise : startsRise n count starts ≡ true) where
@@ -202,16 +203,19 @@ module _ (i : GroupInfo) (buffer : List ℕ) (k : ℕ) (p : ℕ × ℕ) {code : 
     no-group h = refused-part i buffer k p (rw (← told, z, le-ltb k (i .count) h) (omega arith))
 
     module _ (h : k < i .count) where
-      pub hand-out-short : length buffer < cells (infoGrid i) → Handed i buffer k p [] p
-      hand-out-short l = refused-part i buffer k p (rw (← told, z, lt-ltb k (i .count) h, lt-leb (cells (infoGrid i)) (length buffer) l) (omega arith))
+      pub hand-out-short : length buffer < cells (i .grid) → Handed i buffer k p [] p
+      hand-out-short l = refused-part i buffer k p (rw (← told, z, lt-ltb k (i .count) h, lt-leb (cells (i .grid)) (length buffer) l) (omega arith))
 
-      module _ {start end : ℕ} (a : start ≡ getD (i .starts) k 0) (e : end ≡ endOf (cells (infoGrid i)) (i .count) (i .starts) k) where
-        pub part-start : start ≤ end
-        part-start = omega (arith, start-before-end (cells (infoGrid i)) (i .count) (i .starts) (info-holds .rise) k h)
+      module _ (l : cells (i .grid) ≤ length buffer) where
+        pub handed-slot : i .count ≤ length (i .starts) → Slot (i .grid) (i .starts) buffer (i .count) k
+        handed-slot long =
+            record {
+              exists = h;
+              starts-long = long;
+              order = omega (arith, start-before-end (cells (i .grid)) (i .count) (i .starts) (info-holds .rise) k h);
+              within = end-within (cells (i .grid)) (i .count) (i .starts) (info-holds .rise) k h;
+              flat-long = l;
+            }
 
-        module _ (l : cells (infoGrid i) ≤ length buffer) where
-          pub part-end : end ≤ length buffer
-          part-end = omega (arith, end-within (cells (infoGrid i)) (i .count) (i .starts) (info-holds .rise) k h)
-
-          pub handed-out : Handed i buffer k p (part buffer start end) (addressOf p start)
-          handed-out = rw (← told, z, lt-ltb k (i .count) h, le-leb (cells (infoGrid i)) (length buffer) l, a, e) (refl, refl)
+        pub handed-out : {xs : List ℕ} {q : ℕ × ℕ} → xs ≡ groupPart (cells (i .grid)) (i .count) (i .starts) buffer k → q ≡ addressOf p (getD (i .starts) k 0) → Handed i buffer k p xs q
+        handed-out e f = rw (← told, z, lt-ltb k (i .count) h, le-leb (cells (i .grid)) (length buffer) l) (e, f)

@@ -23,12 +23,12 @@ use Rattle.board.specs.declared.Board.{Board}
 use Rattle.board.specs.Board.{sizeOf, boardCode}
 use Rattle.parts.specs.Parts.{Joined, root}
 use Rattle.parts.proofs.PartLaws.{part-iff, part-order, part-used, part-lt, root-least, part-joined}
-use Rattle.groups.specs.Groups.{edges, groupIds, groupCount, cellsOf}
-use Rattle.groups.specs.Turn.{cellsIn, inTurn, startOf, startsOf}
-use Rattle.groups.specs.Lent.{Lent, Grouped}
-use Rattle.groups.specs.Info.{blankPlaces, part, infoOf, groupingCode, groupingOf, bufferOf, endOf, startsRise, groupsExist, handOutOf}
+use Rattle.groups.specs.Groups.{edges, groupIds, groupCount, cellsIn, cellsOf}
+use Rattle.groups.specs.Turn.{inTurn, startOf, startsOf}
+use Rattle.groups.specs.Lent.{Lent, Grouped, Slot, Between, InTurn}
+use Rattle.groups.specs.Info.{blankPlaces, groupPart, infoOf, groupingCode, groupingOf, bufferOf, endOf, startsRise, groupsExist, handOutOf}
 use Rattle.groups.proofs.EdgeLaws.{ids-at, ids-length, count-is}
-use Rattle.lists.proofs.SetsLaws.{front-at}
+use Rattle.lists.proofs.SetsLaws.{front, front-at}
 use Rattle.groups.proofs.TurnLaws.{kept, rank, sorted, start, place, kept-at, kept-of, sorted-at, start-all, start-more, start-zero, place-at, place-of, rank-more}
 use Rattle.groups.proofs.Counting.{at, map-at}
 use Rattle.groups.proofs.Lending.{count-small}
@@ -69,7 +69,7 @@ module _ (g : Grid) (st : List ℕ) (p : Bool) where
 
   -- no group is empty
   pub no-empty-group : (k : ℕ) → k < count → 0 < length (cellsOf g ids k)
-  unfolding cellsOf
+  unfolding cellsIn
   no-empty-group k h = let o = first-cell k h in omega (arith, kept-at (at ids) (cells g) k (o .0) (o .1) (o .2) .0)
 
   -- the groups' cells together are all cells, each once: there are as many places as cells, each cell has a place and no other
@@ -94,7 +94,7 @@ module _ (g : Grid) (st : List ℕ) (p : Bool) where
 
 -- within a group cells rise, whatever numbers the cells have
 pub cells-rise : (g : Grid) (ids : List ℕ) (k i j : ℕ) → i < j → j < length (cellsOf g ids k) → getD (cellsOf g ids k) i 0 < getD (cellsOf g ids k) j 0
-unfolding cellsOf
+unfolding cellsIn
 cells-rise g ids k i j h l =
     let a = kept-of (at ids) (cells g) k i (omega arith) in
     let b = kept-of (at ids) (cells g) k j l in
@@ -145,13 +145,12 @@ module _ (g : Grid) (st : List ℕ) (p : Bool) (starts₀ : List ℕ) (fits : ce
       (omega (arith, start-at k h, end-at k h, start-more (at (groupIds g st p)) (cells g) k, size k h))))
     where
       size : (k : ℕ) → k < groupCount g st p → 0 < rank (at (groupIds g st p)) (cells g) k
-      size k h = unfold cellsOf in no-empty-group g st p k h
+      size k h = unfold cellsIn in no-empty-group g st p k h
 
   -- what stands between two starts is exactly the group's cells
   pub part-cells : (flat₀ : List ℕ) (k : ℕ) → cells g ≤ length flat₀ → k < groupCount g st p
-      → part (sets flat₀ 0 (inTurn (cells g) (groupIds g st p) (groupCount g st p))) (getD starts k 0) (endOf (cells g) (groupCount g st p) starts k)
-      ≡ cellsOf g (groupIds g st p) k
-  unfolding begin inTurn cellsIn cellsOf
+      → groupPart (cells g) (groupCount g st p) starts (sets flat₀ 0 (inTurn (cells g) (groupIds g st p) (groupCount g st p))) k ≡ cellsOf g (groupIds g st p) k
+  unfolding begin inTurn cellsIn
   part-cells flat₀ k long h =
       let key = at (groupIds g st p) in
       let n = cells g in
@@ -172,13 +171,7 @@ module _ (g : Grid) (st : List ℕ) (p : Bool) (starts₀ : List ℕ) (fits : ce
       getD-take (begin (suc k) - begin k) (drop (begin k) flat) i 0 (omega arith) ∙ getD-drop (begin k) flat i 0
       ∙ front-at flat₀ turn (begin k + i) (omega arith) (s .0) ∙ s .1))
 
--- group k's cells are the part of `flat` between its start and its end
-pub record Between (g : Grid) (ids starts flat : List ℕ) (count k : ℕ) : Type 0 where
-  pub some : getD starts k 0 < endOf (cells g) count starts k
-  pub within : endOf (cells g) count starts k ≤ cells g
-  pub are : part flat (getD starts k 0) (endOf (cells g) count starts k) ≡ cellsOf g ids k
-
--- so it is of slices that the groups were written to
+-- slices that the groups were written to have them between start and end
 pub between : {g : Grid} {st : List ℕ} {p : Bool} {ids₀ starts₀ flat₀ ids starts flat : List ℕ} {count : ℕ}
     → Lent (cells g) ids₀ starts₀ flat₀ → Grouped g st p ids₀ starts₀ flat₀ ids starts flat count → (k : ℕ) → k < count
     → Between g (groupIds g st p) starts flat count k
@@ -193,15 +186,71 @@ between {g} {st} {p} {starts₀ = starts₀} {flat₀ = flat₀} l w k h =
       are = part-cells g st p starts₀ (l .starts-long) flat₀ k (l .flat-long) h';
     })
 
--- THE HAND-OUT OF A GROUPING'S OWN RECORD AND BUFFER
+-- and so each group
+pub in-turn : {g : Grid} {st : List ℕ} {p : Bool} {ids₀ starts₀ flat₀ ids starts flat : List ℕ} {count : ℕ} → Lent (cells g) ids₀ starts₀ flat₀
+    → Grouped g st p ids₀ starts₀ flat₀ ids starts flat count → InTurn g (groupIds g st p) count starts flat
+in-turn {g} {st} {p} {starts₀ = starts₀} {flat₀ = flat₀} l w =
+    record {
+      few = rw (w .count-is) (count-small g st p);
+      ids-long = omega (arith, ids-length g st p);
+      starts-long = rw (w .count-is, w .starts-are) (simp length-sets (omega (arith, count-small g st p, l .starts-long)));
+      flat-long = rw (w .flat-is) (simp length-sets (l .flat-long));
+      small = λ c h. rw (w .count-is) (group-exists g st p c h);
+      between = between l w;
+    }
+
+-- ARRAYS OF 1,024 PLACES, lent to a grouping
 
 blank-long : length blankPlaces ≡ 1024
 unfolding blankPlaces
 blank-long = refl
 
+module _ {g : Grid} (limits : Limits g) where
+  pub arrays-fit : cells g ≤ length blankPlaces
+  arrays-fit = omega (arith, blank-long, cells-le g limits)
+
+  pub arrays-lent : Lent (cells g) blankPlaces blankPlaces blankPlaces
+  arrays-lent = record { ids-long = arrays-fit; starts-long = arrays-fit; flat-long = arrays-fit }
+
+  -- their fronts have the groups
+  module _ {states : List ℕ} {p : Bool} {ids starts flat : List ℕ} {count : ℕ} (w : Grouped g states p blankPlaces blankPlaces blankPlaces ids starts flat count) where
+    pub ids-fit : cells g ≤ length ids
+    ids-fit = rw (w .ids-are) (simp length-sets arrays-fit)
+
+    pub ids-part : cells g ≡ length (take (cells g) ids)
+    ids-part = sym (length-take-le (cells g) ids ids-fit)
+
+    pub ids-are : take (cells g) ids ≡ groupIds g states p
+    ids-are =
+        let n : length (groupIds g states p) ≡ cells g = ids-length g states p in
+        rw (w .ids-are, ← n) (front blankPlaces (groupIds g states p) (omega (arith, n, arrays-fit)))
+
+    pub front-turns : InTurn g (take (cells g) ids) count starts flat
+    front-turns = rw ids-are (in-turn arrays-lent w)
+
+-- THE CELLS OF ONE GROUP, in slices that have them in turn
+module _ {g : Grid} {ids starts flat : List ℕ} {count : ℕ} (w : InTurn g ids count starts flat) {k : ℕ} (h : k < count) where
+  pub turn-slot : Slot g starts flat count k
+  turn-slot =
+      record {
+        exists = h;
+        starts-long = w .starts-long;
+        order = omega (arith, w .between k h .some);
+        within = w .between k h .within;
+        flat-long = w .flat-long;
+      }
+
+  pub turn-some : 0 < length (cellsOf g ids k)
+  turn-some =
+      rw (← w .between k h .are)
+      (rw (length-take-le (endOf (cells g) count starts k - getD starts k 0) (drop (getD starts k 0) flat) (simp length-drop (omega (arith, w .between k h .within, w .flat-long))))
+      (omega (arith, w .between k h .some)))
+
+-- THE HAND-OUT OF A GROUPING'S OWN RECORD AND BUFFER
+
 module _ (g : Grid) (st : List ℕ) (p : Bool) (limits : Limits g) where
   blank-fits : cells g ≤ length blankPlaces
-  blank-fits = omega (arith, blank-long, cells-le g limits)
+  blank-fits = arrays-fit limits
 
   -- such a record holds together
   pub own-record : Holds (infoOf g st p)
@@ -225,7 +274,7 @@ module _ (g : Grid) (st : List ℕ) (p : Bool) (limits : Limits g) where
   own-hand-out buffer k fits h =
       let b = sets buffer 0 (inTurn (cells g) (groupIds g st p) (groupCount g st p)) in
       let long : length b ≡ length buffer = length-sets buffer 0 (inTurn (cells g) (groupIds g st p) (groupCount g st p)) in
-      sym (handed-out (infoOf g st p) b k (0, 0) (sym (holds-code (infoOf g st p) own-record)) refl h refl refl (omega arith) .0)
+      sym (handed-out (infoOf g st p) b k (0, 0) (sym (holds-code (infoOf g st p) own-record)) refl h (omega arith) refl refl .0)
       ∙ part-cells g st p blankPlaces blank-fits buffer k fits h
 
 -- an accepted grouping had a board that holds together and a buffer with a place for each cell
@@ -239,11 +288,11 @@ accepted b places = go (eqb (boardCode b) 0) refl (leb (cells (sizeOf b)) places
     go false e t f z = absurd (eqb-false _ _ e z)
 
 -- the same for the calls: a grouping that was accepted, and any of its groups
-pub grouping-hand-out : (b : Board) (p : Bool) (buffer : List ℕ) (k : ℕ) → groupingCode b (length buffer) ≡ 0 → k < groupCount (sizeOf b) (b .states) p
-    → handOutOf (groupingOf b p (length buffer) .info) (bufferOf b p buffer) k ≡ cellsOf (sizeOf b) (groupIds (sizeOf b) (b .states) p) k
+pub grouping-hand-out : (b : Board) (p : Bool) (buffer : List ℕ) (k : ℕ) → groupingCode b (length buffer) ≡ 0 → k < groupCount (sizeOf b) (b .book .states) p
+    → handOutOf (groupingOf b p (length buffer) .info) (bufferOf b p buffer) k ≡ cellsOf (sizeOf b) (groupIds (sizeOf b) (b .book .states) p) k
 grouping-hand-out b p buffer k z h =
     let a = accepted b (length buffer) z in
-    rw z (own-hand-out (sizeOf b) (b .states) p (sizes-fit b p refl (a .0)) buffer k (a .1) h)
+    rw z (own-hand-out (sizeOf b) (b .book .states) p (sizes-fit b p refl (a .0)) buffer k (a .1) h)
 
 -- question 2 in 01's words: "starts rise strictly from 0 and stay below h·w"
 pub rise-iff : (n count : ℕ) (starts : List ℕ)

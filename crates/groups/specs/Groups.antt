@@ -42,7 +42,11 @@ unfoldable pub groupCount : Grid → List ℕ → Bool → ℕ
 unfolding edgesOver passes roots begunIn
 groupCount g states potential = begunIn (roots (cells g) (edges g states potential)) (cells g)
 
--- the cells of group k, in row order; `ids` has each cell's group
-unfoldable pub cellsOf : Grid → List ℕ → ℕ → List ℕ
+-- which of n cells are in group k, in row order; `ids` has each cell's group
+unfoldable pub cellsIn : ℕ → List ℕ → ℕ → List ℕ
 unfolding keep range
-cellsOf g ids k = keep (λ c. eqb (getD ids c 0) k) (range (cells g))
+cellsIn n ids k = keep (λ c. eqb (getD ids c 0) k) (range n)
+
+-- the cells of group k of a board
+abbrev pub cellsOf : Grid → List ℕ → ℕ → List ℕ
+cellsOf g ids k = cellsIn (cells g) ids k

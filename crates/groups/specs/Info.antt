@@ -26,14 +26,13 @@ grouping n i = record { code = n; info = i }
 
 -- "a refused grouping returns such a group record": every number is 0
 abbrev pub zeroInfo : GroupInfo
-zeroInfo = record { height = 0; width = 0; count = 0; ids = blankPlaces; starts = blankPlaces }
+zeroInfo = record { grid = grid 0 0; count = 0; ids = blankPlaces; starts = blankPlaces }
 
 -- "a group record: height, width, each cell's group, each group's start"; places behind the last cell and the last group stay 0
 abbrev pub infoOf : Grid → List ℕ → Bool → GroupInfo
 infoOf g st potential =
     record {
-      height = g .height;
-      width = g .width;
+      grid = g;
       count = groupCount g st potential;
       ids = sets blankPlaces 0 (groupIds g st potential);
       starts = sets blankPlaces 0 (startsOf (cells g) (groupIds g st potential) (groupCount g st potential));
@@ -46,19 +45,27 @@ groupingCode b places = pick (eqb (boardCode b) 0) (pick (leb (cells (sizeOf b))
 abbrev pub groupingOf : Board → Bool → ℕ → Grouping
 groupingOf b potential places =
     pick (eqb (groupingCode b places) 0)
-    (grouping 0 (infoOf (sizeOf b) (b .states) potential))
+    (grouping 0 (infoOf (sizeOf b) (b .book .states) potential))
     (grouping (groupingCode b places) zeroInfo)
 
 -- "writes the cells of all groups, in turn, to the buffer's first h·w places"
 abbrev pub bufferOf : Board → Bool → List ℕ → List ℕ
 bufferOf b potential buffer =
     pick (eqb (groupingCode b (length buffer)) 0)
-    (sets buffer 0 (inTurn (cells (sizeOf b)) (groupIds (sizeOf b) (b .states) potential) (groupCount (sizeOf b) (b .states) potential)))
+    (sets buffer 0 (inTurn (cells (sizeOf b)) (groupIds (sizeOf b) (b .book .states) potential) (groupCount (sizeOf b) (b .book .states) potential)))
     buffer
 
 -- where group k ends: "to the next group's start, or to h·w for the last"
 unfoldable pub endOf : ℕ → ℕ → List ℕ → ℕ → ℕ
 endOf n count starts k = pick (ltb (k + 1) count) (getD starts (k + 1) 0) n
+
+-- the places from a up to e
+abbrev pub stretch : List ℕ → ℕ → ℕ → List ℕ
+stretch xs a e = take (e - a) (drop a xs)
+
+-- group k's part of the cells in turn: from its start up to its end
+abbrev pub groupPart : ℕ → ℕ → List ℕ → List ℕ → ℕ → List ℕ
+groupPart n count starts flat k = stretch flat (getD starts k 0) (endOf n count starts k)
 
 -- "a group record's starts rise strictly from 0 and stay below h·w": the first is 0, and each is below the next or, the last, below h·w
 unfoldable pub startsRise : ℕ → ℕ → List ℕ → Bool
@@ -72,27 +79,20 @@ groupsExist n count ids = all (λ c. ltb (getD ids c 0) count) (range n)
 abbrev pub infoTogether : ℕ → ℕ → List ℕ → List ℕ → Bool
 infoTogether n count ids starts = both (leb count n) (both (startsRise n count starts) (groupsExist n count ids))
 
-abbrev pub infoGrid : GroupInfo → Grid
-infoGrid i = grid (i .height) (i .width)
-
 -- questions 1 and 2: the number of the one that refuses the record, or 0
 abbrev pub infoCode : GroupInfo → ℕ
-infoCode i = pick (sizesOk (infoGrid i)) (pick (infoTogether (cells (infoGrid i)) (i .count) (i .ids) (i .starts)) 0 2) 1
-
--- the places from a up to e
-abbrev pub part : List ℕ → ℕ → ℕ → List ℕ
-part xs a e = take (e - a) (drop a xs)
+infoCode i = pick (sizesOk (i .grid)) (pick (infoTogether (cells (i .grid)) (i .count) (i .ids) (i .starts)) 0 2) 1
 
 -- questions 1, 2, 3 and 6, put to a hand-out
 abbrev pub handOutCode : GroupInfo → ℕ → ℕ → ℕ
 handOutCode i places k =
-    pick (eqb (infoCode i) 0) (pick (ltb k (i .count)) (pick (leb (cells (infoGrid i)) places) 0 6) 3) (infoCode i)
+    pick (eqb (infoCode i) 0) (pick (ltb k (i .count)) (pick (leb (cells (i .grid)) places) 0 6) 3) (infoCode i)
 
 -- "the buffer's part from the group's start to the next group's start, or to h·w for the last"; refused, the empty part
 abbrev pub handOutOf : GroupInfo → List ℕ → ℕ → List ℕ
 handOutOf i buffer k =
     pick (eqb (handOutCode i (length buffer) k) 0)
-    (part buffer (getD (i .starts) k 0) (endOf (cells (infoGrid i)) (i .count) (i .starts) k))
+    (groupPart (cells (i .grid)) (i .count) (i .starts) buffer k)
     []
 
 -- where that part begins: at the group's start; refused, "at the buffer's start"

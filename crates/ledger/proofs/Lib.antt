@@ -2,3 +2,5 @@ pub mod Question
 pub mod Standing
 pub mod MarkLaws
 pub mod Loops
+pub mod BookLaws
+pub mod Reached

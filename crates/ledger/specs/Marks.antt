@@ -49,3 +49,10 @@ pub record Lent (n len : ℕ) (s l m : List ℕ) : Type 0 where
   pub names-long : len ≤ length l
   pub marks-long : n ≤ length m
   pub marks-given : (e : ℕ) → getD m e 0 ≤ 1
+
+-- a whole book and marks of given walls
+pub record LentBook (n : ℕ) (s l m : List ℕ) : Type 0 where
+  pub states-long : n ≤ length s
+  pub names-long : n ≤ length l
+  pub marks-long : n ≤ length m
+  pub marks-given : (e : ℕ) → getD m e 0 ≤ 1

@@ -1,4 +1,4 @@
--- 01, Program: "numbers in decimal".
+-- Numbers in decimal (SPEC 5.4).
 -- Assumes nothing.
 use Prim.Native.Nat.{ℕ, zero, suc, _+_, _*_, _-_, _/_, _%_}
 use mathlib.Core.List.{List, [], _∷_, _++_}

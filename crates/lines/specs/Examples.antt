@@ -1,4 +1,4 @@
--- Lines of 01's examples, computed.
+-- Lines of SPEC 5.4 and 7.9, computed.
 -- Assumes nothing.
 use mathlib.Core.Path.{_≡_, refl}
 use mathlib.Core.List.{[], _∷_}
@@ -16,7 +16,7 @@ pub zero : decimalOf 0 ≡ 48 ∷ []
 unfolding digitsOf
 zero = refl
 
--- 01: "shape: 1 2"
+-- "shape: 1 2"
 pub shape : lineOf Shape (1 ∷ 2 ∷ []) ≡ 115 ∷ 104 ∷ 97 ∷ 112 ∷ 101 ∷ 58 ∷ 32 ∷ 49 ∷ 32 ∷ 50 ∷ 10 ∷ []
 unfolding digitsOf spacedOf gather
 shape = refl
@@ -26,7 +26,7 @@ pub room : lineOf (Room 4) [] ≡ 114 ∷ 111 ∷ 111 ∷ 109 ∷ 32 ∷ 52 ∷ 
 unfolding digitsOf spacedOf gather
 room = refl
 
--- 01: "refused 4"
+-- "refused 4"
 pub refused : lineOf (Refused 4) [] ≡ 114 ∷ 101 ∷ 102 ∷ 117 ∷ 115 ∷ 101 ∷ 100 ∷ 32 ∷ 52 ∷ 10 ∷ []
 unfolding digitsOf
 refused = refl

@@ -1,12 +1,12 @@
--- 01, Program: the line that each call prints, "ended by a line feed".
+-- The line that each call prints (SPEC 5.4).
 -- Assumes nothing.
 use Prim.Native.Nat.{ℕ, _+_, _*_}
 use mathlib.Core.List.{List, [], _∷_, _++_}
 use lib.Dec.{leb}
 use lib.ListN.{length}
-use lib.Seq.{sets}
 use Rattle.lists.specs.Choice.{pick}
 use Rattle.lists.specs.Lists.{gather}
+use Rattle.answers.specs.Answers as answers
 use Rattle.lines.specs.Decimal.{decimalOf}
 use Rattle.lines.specs.declared.Line.{Line}
 use Rattle.lines.specs.declared.Line.the-variants.{Decided, Undone, Clear, Shape, Room, Refused}
@@ -14,7 +14,7 @@ use Rattle.lines.specs.declared.Line.the-variants.{Decided, Undone, Clea
 abbrev pub feed : List ℕ
 feed = 10 ∷ []
 
--- "entries, each after a space"
+-- an entry after a space
 abbrev pub spaced : ℕ → List ℕ
 spaced entry = 32 ∷ decimalOf entry
 
@@ -49,7 +49,7 @@ colon = 58 ∷ []
 abbrev pub refused : List ℕ
 refused = 114 ∷ 101 ∷ 102 ∷ 117 ∷ 115 ∷ 101 ∷ 100 ∷ 32 ∷ []
 
--- "`shape:` or `room 4:` with handed-over entries, each after a space, or `refused 4`"
+-- a fault's line with its entries, and a refusal's with its number (SPEC 5.4)
 abbrev pub shapeOf : List ℕ → List ℕ
 shapeOf entries = shape ++ spacedOf entries ++ feed
 
@@ -71,10 +71,6 @@ lineOf (Refused number) entries = refusedOf number
 abbrev pub needed : List ℕ → ℕ
 needed entries = 27 + 6 * length entries
 
--- how many places of a buffer the line takes: 0 where the buffer may be too short
-abbrev pub lengthIn : Line → List ℕ → ℕ → ℕ
-lengthIn line entries room = pick (leb (needed entries) room) (length (lineOf line entries)) 0
-
--- the buffer with the line in its first places; the others stay
-abbrev pub printedTo : Line → List ℕ → List ℕ → List ℕ
-printedTo line entries buf = pick (leb (needed entries) (length buf)) (sets buf 0 (lineOf line entries)) buf
+-- the line into so many places, or refused (SPEC 3.6)
+abbrev pub lineInto : Line → List ℕ → ℕ → answers.Outcome
+lineInto line entries places = pick (leb (needed entries) places) (answers.listed (lineOf line entries)) (answers.refused 6)

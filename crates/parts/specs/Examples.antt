@@ -8,7 +8,7 @@ use lib.ListN.{replicate}
 use Rattle.lists.specs.Lists.{range, countFrom}
 use Rattle.parts.specs.Parts.{Edge, edge, Joined, over, back, then, merge, root, begun, part, join, roots, begunIn, parts}
 
--- six vertices in three parts: a loop, a repeat by the other way, and a vertex alone
+-- six vertices in three parts: a loop, a way round, and a vertex alone
 abbrev five : List Edge
 five = edge 0 3 ∷ edge 3 5 ∷ edge 1 2 ∷ edge 5 0 ∷ edge 2 2 ∷ []
 

@@ -1,4 +1,4 @@
--- The parts into which edges join the vertices 0, 1, 2, ..: the "largest sets of cells joined", the rooms and the "parts joined" of document 01.
+-- The parts into which edges join the vertices 0, 1, 2, ..: units (SPEC 2.2), groups (4.1), rooms (1.7) and the parts of a room graph (4.14) are such.
 -- Assumes nothing.
 use Prim.Native.Nat.{ℕ, zero, suc, _+_, _<_, min, max}
 use mathlib.Core.Path.{_≡_}
@@ -40,7 +40,7 @@ unfoldable pub begun : List Edge → ℕ → ℕ
 begun E zero = 0
 begun E (suc n) = begun E n + pick (eqb (root E n) n) 1 0
 
--- the number of c's part: "numbered from 0 by first cell"
+-- the number of c's part: from 0, in the order of first vertices (SPEC 4.1)
 unfoldable pub part : List Edge → ℕ → ℕ
 part E c = begun E (root E c)
 

@@ -131,6 +131,6 @@ module _ (b : Board) (start target room code : ℕ) (q : code ≡ boardCode b) w
         unfolding pathOutcome
         refused-buffer h = rw (← q, z, lt-ltb start (cells (sizeOf b)) s, lt-ltb target (cells (sizeOf b)) t, lt-leb (9 * cells (sizeOf b)) room h)
 
-        pub answered : 9 * cells (sizeOf b) ≤ room → pathOutcome b start target room ≡ joined (pathOf (sizeOf b) (b .states) start target)
+        pub answered : 9 * cells (sizeOf b) ≤ room → pathOutcome b start target room ≡ joined (pathOf (sizeOf b) (b .book .states) start target)
         unfolding pathOutcome
         answered h = rw (← q, z, lt-ltb start (cells (sizeOf b)) s, lt-ltb target (cells (sizeOf b)) t, le-leb (9 * cells (sizeOf b)) room h)

@@ -23,12 +23,12 @@ ten-none none q = refl
 ten-none (some p) q = absurd (let z : _≡_ {A = ℕ} 0 1 = cc in omega arith)
 
 module _ (b : Board) (start target room : ℕ) (ready : boardCode b ≡ 0) (s : start < cells (sizeOf b)) (t : target < cells (sizeOf b)) (long : 9 * cells (sizeOf b) ≤ room) where
-  outcome : pathOutcome b start target room ≡ joined (pathOf (sizeOf b) (b .states) start target)
+  outcome : pathOutcome b start target room ≡ joined (pathOf (sizeOf b) (b .book .states) start target)
   outcome = answered b start target room (boardCode b) refl ready s t long
 
   -- "Path: are the cells joined by Connected borders? No: 10."
-  pub refused-ten : (pathOutcome b start target room ≡ refused 10) ↔ (SameUnit (Neighbours (sizeOf b)) (stateOf (b .states)) start target → ⊥)
+  pub refused-ten : (pathOutcome b start target room ≡ refused 10) ↔ (SameUnit (Neighbours (sizeOf b)) (stateOf (b .book .states)) start target → ⊥)
   refused-ten = (
-    λ q. path-none (sizeOf b) (b .states) start target s .0 (ten-none _ (sym outcome ∙ q)),
-    λ z. outcome ∙ ap joined (path-none (sizeOf b) (b .states) start target s .1 z),
+    λ q. path-none (sizeOf b) (b .book .states) start target s .0 (ten-none _ (sym outcome ∙ q)),
+    λ z. outcome ∙ ap joined (path-none (sizeOf b) (b .book .states) start target s .1 z),
   )

@@ -31,6 +31,6 @@ pathOutcome b start target room =
     let n = cells (sizeOf b) in
     pick (eqb (boardCode b) 0)
     (pick (both (ltb start n) (ltb target n))
-    (pick (leb (9 * n) room) (joined (pathOf (sizeOf b) (b .states) start target)) (refused 6))
+    (pick (leb (9 * n) room) (joined (pathOf (sizeOf b) (b .book .states) start target)) (refused 6))
     (refused 3))
     (refused (boardCode b))

@@ -176,11 +176,11 @@ pub fn reason_for_path(b: Board, start: usize, target: usize, buffer: &mut [u16]
     ensures { λ r. ⌜ r ≡ answerOf (pathOutcome b start target (length (now (buffer .entry)))) ⌝ }
     ensures { λ _. ⌜ now (buffer .exit) ≡ written (pathOutcome b start target (length (now (buffer .entry)))) (now (buffer .entry)) ⌝ }
 {
-    let code = board::check_parts(b.height, b.width, &b.states, &b.ledger, b.len);
+    let code = board::check_parts(b.grid, &b.book.states, &b.book.names, b.book.len);
     if code != 0 {
         return PathAnswer::Refused(code);
     }
-    let cells = b.height * b.width;
+    let cells = b.grid.height * b.grid.width;
     if cells <= start {
         return PathAnswer::Refused(3);
     }
@@ -191,8 +191,8 @@ pub fn reason_for_path(b: Board, start: usize, target: usize, buffer: &mut [u16]
         return PathAnswer::Refused(6);
     }
     let g = Grid {
-        height: b.height,
-        width: b.width,
+        height: b.grid.height,
+        width: b.grid.width,
     };
-    list(&b.states, g, start, target, buffer)
+    list(&b.book.states, g, start, target, buffer)
 }

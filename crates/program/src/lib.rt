@@ -1,23 +1,41 @@
-// The program: reads a case file, runs its calls and prints a line for each as it goes.
-ghost use mathlib.Core.Path.{_≡_};
-ghost use lib.ListN.{drop};
-ghost use Rattle.case_run.specs.CaseRun.{runOf, callsIn};
+// The program: reads a case file, runs its calls and prints a line for each as it goes. It ends at the first line that can't be written.
+ghost use Rattle.program.specs.Printing.{Prints};
 use case_run::Opened;
+use libc::STDERR_FILENO;
 use libc::STDOUT_FILENO;
+use lines::Line;
 use puzzle::Puzzle;
 
-// One `refused` line.
-fn refuse(code: u8) {
-    let mut out = io::large_buffer();
-    let none = [0u16; 1];
-    let len = lines::write_line(lines::Line::Refused(code), &none[..0], &mut out);
-    io::write_all(STDOUT_FILENO, &out[..len]);
+// The puzzle after the calls whose lines are out, how many these are, and whether they are all.
+struct Printed {
+    puzzle: Puzzle,
+    done: usize,
+    whole: bool,
 }
 
-// The calls of a file on its puzzle, one after the other: a call's line is out before the next call runs. It answers the puzzle
-// that they leave.
-fn print_calls(file: &[u8], opened: Opened) -> Puzzle
-    ensures { λ r. ⌜ r ≡ runOf (opened .puzzle) (callsIn (opened .count) (drop (opened .at) (now (file .entry)))) ⌝ }
+// Writes a line. Where that fails it says so on standard error, and answers false.
+fn print(line: &[u8]) -> bool {
+    if io::write_all(STDOUT_FILENO, line) {
+        return true;
+    }
+    io::write_all(
+        STDERR_FILENO,
+        b"sendai: standard output can't be written: not all lines are out\n",
+    );
+    false
+}
+
+// One `refused` line.
+fn refuse(code: u8) -> bool {
+    let mut out = io::large_buffer();
+    let none = [0u16; 1];
+    let len = lines::put_line(Line::Refused(code), &none[..0], &mut out);
+    print(&out[..len])
+}
+
+// The calls of a file on its puzzle, one after the other: a call's line is out before the next call runs.
+fn print_calls(file: &[u8], opened: Opened) -> Printed
+    ensures { λ r. ⌜ Prints (now (file .entry)) opened r ⌝ }
 {
     let mut out = io::large_buffer();
     let mut puzzle = opened.puzzle;
@@ -26,33 +44,42 @@ fn print_calls(file: &[u8], opened: Opened) -> Puzzle
     while done < opened.count {
         let ran = case_run::run_calls(file, at, 1, puzzle, &mut out);
         let len = ran.len;
-        io::write_all(STDOUT_FILENO, &out[..len]);
+        if !print(&out[..len]) {
+            return Printed {
+                puzzle,
+                done,
+                whole: false,
+            };
+        }
         puzzle = ran.puzzle;
         at = ran.at;
         done += 1;
     }
-    puzzle
+    Printed {
+        puzzle,
+        done,
+        whole: true,
+    }
 }
 
 // What the program prints for the bytes of a file.
-fn print_case(file: &[u8]) {
+fn print_case(file: &[u8]) -> bool {
     let opened = case_run::open(file);
     if opened.code != 0 {
-        refuse(opened.code);
-        return;
+        return refuse(opened.code);
     }
-    print_calls(file, opened);
+    let printed = print_calls(file, opened);
+    printed.whole
 }
 
-// What the program prints for a file; one that is missing is unsound.
-pub fn run(name: &[u8]) {
+// What the program prints for a file; one that is missing is unsound. It answers whether every line is out.
+pub fn run(name: &[u8]) -> bool {
     let fd = os::open_read(name);
     if fd < 0 {
-        refuse(11);
-        return;
+        return refuse(11);
     }
     let mut buffer = io::large_buffer();
     let n = io::read_full(fd, &mut buffer);
     libc::close(fd);
-    print_case(&buffer[..n]);
+    print_case(&buffer[..n])
 }

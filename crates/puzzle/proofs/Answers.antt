@@ -25,18 +25,18 @@ module _ (p : Puzzle) (code : ℕ) (q : code ≡ puzzleCode p) where
     pub no-border : (e : ℕ) (wall : Bool) → bordersOf (p .board) ≤ e → answer 3 p ≡ decideOf p e wall
     no-border e wall h = rw (← q, z, le-ltb e (bordersOf (p .board)) h)
 
-    pub not-free : (e : ℕ) (wall : Bool) → e < bordersOf (p .board) → getD (p .board .states) e 0 ≢ 0 → answer 4 p ≡ decideOf p e wall
-    not-free e wall h k = rw (← q, z, lt-ltb e (bordersOf (p .board)) h, ne-eqb (getD (p .board .states) e 0) 0 k)
+    pub not-free : (e : ℕ) (wall : Bool) → e < bordersOf (p .board) → getD (p .board .book .states) e 0 ≢ 0 → answer 4 p ≡ decideOf p e wall
+    not-free e wall h k = rw (← q, z, lt-ltb e (bordersOf (p .board)) h, ne-eqb (getD (p .board .book .states) e 0) 0 k)
 
-    pub decided : (e : ℕ) (wall : Bool) → e < bordersOf (p .board) → getD (p .board .states) e 0 ≡ 0
+    pub decided : (e : ℕ) (wall : Bool) → e < bordersOf (p .board) → getD (p .board .book .states) e 0 ≡ 0
         → answer 0 (onto p (placed (p .board) e wall)) ≡ decideOf p e wall
     decided e wall h k = rw (← q, z, lt-ltb e (bordersOf (p .board)) h, k)
 
-    pub nothing-left : p .board .len ≡ 0 → answer 5 p ≡ undoOf p
+    pub nothing-left : p .board .book .len ≡ 0 → answer 5 p ≡ undoOf p
     nothing-left h = rw (← q, z, h)
 
-    pub undone : p .board .len ≢ 0 → answer 0 (onto p (taken (p .board))) ≡ undoOf p
-    undone h = rw (← q, z, ne-eqb (p .board .len) 0 h)
+    pub undone : p .board .book .len ≢ 0 → answer 0 (onto p (taken (p .board))) ≡ undoOf p
+    undone h = rw (← q, z, ne-eqb (p .board .book .len) 0 h)
 
     pub short-buffer : (buf : List ℕ) → length buf < 9 * cells (gridOf p) → askCode p buf ≡ 6
     short-buffer buf h = rw (← q, z, lt-leb (9 * cells (gridOf p)) (length buf) h)

@@ -110,7 +110,7 @@ module _ (h w : ℕ) (given clues : List ℕ) (a : Accepted h w given clues) (L 
           given-kept h w given clues a,
           clues-kept h w given clues a,
         )
-        ∙ fault-agrees (grid h w) given clues (b .states) (statesOf n s) (λ e l. r .follows .stands e l ∙ sym (states-at n s e l))
+        ∙ fault-agrees (grid h w) given clues (b .book .states) (statesOf n s) (λ e l. r .follows .stands e l ∙ sym (states-at n s e l))
 
     board-asked : puzzleCode (onto (freshPuzzle h w given clues) b) ≡ 0 → (buf : List ℕ) → Long h w buf → Gives (askOf (onto (freshPuzzle h w given clues) b) buf) fault
     board-asked code buf long =

@@ -18,10 +18,9 @@ use Rattle.grid.specs.declared.Grid.{Grid}
 use Rattle.grid.specs.Grid.{Limits, cells, borderCount}
 use Rattle.grid.proofs.Geometry.{cells-le}
 use Rattle.borders.proofs.Congruence.{all-same}
-use Rattle.groups.specs.Lent.{Lent}
+use Rattle.groups.specs.Lent.{Lent, Between}
 use Rattle.groups.specs.Info.{endOf}
 use Rattle.groups.specs.Turn.{inTurn, startsOf}
-use Rattle.groups.proofs.Theorems.{Between}
 use Rattle.rooms.specs.Rooms.{roomIds, roomCount, roomCells, clueOf}
 use Rattle.rooms.specs.Lent.{Given, Roomed}
 use Rattle.rooms.proofs.PutLaws.{room-between}

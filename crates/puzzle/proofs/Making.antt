@@ -23,8 +23,8 @@ use Rattle.parts.proofs.PartLaws.{begun-small}
 use Rattle.parts.proofs.PartLists.{begun-at}
 use Rattle.groups.proofs.GroupLaws.{edges-within}
 use Rattle.board.specs.declared.Board.{Board}
-use Rattle.board.specs.Board.{zeros}
-use Rattle.board.proofs.Laws.{zeros-length}
+use Rattle.ledger.specs.Books.{zeros}
+use Rattle.ledger.proofs.BookLaws.{zeros-length}
 use Rattle.puzzle.specs.declared.Puzzle.{Puzzle}
 use Rattle.puzzle.specs.declared.Made.{Made}
 use Rattle.rooms.specs.Rooms.{isGiven, roomEdges, roomCount, roomCells, clued, clueOf}
@@ -134,7 +134,7 @@ fresh-states given w =
     puts-at given 2 unmarked (λ x m. rw unmarked-length (w .small x (rw (take-length given) m))) e ∙ ap (pick (isGiven given e) 2) (unmarked-at e)))
 
 -- WHAT MAKING ANSWERS
-pub board-is : (h w : ℕ) (given s : List ℕ) → s ≡ statesOf 1984 (freshState given) → _≡_ {A = Board} (record { height = h; width = w; states = s; ledger = zeros; len = 0 }) (freshBoard h w given)
+pub board-is : (h w : ℕ) (given s : List ℕ) → s ≡ statesOf 1984 (freshState given) → _≡_ {A = Board} (record { grid = grid h w; book = record { states = s; names = zeros; len = 0 } }) (freshBoard h w given)
 board-is h w given s q = rw q
 
 pub puzzle-is : (h w : ℕ) (given clues walls counts : List ℕ) (b : Board) → b ≡ freshBoard h w given → walls ≡ sets zeros 0 given → counts ≡ sets noClues 0 clues

@@ -23,7 +23,7 @@ use Rattle.ledger.proofs.Standing.{Sound, sound-empty, sound-length, sound-deci
 use Rattle.ledger.proofs.Question.{holds-question, room-left}
 use Rattle.board.specs.declared.Board.{Board}
 use Rattle.board.specs.Board.{sizeOf, bordersOf, namesOf, placed, taken}
-use Rattle.board.proofs.Laws.{zeros-length}
+use Rattle.ledger.proofs.BookLaws.{zeros-length}
 use Rattle.puzzle.specs.declared.Puzzle.{Puzzle}
 use Rattle.puzzle.specs.declared.Made.{Made}
 use Rattle.rooms.specs.Rooms.{isGiven}
@@ -35,36 +35,36 @@ use Rattle.puzzle.proofs.Making.{Accepted, given-short, clues-short, gi
 
 -- b is an h by w board on which exactly the given walls and the decisions of the ledger L stand
 pub record Stood (h w : ℕ) (given : List ℕ) (L : List Decision) (b : Board) : Type 0 where
-  pub height-is : b .height ≡ h
-  pub width-is : b .width ≡ w
-  pub states-long : length (b .states) ≡ 1984
-  pub ledger-long : length (b .ledger) ≡ 1984
-  pub len-is : b .len ≡ length L
+  pub height-is : b .grid .height ≡ h
+  pub width-is : b .grid .width ≡ w
+  pub states-long : length (b .book .states) ≡ 1984
+  pub ledger-long : length (b .book .names) ≡ 1984
+  pub len-is : b .book .len ≡ length L
   pub sound : Sound (borderCount (grid h w)) (isGiven given) L
-  pub follows : Follows (borderCount (grid h w)) (isGiven given) (b .states) (namesOf b) L
+  pub follows : Follows (borderCount (grid h w)) (isGiven given) (b .book .states) (namesOf b) L
 
 module _ (h w : ℕ) (given : List ℕ) (limits : Limits (grid h w)) where
   module _ (L : List Decision) (b : Board) (r : Stood h w given L b) where
-    pub len-le : b .len ≤ borderCount (grid h w)
+    pub len-le : b .book .len ≤ borderCount (grid h w)
     len-le = omega (arith, r .len-is, sound-length (borderCount (grid h w)) (isGiven given) L (r .sound))
 
-    pub board-holds : holdsOf (borderCount (grid h w)) (isGiven given) (b .states) (namesOf b) ≡ true
-    board-holds = holds-together (borderCount (grid h w)) (isGiven given) (b .states) (namesOf b) L (r .sound) (r .follows)
+    pub board-holds : holdsOf (borderCount (grid h w)) (isGiven given) (b .book .states) (namesOf b) ≡ true
+    board-holds = holds-together (borderCount (grid h w)) (isGiven given) (b .book .states) (namesOf b) L (r .sound) (r .follows)
 
     -- an undecided border has a free place in the ledger
-    place-free : (e : ℕ) → e < borderCount (grid h w) → getD (b .states) e 0 ≡ 0 → b .len < 1984
+    place-free : (e : ℕ) → e < borderCount (grid h w) → getD (b .book .states) e 0 ≡ 0 → b .book .len < 1984
     place-free e k z =
-        let q = holds-question (borderCount (grid h w)) (isGiven given) (b .states) (namesOf b) board-holds in
+        let q = holds-question (borderCount (grid h w)) (isGiven given) (b .book .states) (namesOf b) board-holds in
         let m = borderCount-le (grid h w) limits in
         omega (
           arith,
-          room-left (borderCount (grid h w)) (isGiven given) (b .states) (namesOf b) q e k z,
-          length-take-le (b .len) (b .ledger) (omega (arith, len-le, r .ledger-long)),
+          room-left (borderCount (grid h w)) (isGiven given) (b .book .states) (namesOf b) q e k z,
+          length-take-le (b .book .len) (b .book .names) (omega (arith, len-le, r .ledger-long)),
           m,
         )
 
     -- the ledger's questions are the record's
-    pub free-state : (e : ℕ) → accepted (borderCount (grid h w)) (isGiven given) L e ≡ true → (e < borderCount (grid h w)) × (getD (b .states) e 0 ≡ 0)
+    pub free-state : (e : ℕ) → accepted (borderCount (grid h w)) (isGiven given) L e ≡ true → (e < borderCount (grid h w)) × (getD (b .book .states) e 0 ≡ 0)
     unfolding accepted
     free-state e a =
         let k = both-true (ltb e (borderCount (grid h w))) (eqb (standing (isGiven given) L e) 0) a in
@@ -77,8 +77,8 @@ module _ (h w : ℕ) (given : List ℕ) (limits : Limits (grid h w)) where
         let f = accepted-facts (borderCount (grid h w)) (isGiven given) L e a in
         let d : Decision = record { border = e; wall = wall } in
         let free = place-free e (f .0) (free-state e a .1) in
-        let i : e < length (b .states) = omega (arith, f .0, r .states-long, borderCount-le (grid h w) limits) in
-        let k = follows-decide (borderCount (grid h w)) (isGiven given) (b .states) (namesOf b) L d (r .follows) i (f .1) (f .2) in
+        let i : e < length (b .book .states) = omega (arith, f .0, r .states-long, borderCount-le (grid h w) limits) in
+        let k = follows-decide (borderCount (grid h w)) (isGiven given) (b .book .states) (namesOf b) L d (r .follows) i (f .1) (f .2) in
         record {
           height-is = r .height-is;
           width-is = r .width-is;
@@ -86,16 +86,16 @@ module _ (h w : ℕ) (given : List ℕ) (limits : Limits (grid h w)) where
           ledger-long = simp length-set (r .ledger-long);
           len-is = simp length-append (omega (arith, r .len-is));
           sound = sound-decide (borderCount (grid h w)) (isGiven given) L d (r .sound) (f .0) (f .1) (f .2);
-          follows = rw (add-one, take-suc-set (b .ledger) (b .len) e (let j : b .len < length (b .ledger) = omega (arith, r .ledger-long) in j)) k;
+          follows = rw (add-one, take-suc-set (b .book .names) (b .book .len) e (let j : b .book .len < length (b .book .names) = omega (arith, r .ledger-long) in j)) k;
         }
 
     pub taken-stood : 0 < length L → Stood h w given (take (length L - 1) L) (taken b)
     taken-stood some =
         let m = length L - 1 in
-        let at : b .len - 1 ≡ m = omega (arith, r .len-is) in
-        let name : getD (b .ledger) m 0 ≡ getD (namesOf b) m 0 = sym (getD-take (b .len) (b .ledger) m 0 (let i : m < b .len = omega (arith, r .len-is) in i)) in
-        let long : borderCount (grid h w) ≤ length (b .states) = omega (arith, r .states-long, borderCount-le (grid h w) limits) in
-        let k = follows-undo (borderCount (grid h w)) (isGiven given) L some (b .states) (namesOf b) (r .sound) (r .follows) long in
+        let at : b .book .len - 1 ≡ m = omega (arith, r .len-is) in
+        let name : getD (b .book .names) m 0 ≡ getD (namesOf b) m 0 = sym (getD-take (b .book .len) (b .book .names) m 0 (let i : m < b .book .len = omega (arith, r .len-is) in i)) in
+        let long : borderCount (grid h w) ≤ length (b .book .states) = omega (arith, r .states-long, borderCount-le (grid h w) limits) in
+        let k = follows-undo (borderCount (grid h w)) (isGiven given) L some (b .book .states) (namesOf b) (r .sound) (r .follows) long in
         record {
           height-is = r .height-is;
           width-is = r .width-is;
@@ -103,7 +103,7 @@ module _ (h w : ℕ) (given : List ℕ) (limits : Limits (grid h w)) where
           ledger-long = simp length-set (r .ledger-long);
           len-is = at ∙ sym (length-take-le m L (omega arith));
           sound = sound-take (borderCount (grid h w)) (isGiven given) m L (r .sound);
-          follows = rw (at, name, take-set-le m (b .ledger) m 0 (omega arith), ← take-take m (b .len) (b .ledger) (let i : m ≤ b .len = omega (arith, r .len-is) in i)) k;
+          follows = rw (at, name, take-set-le m (b .book .names) m 0 (omega arith), ← take-take m (b .book .len) (b .book .names) (let i : m ≤ b .book .len = omega (arith, r .len-is) in i)) k;
         }
 
 -- p has the constants of the making, and on its board exactly the given walls and the decisions of L stand
@@ -113,12 +113,12 @@ pub record Reached (h w : ℕ) (given clues : List ℕ) (L : List Decision) (p :
 
 -- question 2 by its parts
 together-parts : (p : Puzzle) (given clues : List ℕ) → givenOf p ≡ given → cluesOf p ≡ clues → p .«given_len» ≤ 1984 → p .«clues_len» ≤ 1024
-    → listsCode (gridOf p) given clues ≡ 0 → p .board .len ≤ bordersOf (p .board) → holdsOf (bordersOf (p .board)) (isGiven given) (p .board .states) (namesOf (p .board)) ≡ true
+    → listsCode (gridOf p) given clues ≡ 0 → p .board .book .len ≤ bordersOf (p .board) → holdsOf (bordersOf (p .board)) (isGiven given) (p .board .book .states) (namesOf (p .board)) ≡ true
     → together p ≡ true
 unfolding together
 together-parts p given clues q r a b c d e =
     let lists : listsCode (gridOf p) (givenOf p) (cluesOf p) ≡ 0 = rw (q, r) c in
-    let kept : holdsOf (bordersOf (p .board)) (isGiven (givenOf p)) (p .board .states) (namesOf (p .board)) ≡ true = rw q e in
+    let kept : holdsOf (bordersOf (p .board)) (isGiven (givenOf p)) (p .board .book .states) (namesOf (p .board)) ≡ true = rw q e in
     true-both _ _ (true-both _ _ (true-both _ _ (le-leb _ _ a) (le-leb _ _ b)) (eq-eqb _ 0 lists)) (true-both _ _ (le-leb _ _ d) kept)
 
 code-parts : (p : Puzzle) → sizesOk (gridOf p) ≡ true → together p ≡ true → puzzleCode p ≡ 0
@@ -176,7 +176,7 @@ module _ (h w : ℕ) (given clues : List ℕ) (a : Accepted h w given clues) whe
         rw (le-ltb e (borderCount (grid h w)) k) (sym (no-border (onto fresh b) 0 (sym onto-code) refl e wall (rw (r .height-is, r .width-is) k))))
         (λ (k : e < borderCount (grid h w)).
         let z : eqb (standing (isGiven given) L e) 0 ≡ false = rw (lt-ltb e (borderCount (grid h w)) k) at q in
-        let s : getD (b .states) e 0 ≢ 0 = λ y. eqb-false (standing (isGiven given) L e) 0 z (sym (r .follows .stands e k) ∙ y) in
+        let s : getD (b .book .states) e 0 ≢ 0 = λ y. eqb-false (standing (isGiven given) L e) 0 z (sym (r .follows .stands e k) ∙ y) in
         rw (lt-ltb e (borderCount (grid h w)) k) (sym (not-free (onto fresh b) 0 (sym onto-code) refl e wall (rw (r .height-is, r .width-is) k) s)))
         (le-or-lt (borderCount (grid h w)) e)
 

@@ -33,8 +33,8 @@ pub record Ready (p : Puzzle) : Type 0 where
   pub given-fits : p .«given_len» ≤ 1984
   pub clues-fit : p .«clues_len» ≤ 1024
   pub lists : listsCode (gridOf p) (givenOf p) (cluesOf p) ≡ 0
-  pub short : p .board .len ≤ bordersOf (p .board)
-  pub holds : holdsOf (bordersOf (p .board)) (isGiven (givenOf p)) (p .board .states) (namesOf (p .board)) ≡ true
+  pub short : p .board .book .len ≤ bordersOf (p .board)
+  pub holds : holdsOf (bordersOf (p .board)) (isGiven (givenOf p)) (p .board .book .states) (namesOf (p .board)) ≡ true
 
 module _ (p : Puzzle) where
   pub no-size : sizesOk (gridOf p) ≡ false → 1 ≡ puzzleCode p
@@ -58,18 +58,18 @@ module _ (p : Puzzle) where
             (unfold together in rw (le-leb (p .«given_len») 1984 a, le-leb (p .«clues_len») 1024 b, ne-eqb (listsCode (gridOf p) (givenOf p) (cluesOf p)) 0 h))
 
         module _ (c : listsCode (gridOf p) (givenOf p) (cluesOf p) ≡ 0) where
-          pub long-ledger : bordersOf (p .board) < p .board .len → 2 ≡ puzzleCode p
+          pub long-ledger : bordersOf (p .board) < p .board .book .len → 2 ≡ puzzleCode p
           long-ledger h =
               by-question false
               (unfold together in
-              rw (le-leb (p .«given_len») 1984 a, le-leb (p .«clues_len») 1024 b, eq-eqb (listsCode (gridOf p) (givenOf p) (cluesOf p)) 0 c, lt-leb (p .board .len) (bordersOf (p .board)) h))
+              rw (le-leb (p .«given_len») 1984 a, le-leb (p .«clues_len») 1024 b, eq-eqb (listsCode (gridOf p) (givenOf p) (cluesOf p)) 0 c, lt-leb (p .board .book .len) (bordersOf (p .board)) h))
 
-          pub by-ledger : p .board .len ≤ bordersOf (p .board) → (t : Bool) → holdsOf (bordersOf (p .board)) (isGiven (givenOf p)) (p .board .states) (namesOf (p .board)) ≡ t
+          pub by-ledger : p .board .book .len ≤ bordersOf (p .board) → (t : Bool) → holdsOf (bordersOf (p .board)) (isGiven (givenOf p)) (p .board .book .states) (namesOf (p .board)) ≡ t
               → pick t 0 2 ≡ puzzleCode p
           by-ledger h t q =
               by-question t
               (unfold together in
-              rw (le-leb (p .«given_len») 1984 a, le-leb (p .«clues_len») 1024 b, eq-eqb (listsCode (gridOf p) (givenOf p) (cluesOf p)) 0 c, le-leb (p .board .len) (bordersOf (p .board)) h, q))
+              rw (le-leb (p .«given_len») 1984 a, le-leb (p .«clues_len») 1024 b, eq-eqb (listsCode (gridOf p) (givenOf p) (cluesOf p)) 0 c, le-leb (p .board .book .len) (bordersOf (p .board)) h, q))
 
   pub ready : puzzleCode p ≡ 0 → Ready p
   unfolding together
@@ -133,34 +133,34 @@ pub by-marks : (n n' : ℕ) (given s l m : List ℕ) (t : Bool) → n' ≡ n →
 by-marks n n' given s l m t p q k = sym (k ∙ rw (p, q))
 
 -- AN ACCEPTED PUZZLE
-module _ (p : Puzzle) (r : Ready p) (long : length (p .board .ledger) ≡ 1984) where
-  question : Question (bordersOf (p .board)) (isGiven (givenOf p)) (p .board .states) (namesOf (p .board))
-  question = holds-question (bordersOf (p .board)) (isGiven (givenOf p)) (p .board .states) (namesOf (p .board)) (r .holds)
+module _ (p : Puzzle) (r : Ready p) (long : length (p .board .book .names) ≡ 1984) where
+  question : Question (bordersOf (p .board)) (isGiven (givenOf p)) (p .board .book .states) (namesOf (p .board))
+  question = holds-question (bordersOf (p .board)) (isGiven (givenOf p)) (p .board .book .states) (namesOf (p .board)) (r .holds)
 
-  names-length : length (namesOf (p .board)) ≡ p .board .len
-  names-length = length-take-le (p .board .len) (p .board .ledger) (omega (arith, r .short, borderCount-le (gridOf p) (r .limits)))
+  names-length : length (namesOf (p .board)) ≡ p .board .book .len
+  names-length = length-take-le (p .board .book .len) (p .board .book .names) (omega (arith, r .short, borderCount-le (gridOf p) (r .limits)))
 
   -- with an undecided border it has a free place in its ledger
-  pub place-free : (e : ℕ) → e < bordersOf (p .board) → getD (p .board .states) e 0 ≡ 0 → p .board .len < 1984
+  pub place-free : (e : ℕ) → e < bordersOf (p .board) → getD (p .board .book .states) e 0 ≡ 0 → p .board .book .len < 1984
   place-free e h z =
       omega (
         arith,
         names-length,
-        room-left (bordersOf (p .board)) (isGiven (givenOf p)) (p .board .states) (namesOf (p .board)) question e h z,
+        room-left (bordersOf (p .board)) (isGiven (givenOf p)) (p .board .book .states) (namesOf (p .board)) question e h z,
         borderCount-le (gridOf p) (r .limits),
       )
 
   -- its ledger's last name is a border
-  pub last-name : 0 < p .board .len → getD (p .board .ledger) (p .board .len - 1) 0 < bordersOf (p .board)
+  pub last-name : 0 < p .board .book .len → getD (p .board .book .names) (p .board .book .len - 1) 0 < bordersOf (p .board)
   last-name h =
-      let i = p .board .len - 1 in
-      let b : i < p .board .len = omega arith in
+      let i = p .board .book .len - 1 in
+      let b : i < p .board .book .len = omega arith in
       let k : i < length (namesOf (p .board)) = omega (arith, names-length) in
-      rw (getD-take (p .board .len) (p .board .ledger) i 0 b) at (question .inside (getD (namesOf (p .board)) i 0) (getD-in 0 (namesOf (p .board)) i k))
+      rw (getD-take (p .board .book .len) (p .board .book .names) i 0 b) at (question .inside (getD (namesOf (p .board)) i 0) (getD-in 0 (namesOf (p .board)) i k))
 
 -- what an ask hands on
-pub ready-finding : (p : Puzzle) → Ready p → length (p .given) ≡ 1984 → length (p .clues) ≡ 1024 → length (p .board .states) ≡ 1984 → (buf : List ℕ) → 9 * cells (gridOf p) ≤ length buf
-    → Finding (gridOf p) (p .given) (p .«given_len») (p .board .states) (cluesOf p) buf
+pub ready-finding : (p : Puzzle) → Ready p → length (p .given) ≡ 1984 → length (p .clues) ≡ 1024 → length (p .board .book .states) ≡ 1984 → (buf : List ℕ) → 9 * cells (gridOf p) ≤ length buf
+    → Finding (gridOf p) (p .given) (p .«given_len») (p .board .book .states) (cluesOf p) buf
 ready-finding p r given clues states buf h =
     let f = lists-fit (gridOf p) (givenOf p) (cluesOf p) (r .lists) in
     record {

@@ -12,7 +12,7 @@ use mathlib.Core.Option.{Option, none}
 use Rattle.grid.specs.declared.Grid.{Grid}
 use Rattle.grid.specs.Grid.{Limits, cells, borderCount}
 use Rattle.groups.specs.Info.{endOf}
-use Rattle.groups.proofs.Theorems.{Between}
+use Rattle.groups.specs.Lent.{Between}
 use Rattle.borders.specs.Border.{stateOf}
 use Rattle.rooms.specs.Rooms.{isGiven, roomIds, roomCount}
 use Rattle.rooms.specs.RoomGraph.{roomList}

@@ -13,7 +13,8 @@ use Rattle.grid.specs.declared.Grid.{Grid}
 use Rattle.grid.specs.Grid.{grid, sizesOk, cells, borderCount}
 use Rattle.ledger.specs.Ledger.{holdsOf}
 use Rattle.board.specs.declared.Board.{Board}
-use Rattle.board.specs.Board.{zeros, zeroBoard, sizeOf, bordersOf, namesOf, placed, taken}
+use Rattle.ledger.specs.Books.{zeros}
+use Rattle.board.specs.Board.{zeroBoard, sizeOf, bordersOf, namesOf, placed, taken}
 use Rattle.puzzle.specs.declared.Puzzle.{Puzzle}
 use Rattle.puzzle.specs.declared.Made.{Made}
 use Rattle.puzzle.specs.declared.Answer.{Answer}
@@ -60,7 +61,7 @@ abbrev pub freshState : List ℕ → ℕ → ℕ
 freshState given e = pick (isGiven given e) 2 0
 
 abbrev pub freshBoard : ℕ → ℕ → List ℕ → Board
-freshBoard h w given = record { height = h; width = w; states = statesOf 1984 (freshState given); ledger = zeros; len = 0 }
+freshBoard h w given = record { grid = grid h w; book = record { states = statesOf 1984 (freshState given); names = zeros; len = 0 } }
 
 unfoldable pub noClues : List ℕ
 noClues = replicate 1024 0
@@ -105,7 +106,7 @@ unfolding listsCode holdsOf isGiven
 together p =
     both
     (both (both (leb (p .«given_len») 1984) (leb (p .«clues_len») 1024)) (eqb (listsCode (gridOf p) (givenOf p) (cluesOf p)) 0))
-    (both (leb (p .board .len) (bordersOf (p .board))) (holdsOf (bordersOf (p .board)) (isGiven (givenOf p)) (p .board .states) (namesOf (p .board))))
+    (both (leb (p .board .book .len) (bordersOf (p .board))) (holdsOf (bordersOf (p .board)) (isGiven (givenOf p)) (p .board .book .states) (namesOf (p .board))))
 
 -- the number of the question, 1 or 2, that refuses a puzzle, or 0
 abbrev pub puzzleCode : Puzzle → ℕ
@@ -115,7 +116,7 @@ puzzleCode p = pick (sizesOk (gridOf p)) (pick (together p) 0 2) 1
 abbrev pub puzzleOf : ℕ → ℕ → List ℕ → List ℕ → ℕ → List ℕ → ℕ → List ℕ → ℕ → Puzzle
 puzzleOf h w states names len given givenLen clues cluesLen =
     record {
-      board = record { height = h; width = w; states = states; ledger = names; len = len };
+      board = record { grid = grid h w; book = record { states = states; names = names; len = len } };
       given = given;
       «given_len» = givenLen;
       clues = clues;
@@ -134,16 +135,16 @@ onto p b = record { board = b; given = p .given; «given_len» = p .«given_len�
 abbrev pub decideOf : Puzzle → ℕ → Bool → Made
 decideOf p e wall =
     asked p
-    (pick (ltb e (bordersOf (p .board))) (pick (eqb (getD (p .board .states) e 0) 0) (answer 0 (onto p (placed (p .board) e wall))) (answer 4 p)) (answer 3 p))
+    (pick (ltb e (bordersOf (p .board))) (pick (eqb (getD (p .board .book .states) e 0) 0) (answer 0 (onto p (placed (p .board) e wall))) (answer 4 p)) (answer 3 p))
 
 -- question 5: "is the ledger non-empty?"
 abbrev pub undoOf : Puzzle → Made
-undoOf p = asked p (pick (eqb (p .board .len) 0) (answer 5 p) (answer 0 (onto p (taken (p .board)))))
+undoOf p = asked p (pick (eqb (p .board .book .len) 0) (answer 5 p) (answer 0 (onto p (taken (p .board)))))
 
 -- ASKS
 -- what an ask finds on the puzzle as it stands
 abbrev pub faultIn : Puzzle → Option Found
-faultIn p = faultOf (gridOf p) (givenOf p) (cluesOf p) (p .board .states)
+faultIn p = faultOf (gridOf p) (givenOf p) (cluesOf p) (p .board .book .states)
 
 -- question 6: "9·h·w entries for a board's or puzzle's ask"
 abbrev pub longEnough : Grid → List ℕ → Bool

@@ -18,6 +18,7 @@ use board::Board;
 use city_count::Inconsistency;
 use grid::Grid;
 use inner_walls::Found;
+use ledger::Book;
 
 // The board has the given walls as Wall; its ledger names none of them. The first `given_len` places of `given` are the given walls,
 // the first `clues_len` of `clues` the clues.
@@ -146,16 +147,15 @@ fn fresh_board(g: Grid, given: &[u16]) -> Board
     requires { ⌜ Below 1984 (now given) (length (now given)) ⌝ }
     ensures { λ r. ⌜ r ≡ freshBoard (g .height) (g .width) (now (given .entry)) ⌝ }
 {
-    let height = g.height;
-    let width = g.width;
-    let mut states = [0u8; 1984];
+    let mut states = [0u8; limits::BORDERS];
     rooms::put(given, given.len(), 2, &mut states);
     Board {
-        height: height,
-        width: width,
-        states: states,
-        ledger: [0u16; 1984],
-        len: 0,
+        grid: g,
+        book: Book {
+            states: states,
+            names: [0u16; limits::BORDERS],
+            len: 0,
+        },
     }
 }
 
@@ -184,11 +184,15 @@ fn unmade(code: u8) -> Made
     ensures { λ r. ⌜ r ≡ answer code zeroPuzzle ⌝ }
 {
     let board = Board {
-        height: 0,
-        width: 0,
-        states: [0u8; 1984],
-        ledger: [0u16; 1984],
-        len: 0,
+        grid: Grid {
+            height: 0,
+            width: 0,
+        },
+        book: Book {
+            states: [0u8; limits::BORDERS],
+            names: [0u16; limits::BORDERS],
+            len: 0,
+        },
     };
     Made {
         code: code,
@@ -316,14 +320,14 @@ pub fn puzzle_code(p: Puzzle) -> u8
     ensures { λ r. ⌜ r ≡ puzzleCode p ⌝ }
 {
     let g = Grid {
-        height: p.board.height,
-        width: p.board.width,
+        height: p.board.grid.height,
+        width: p.board.grid.width,
     };
     parts_code(
         g,
-        &p.board.states,
-        &p.board.ledger,
-        p.board.len,
+        &p.board.book.states,
+        &p.board.book.names,
+        p.board.book.len,
         &p.given,
         p.given_len,
         &p.clues,
@@ -344,15 +348,17 @@ fn onto(p: Puzzle, b: Board) -> Puzzle
 pub fn decide(p: Puzzle, border: usize, wall: bool) -> Made
     ensures { λ r. ⌜ r ≡ decideOf p border wall ⌝ }
 {
+    let b = p.board;
+    let book = b.book;
     let g = Grid {
-        height: p.board.height,
-        width: p.board.width,
+        height: p.board.grid.height,
+        width: p.board.grid.width,
     };
     let code = parts_code(
         g,
-        &p.board.states,
-        &p.board.ledger,
-        p.board.len,
+        &p.board.book.states,
+        &p.board.book.names,
+        p.board.book.len,
         &p.given,
         p.given_len,
         &p.clues,
@@ -364,11 +370,10 @@ pub fn decide(p: Puzzle, border: usize, wall: bool) -> Made
             puzzle: p,
         };
     }
-    let b = p.board;
     if grid::border_count(g) <= border {
         return Made { code: 3, puzzle: p };
     }
-    if b.states[border] != 0 {
+    if book.states[border] != 0 {
         return Made { code: 4, puzzle: p };
     }
     Made {
@@ -382,14 +387,14 @@ pub fn undo(p: Puzzle) -> Made
     ensures { λ r. ⌜ r ≡ undoOf p ⌝ }
 {
     let g = Grid {
-        height: p.board.height,
-        width: p.board.width,
+        height: p.board.grid.height,
+        width: p.board.grid.width,
     };
     let code = parts_code(
         g,
-        &p.board.states,
-        &p.board.ledger,
-        p.board.len,
+        &p.board.book.states,
+        &p.board.book.names,
+        p.board.book.len,
         &p.given,
         p.given_len,
         &p.clues,
@@ -402,7 +407,7 @@ pub fn undo(p: Puzzle) -> Made
         };
     }
     let b = p.board;
-    if b.len == 0 {
+    if b.book.len == 0 {
         return Made { code: 5, puzzle: p };
     }
     Made {
@@ -576,17 +581,17 @@ pub fn ask(p: Puzzle, buf: &mut [u16]) -> Answer
     ensures { λ _. ⌜ now (buf .exit) ≡ askOf p (now (buf .entry)) .buffer ⌝ }
 {
     let g = Grid {
-        height: p.board.height,
-        width: p.board.width,
+        height: p.board.grid.height,
+        width: p.board.grid.width,
     };
     let mut ids = [0u16; 1024];
     let mut starts = [0u16; 1024];
     let mut flat = [0u16; 1024];
     let code = code_of(
         g,
-        &p.board.states,
-        &p.board.ledger,
-        p.board.len,
+        &p.board.book.states,
+        &p.board.book.names,
+        p.board.book.len,
         &p.given,
         p.given_len,
         &p.clues,
@@ -598,7 +603,7 @@ pub fn ask(p: Puzzle, buf: &mut [u16]) -> Answer
     if code != 0 {
         return Answer::Refused(code);
     }
-    if buf.len() < 9 * (p.board.height * p.board.width) {
+    if buf.len() < 9 * (p.board.grid.height * p.board.grid.width) {
         return Answer::Refused(6);
     }
     find(
@@ -608,7 +613,7 @@ pub fn ask(p: Puzzle, buf: &mut [u16]) -> Answer
         &ids,
         &starts,
         &flat,
-        &p.board.states,
+        &p.board.book.states,
         &p.clues,
         p.clues_len,
         buf,

@@ -16,15 +16,14 @@ use Rattle.grid.specs.declared.Grid.{Grid}
 use Rattle.grid.specs.Grid.{cells, Cell, goesOn, next, border, stepOf}
 use Rattle.grid.specs.Steps.{Step}
 use Rattle.grid.proofs.Geometry.{goes-step, border-lt, borderCount-le}
-use Rattle.groups.specs.Groups.{cellsOf}
-use Rattle.groups.specs.Turn.{cellsIn}
+use Rattle.groups.specs.Groups.{cellsIn, cellsOf}
 use Rattle.grid.proofs.Told.{at-told}
 use Rattle.rooms.specs.RoomGraph.{inRoom, spotsAt, place}
 use Rattle.rooms.specs.Lent.{markedIn, Housed, Written}
 
 -- the vertex of a cell of room r
 pub vertex-of : {g : Grid} {marks ids vertex : List ℕ} (r c : ℕ) → Housed g marks ids vertex → Cell g c → getD ids c 0 ≡ r → getD vertex c 0 ≡ place (cellsOf g ids r) c
-unfolding cellsIn cellsOf
+unfolding cellsIn
 vertex-of {g} {ids = ids} r c w l q = w .vertices .are c l ∙ ap (λ k. place (cellsOf g ids k) c) q
 
 module _ (g : Grid) (marks ids vertex : List ℕ) (r c : ℕ) (d : Direction) (us vs borders : List ℕ) (m : ℕ) where

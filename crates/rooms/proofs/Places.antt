@@ -16,7 +16,7 @@ use Rattle.lists.proofs.ListLaws.{getD-in, in-getD}
 use Rattle.lists.proofs.CountLaws.{count-none, count-here, count-other, count-in, distinct-le}
 use Rattle.grid.specs.declared.Grid.{Grid}
 use Rattle.grid.specs.Grid.{cells}
-use Rattle.groups.specs.Groups.{cellsOf}
+use Rattle.groups.specs.Groups.{cellsIn, cellsOf}
 use Rattle.rooms.specs.RoomGraph.{place}
 
 -- THROUGH FUNCTIONS
@@ -99,11 +99,11 @@ keep-rising p n = above-rising 0 (keep p (range n)) (kept-above p n)
 
 module _ (g : Grid) (ids : List ℕ) (k : ℕ) where
   pub cells-rising : Rising (cellsOf g ids k)
-  unfolding cellsOf
+  unfolding cellsIn
   cells-rising = keep-rising (λ c. eqb (getD ids c 0) k) (cells g)
 
   pub kept-rising : (p : ℕ → Bool) → Rising (keep p (cellsOf g ids k))
-  unfolding cellsOf
+  unfolding cellsIn
   kept-rising p = above-rising 0 (keep p (cellsOf g ids k)) (keep-above p 0 (cellsOf g ids k) (kept-above (λ c. eqb (getD ids c 0) k) (cells g)))
 
 -- PLACES

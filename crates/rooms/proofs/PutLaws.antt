@@ -21,8 +21,8 @@ use Rattle.grid.proofs.Geometry.{borderCount-le}
 use Rattle.parts.specs.Parts.{parts, roots, begunIn}
 use Rattle.groups.specs.Groups.{passes, edgesOver, groupIds, groupCount}
 use Rattle.groups.specs.Floods.{Fits}
-use Rattle.groups.specs.Lent.{Lent, Grouped}
-use Rattle.groups.proofs.Theorems.{Between, between}
+use Rattle.groups.specs.Lent.{Lent, Grouped, Between}
+use Rattle.groups.proofs.Theorems.{between}
 use Rattle.rooms.specs.Rooms.{isGiven, roomIds, roomCount}
 use Rattle.rooms.specs.Lent.{unmarked, puts, Below, Given, Roomed}
 

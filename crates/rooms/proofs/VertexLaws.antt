@@ -9,7 +9,8 @@ use lib.Dec.{eqb}
 use lib.ListN.{length, getD, set, length-set}
 use lib.Seq.{getD-set-same, getD-set-other}
 use Rattle.lists.proofs.Cases.{eq-or-ne}
-use Rattle.groups.specs.Turn.{cellsIn, Keys}
+use Rattle.groups.specs.Groups.{cellsIn}
+use Rattle.groups.specs.Turn.{Keys}
 use Rattle.groups.proofs.TurnLaws.{rank, kept, kept-at}
 use Rattle.groups.proofs.Counting.{at, Counted, count-none, count-turn}
 use Rattle.rooms.specs.RoomGraph.{place}

@@ -10,7 +10,8 @@ use lib.Seq.{sets}
 use Rattle.lists.specs.Lists.{In}
 use Rattle.grid.specs.declared.Grid.{Grid}
 use Rattle.grid.specs.Grid.{Limits, cells, borderCount}
-use Rattle.groups.specs.Turn.{cellsIn, inTurn, startsOf}
+use Rattle.groups.specs.Groups.{cellsIn}
+use Rattle.groups.specs.Turn.{inTurn, startsOf}
 use Rattle.rooms.specs.Rooms.{roomIds, roomCount}
 use Rattle.rooms.specs.RoomGraph.{Spot, place, fromOf, intoOf, borderOf}
 

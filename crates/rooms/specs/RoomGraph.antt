@@ -13,7 +13,7 @@ use Rattle.grid.specs.declared.Direction.the-variants.{Down, Right}
 use Rattle.grid.specs.declared.Grid.{Grid}
 use Rattle.grid.specs.Grid.{goesOn, next, border}
 use Rattle.boundary.specs.Boundary.{ahead}
-use Rattle.groups.specs.Groups.{cellsOf}
+use Rattle.groups.specs.Groups.{cellsIn, cellsOf}
 use Rattle.room_parts.specs.Graph.{Graph, graph}
 use Rattle.city_count.specs.Fault.{roomFault}
 
@@ -34,7 +34,7 @@ spotsAt g given ids r c d = when (inRoom g given ids r c d) (record { cell = c; 
 
 -- "takes its cells in row order [..]; for each, the edge down and then the edge right"
 unfoldable pub spots : Grid → (ℕ → Bool) → List ℕ → ℕ → List Spot
-unfolding gather spotsAt cellsOf
+unfolding gather spotsAt cellsIn
 spots g given ids r = gather (λ c. gather (spotsAt g given ids r c) (Down ∷ Right ∷ [])) (cellsOf g ids r)
 
 -- the place of a cell among those of its room: its vertex
@@ -54,7 +54,7 @@ borderOf g s = border g (s .direction) (s .cell)
 
 -- the graph of room r
 unfoldable pub roomGraph : Grid → (ℕ → Bool) → List ℕ → ℕ → Graph
-unfolding spots cellsOf place next
+unfolding spots cellsIn place next
 roomGraph g given ids r =
     let ss = spots g given ids r in graph (length (cellsOf g ids r)) (length ss) (map (fromOf g ids r) ss) (map (intoOf g ids r) ss)
 

@@ -54,7 +54,7 @@ pub fn rooms_of(
 {
     let mut walls = [0u8; 1984];
     put(given, len, 2, &mut walls);
-    groups::groups_of(&walls, g, true, ids, starts, flat)
+    groups::groups_of(g, &walls, true, ids, starts, flat)
 }
 
 // Writes each cell's vertex to `vertex`. `next` has a place for each room, with 0 at first.

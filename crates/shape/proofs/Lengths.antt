@@ -19,7 +19,7 @@ use Rattle.lists.proofs.ListLaws.{first-some, range-length}
 use Rattle.grid.specs.declared.Grid.{Grid}
 use Rattle.grid.specs.Grid.{cells, next, border}
 use Rattle.borders.specs.Entry.{wallEntry}
-use Rattle.groups.specs.Groups.{cellsOf}
+use Rattle.groups.specs.Groups.{cellsIn, cellsOf}
 use Rattle.boundary.specs.Boundary.{unitBoundary, potentialBoundary}
 use Rattle.boundary.proofs.Lengths.{when-most, gather-most, gather-both, gather-times}
 use Rattle.boundary.proofs.BoundaryLaws.{unit-most, potential-most, cells-most}
@@ -91,7 +91,7 @@ apart ids ks a s (c ∷ cs) =
     )
 
 groups-most : (g : Grid) (ids : List ℕ) (p : ℕ → Bool) (n : ℕ) → length (gather (cellsOf g ids) (keep p (range n))) ≤ cells g
-unfolding cellsOf range
+unfolding cellsIn range
 groups-most g ids p n = omega (arith, apart ids (keep p (range n)) 0 (rising-keep p 0 n) (range (cells g)), range-length (cells g))
 
 entry-most : (t : Try) → length (entryOf t) ≤ 1

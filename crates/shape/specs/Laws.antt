@@ -1,4 +1,4 @@
--- The laws of a full board that concern shape (01, "Laws of a full board"); s e is the state of border e.
+-- The laws of a full board that concern shape (SPEC 2.1, 2.4, 2.5); s e is the state of border e.
 -- Assumes nothing.
 use Prim.Native.Nat.{ℕ, _+_, _<_}
 use mathlib.Core.Path.{_≡_}
@@ -8,7 +8,7 @@ use Rattle.grid.specs.declared.Grid.{Grid}
 use Rattle.grid.specs.Grid.{Cell, row, col, borderCount}
 use Rattle.grid.specs.Steps.{Neighbours}
 
--- "A board is full when no border is undecided"
+-- no border is undecided (SPEC 2.1)
 abbrev pub FullBoard : Grid → States → Type 0
 FullBoard g s = (e : ℕ) → e < borderCount g → (s e ≡ 1) ⊎ (s e ≡ 2)
 
@@ -20,7 +20,7 @@ pub record Translates (g : Grid) (f t a x : ℕ) : Type 0 where
   pub cols : col g a + col g t ≡ col g x + col g f
 
 pub record RightShape (g : Grid) (s : States) : Type 0 where
-  -- "no Wall has one unit on both sides"
+  -- the second law (SPEC 2.4)
   pub no-inner-wall : NoInnerWall (Neighbours g) s
-  -- "each unit has a different unit that is its translate and shares a Wall with it": the unit of each cell f has one, in which f's translate is t
+  -- the third law (SPEC 2.5): the unit of each cell f has a partner, in which f's translate is t
   pub partners : (f : ℕ) → Cell g f → (t : ℕ) × Cell g t × Partner (Neighbours g) s (Translates g f t) f t

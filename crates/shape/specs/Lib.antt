@@ -1,5 +1,5 @@
--- Defined here: the shape check, stage by stage (`Shape`), with 01's examples (`Examples`), and the laws of a full board that concern
--- shape (`Laws`).
+-- Defined here: the shape check, stage by stage (`Shape`, SPEC 4.6 to 4.12), with examples (`Examples`), and the laws of a full board that concern
+-- shape (`Laws`, SPEC 2).
 -- Proved in proofs/Theorems.antt: a fault's entries stand as listed; no full board on which they stand obeys the laws; on every board
 -- on which they stand the check answers a fault; on a full board it is clear exactly if the laws hold; the list has at most 9·h·w entries.
 -- proofs/Agreement.antt: the answer depends on the board's borders alone. What is used of an offset stands in proofs/Moves.antt, what is

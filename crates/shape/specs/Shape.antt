@@ -1,4 +1,4 @@
--- The shape check (01, "Shape"), over group numbers that are handed in: `ids` has each cell's unit, `pids` its potential unit.
+-- The shape check (SPEC 4.6 to 4.12), over group numbers that are handed in: `ids` has each cell's unit, `pids` its potential unit.
 -- Assumes nothing.
 use Prim.Native.Nat.{ℕ, _+_, _-_, _*_}
 use mathlib.Core.Bool.{Bool, true, false, not}
@@ -14,19 +14,19 @@ use Rattle.grid.specs.declared.Grid.{Grid}
 use Rattle.grid.specs.Grid.{cells, row, col, goesOn, next, border}
 use Rattle.borders.specs.Entry.{connectedEntry, wallEntry}
 use Rattle.borders.specs.Border.{stateAt, stands}
-use Rattle.groups.specs.Groups.{groupIds, groupCount, cellsOf}
+use Rattle.groups.specs.Groups.{groupIds, groupCount, cellsIn, cellsOf}
 use Rattle.path.specs.Path.{pathList}
 use Rattle.boundary.specs.Boundary.{ahead, unitBoundary, potentialBoundary}
 
 -- INNER WALLS
--- "a Wall inside a unit gives the path and then that Wall"
+-- a Wall with one unit on both sides: the path between its cells, and then the Wall (SPEC 4.6)
 unfoldable pub innerAt : Grid → List ℕ → List ℕ → ℕ → Direction → Option (List ℕ)
 unfolding give stands next border pathList
 innerAt g states ids c d =
     let list = pathList g states c (next g d c) ++ (wallEntry (border g d c) ∷ []) in
     give (both (stands g states 2 d c) (eqb (getD ids c 0) (getD ids (next g d c) 0))) list
 
--- "First, row by row, down before right"
+-- the first such Wall, cell by cell, down before right (SPEC 4.6)
 unfoldable pub innerWall : Grid → List ℕ → List ℕ → Option (List ℕ)
 unfolding first innerAt range
 innerWall g states ids = first (λ c. first (innerAt g states ids c) forward) (range (cells g))
@@ -37,9 +37,9 @@ unfoldable pub wallTo : Grid → List ℕ → List ℕ → ℕ → ℕ → Direc
 unfolding stands next
 wallTo g states pids q c d = both (stands g states 2 d c) (ahead g pids q c d)
 
--- "Potential units are adjacent if they are one, or a Wall parts them"
+-- the potential units p and q are one, or a Wall lies between them (SPEC 4.7)
 unfoldable pub adjacent : Grid → List ℕ → List ℕ → ℕ → ℕ → Bool
-unfolding any wallTo cellsOf
+unfolding any wallTo cellsIn
 adjacent g states pids p q = either (eqb p q) (any (λ c. any (wallTo g states pids q c) around) (cellsOf g pids p))
 
 -- OFFSETS
@@ -48,13 +48,13 @@ unfoldable pub along : ℕ → ℕ → ℕ → ℕ → Option ℕ
 unfolding give
 along n f t u = give (both (leb f (u + t)) (ltb (u + t - f) n)) (u + t - f)
 
--- the cell on which c falls when f is put on t; nothing where "a cell leaves the board"
+-- the cell on which c falls when f is put on t; nothing where c leaves the board (SPEC 4.8)
 unfoldable pub shift : Grid → ℕ → ℕ → ℕ → Option ℕ
 unfolding through along
 shift g f t c =
     through (along (g .height) (row g f) (row g t) (row g c)) (λ y. through (along (g .width) (col g f) (col g t) (col g c)) (λ x. some (y * g .width + x)))
 
--- a unit: its number, its cells in row order, the first of them, and "the unit's own" potential unit
+-- a unit: its number, its cells in row order, the first of them, and its own potential unit, the one around it
 pub record UnitInfo : Type 0 where
   pub number : ℕ
   pub cells : List ℕ
@@ -65,44 +65,45 @@ unfoldable pub headOr0 : List ℕ → ℕ
 headOr0 [] = 0
 headOr0 (c ∷ cs) = c
 
+-- unit k
 unfoldable pub unitOf : Grid → List ℕ → List ℕ → ℕ → UnitInfo
-unfolding cellsOf headOr0
+unfolding cellsIn headOr0
 unitOf g ids pids k =
     let cs = cellsOf g ids k in
     let f = headOr0 cs in
     record { number = k; cells = cs; first = f; own = getD pids f 0 }
 
--- c falls on the board and not "in the unit"; `put` gives the cell on which a cell falls
+-- c falls on the board and off the unit (SPEC 4.8); `put` gives the cell on which a cell falls
 unfoldable pub falls : List ℕ → UnitInfo → (ℕ → Option ℕ) → ℕ → Bool
 unfolding holds
 falls ids u put c = holds (put c) (λ x. not (eqb (getD ids x 0) (u .number)))
 
--- c falls "in a potential unit adjacent to the unit's own"
+-- c falls in a potential unit adjacent to the unit's own (SPEC 4.8)
 unfoldable pub meets : Grid → List ℕ → List ℕ → UnitInfo → (ℕ → Option ℕ) → ℕ → Bool
 unfolding holds adjacent
 meets g states pids u put c = holds (put c) (λ x. adjacent g states pids (u .own) (getD pids x 0))
 
--- "the unit's inner borders (both cells in the unit, decided or not)"
+-- an inner border: both its cells are in the unit, decided or not (SPEC 4.9)
 unfoldable pub innerBorder : Grid → List ℕ → UnitInfo → ℕ → Direction → Bool
 unfolding goesOn next
 innerBorder g ids u c d = both (goesOn g d c) (ahead g ids (u .number) c d)
 
--- "its Walls and board edges"
+-- a Wall, or an edge of the board, at c (SPEC 4.9)
 unfoldable pub shut : Grid → List ℕ → ℕ → Direction → Bool
 unfolding goesOn stateAt
 shut g states c d = either (not (goesOn g d c)) (eqb (stateAt g states d c) 2)
 
--- an inner border lands on a Wall
+-- an inner border lands on a Wall: that Wall's entry (SPEC 4.9)
 unfoldable pub onWall : Grid → List ℕ → List ℕ → UnitInfo → (ℕ → Option ℕ) → ℕ → Direction → Option ℕ
 unfolding through give innerBorder stands border
 onWall g states ids u put c d = through (put c) (λ x. give (both (innerBorder g ids u c d) (stands g states 2 d x)) (wallEntry (border g d x)))
 
--- a Wall or board edge lands on a Connected border, "those outside the board being skipped"
+-- a Wall or an edge lands on a Connected border: that border's entry (SPEC 4.9); one that lands outside the board is skipped
 unfoldable pub onConnected : Grid → List ℕ → (ℕ → Option ℕ) → ℕ → Direction → Option ℕ
 unfolding through give shut stands border
 onConnected g states put c d = through (put c) (λ x. give (both (shut g states c d) (stands g states 1 d x)) (connectedEntry (border g d x)))
 
--- "The first landing that fails adds one entry": inner borders per cell down, right; then Walls and board edges per cell up, down, left, right
+-- the first landing that fails (SPEC 4.9): inner borders, cell by cell down, right; then Walls and edges, cell by cell up, down, left, right
 unfoldable pub landing : Grid → List ℕ → List ℕ → UnitInfo → (ℕ → Option ℕ) → Option ℕ
 unfolding orElse first onWall onConnected
 landing g states ids u put =
@@ -110,7 +111,7 @@ landing g states ids u put =
     (first (λ c. first (onWall g states ids u put c) forward) (u .cells))
     (first (λ c. first (onConnected g states put c) around) (u .cells))
 
--- what comes of an offset
+-- what comes of an offset: it is passed over, it is good, or a landing fails, with its entry
 pub data Try : Type 0 where
   passed good : Try
   failed : ℕ → Try
@@ -119,6 +120,7 @@ unfoldable pub landed : Option ℕ → Try
 landed none = good
 landed (some l) = failed l
 
+-- what comes of the offset that puts each cell where `put` says (SPEC 4.8, 4.9)
 unfoldable pub try : Grid → List ℕ → List ℕ → List ℕ → UnitInfo → (ℕ → Option ℕ) → Try
 unfolding all any falls meets landed landing
 try g states ids pids u put =
@@ -135,27 +137,28 @@ entryOf good = []
 entryOf (failed l) = l ∷ []
 
 -- UNITS
--- the unit with its first cell on t; "Each offset puts the unit's first cell on (y, x), in row order"
+-- the offset that puts the unit's first cell on t (SPEC 4.8)
 unfoldable pub tryAt : Grid → List ℕ → List ℕ → List ℕ → UnitInfo → ℕ → Try
 unfolding try shift
 tryAt g states ids pids u t = try g states ids pids u (shift g (u .first) t)
 
+-- the unit has a good offset
 unfoldable pub fits : Grid → List ℕ → List ℕ → List ℕ → UnitInfo → Bool
 unfolding any isGood tryAt range
 fits g states ids pids u = any (λ t. isGood (tryAt g states ids pids u t)) (range (cells g))
 
--- "failed landings"
+-- the failed landings, in the order of the offsets (SPEC 4.11)
 unfoldable pub failures : Grid → List ℕ → List ℕ → List ℕ → UnitInfo → List ℕ
 unfolding gather entryOf tryAt range
 failures g states ids pids u = gather (λ t. entryOf (tryAt g states ids pids u t)) (range (cells g))
 
--- "the unit's boundary list, then those of all adjacent potential units in rising number", of which there are n in all
+-- the unit's boundary list, then those of the potential units adjacent to its own, in rising number (SPEC 4.11); there are n potential units
 unfoldable pub boundaries : Grid → List ℕ → List ℕ → List ℕ → ℕ → UnitInfo → List ℕ
 unfolding unitBoundary potentialBoundary gather keep adjacent range
 boundaries g states ids pids n u =
     unitBoundary g states ids (u .number) ++ gather (potentialBoundary g states pids) (keep (adjacent g states pids (u .own)) (range n))
 
--- "A unit with no good offset is a fault"
+-- a unit without a good offset is a fault (SPEC 4.11)
 unfoldable pub unitFault : Grid → List ℕ → List ℕ → List ℕ → ℕ → ℕ → Option (List ℕ)
 unfolding give fits failures boundaries unitOf
 unitFault g states ids pids n k =
@@ -164,7 +167,7 @@ unitFault g states ids pids n k =
     give (not (fits g states ids pids u)) list
 
 -- THE CHECK
--- "Else units are tried in order": m units and n potential units, found already
+-- an inner Wall, else the first unit at fault (SPEC 4.8, 4.12); m units and n potential units
 unfoldable pub faultIn : Grid → List ℕ → List ℕ → List ℕ → ℕ → ℕ → Option (List ℕ)
 unfolding orElse innerWall first unitFault range
 faultIn g states ids pids m n = orElse (innerWall g states ids) (first (unitFault g states ids pids n) (range m))

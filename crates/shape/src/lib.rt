@@ -1,1 +1,1 @@
-// The shape check (`SendaiShapeConstraint::find_inconsistency`): a board's ask.
+// The shape check's definitions and theorems: no code of its own.

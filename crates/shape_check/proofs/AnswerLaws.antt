@@ -40,19 +40,19 @@ module _ (b : Board) {code : ℕ} (q : code ≡ boardCode b) (buffer : List ℕ)
     pub refused-buffer : length buffer < 9 * cells (sizeOf b) → Answered (shapeOutcome b (length buffer)) buffer buffer (Refused 6)
     refused-buffer h = answered-by buffer (let e : shapeOutcome b (length buffer) ≡ refused 6 = rw (← q, z, lt-leb (9 * cells (sizeOf b)) (length buffer) h) in e) (refl, refl)
 
-    pub fits : length (b .states) ≡ 1984 → Fits (sizeOf b) (b .states)
+    pub fits : length (b .book .states) ≡ 1984 → Fits (sizeOf b) (b .book .states)
     fits long = record { limits = limits; borders = omega (arith, borderCount-le (sizeOf b) limits) }
 
-    module _ (h : 9 * cells (sizeOf b) ≤ length buffer) {buffer' : List ℕ} {r : Found} (t : Told (shapeFault (sizeOf b) (b .states)) buffer buffer' r) where
-      asked : shapeOutcome b (length buffer) ≡ found (shapeFault (sizeOf b) (b .states))
+    module _ (h : 9 * cells (sizeOf b) ≤ length buffer) {buffer' : List ℕ} {r : Found} (t : Told (shapeFault (sizeOf b) (b .book .states)) buffer buffer' r) where
+      asked : shapeOutcome b (length buffer) ≡ found (shapeFault (sizeOf b) (b .book .states))
       asked = rw (← q, z, le-leb (9 * cells (sizeOf b)) (length buffer) h)
 
       pub is-clear : r ≡ Clear → Answered (shapeOutcome b (length buffer)) buffer buffer' IsClear
       is-clear e =
-          let o = told-clear (shapeFault (sizeOf b) (b .states)) t e in
+          let o = told-clear (shapeFault (sizeOf b) (b .book .states)) t e in
           answered-by buffer (asked ∙ ap found (o .0)) (refl, o .1)
 
       pub is-fault : {n : ℕ} → r ≡ Fault n → Answered (shapeOutcome b (length buffer)) buffer buffer' (IsFault n)
       is-fault e =
-          let o = told-fault (shapeFault (sizeOf b) (b .states)) t e in
+          let o = told-fault (shapeFault (sizeOf b) (b .book .states)) t e in
           answered-by buffer (asked ∙ ap found (o .1)) (ap IsFault (o .2), o .3)

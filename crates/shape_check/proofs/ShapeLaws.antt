@@ -14,7 +14,7 @@ use Rattle.groups.specs.Floods.{Fits}
 use Rattle.groups.specs.Lent.{Grouped}
 use Rattle.groups.specs.Info.{blankPlaces}
 use Rattle.shape.specs.Shape.{innerWall, unitFault, faultIn, shapeFault}
-use Rattle.adjacency.proofs.TurnLaws.{ids-part, ids-are, front-turns}
+use Rattle.groups.proofs.Theorems.{ids-part, ids-are, front-turns}
 use Rattle.inner_walls.specs.declared.Found.{Found}
 use Rattle.inner_walls.specs.declared.Found.the-variants.{Clear, Fault}
 use Rattle.inner_walls.specs.Found.{Told}

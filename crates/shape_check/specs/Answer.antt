@@ -40,5 +40,5 @@ found (some L) = fault L
 abbrev pub shapeOutcome : Board → ℕ → Outcome
 shapeOutcome b room =
     pick (eqb (boardCode b) 0)
-    (pick (leb (9 * cells (sizeOf b)) room) (found (shapeFault (sizeOf b) (b .states))) (refused 6))
+    (pick (leb (9 * cells (sizeOf b)) room) (found (shapeFault (sizeOf b) (b .book .states))) (refused 6))
     (refused (boardCode b))

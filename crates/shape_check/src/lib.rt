@@ -29,7 +29,7 @@ pub fn shape_fault(g: Grid, states: &[u8], buffer: &mut [u16]) -> Found
     let mut ids = [0u16; 1024];
     let mut starts = [0u16; 1024];
     let mut flat = [0u16; 1024];
-    let count = groups::groups_of(states, g, false, &mut ids, &mut starts, &mut flat);
+    let count = groups::groups_of(g, states, false, &mut ids, &mut starts, &mut flat);
     let f = inner_walls::inner_wall(g, states, &ids[..n], buffer);
     if let Found::Fault(len) = f {
         return Found::Fault(len);
@@ -42,19 +42,19 @@ pub fn find_inconsistency(b: Board, buffer: &mut [u16]) -> ShapeAnswer
     ensures { λ r. ⌜ r ≡ answerOf (shapeOutcome b (length (now (buffer .entry)))) ⌝ }
     ensures { λ _. ⌜ now (buffer .exit) ≡ written (shapeOutcome b (length (now (buffer .entry)))) (now (buffer .entry)) ⌝ }
 {
-    let code = board::check_parts(b.height, b.width, &b.states, &b.ledger, b.len);
+    let code = board::check_parts(b.grid, &b.book.states, &b.book.names, b.book.len);
     if code != 0 {
         return ShapeAnswer::Refused(code);
     }
-    let cells = b.height * b.width;
+    let cells = b.grid.height * b.grid.width;
     if buffer.len() < 9 * cells {
         return ShapeAnswer::Refused(6);
     }
     let g = Grid {
-        height: b.height,
-        width: b.width,
+        height: b.grid.height,
+        width: b.grid.width,
     };
-    let Found::Fault(n) = shape_fault(g, &b.states, buffer) else {
+    let Found::Fault(n) = shape_fault(g, &b.book.states, buffer) else {
         return ShapeAnswer::Clear;
     };
     ShapeAnswer::Fault(n)

@@ -13,7 +13,7 @@ use lib.ListN.{getD, length, set, take, drop, length-set, length-append, drop-of
 use lib.Seq.{sets, drop-cons, getD-take, length-take-le}
 use Rattle.grid.specs.declared.Grid.{Grid}
 use Rattle.grid.specs.Grid.{cells}
-use Rattle.groups.specs.Info.{endOf, part}
+use Rattle.groups.specs.Info.{endOf, stretch}
 use Rattle.boundary.specs.Appended.{Appended}
 use Rattle.boundary.specs.Boundary.{unitBoundary, potentialBoundary}
 use Rattle.boundary.specs.Listing.{Listable}
@@ -56,10 +56,10 @@ module _ {g : Grid} {states pids : List ℕ} {count : ℕ} {starts flat marks : 
 
   module _ {from to : ℕ} (from-is : from ≡ getD starts unit 0) (to-is : to ≡ endOf (cells g) count starts unit) where
     pub from-to : from ≤ to
-    from-to = omega (arith, w .turns .order unit h)
+    from-to = omega (arith, w .turns .between unit h .some)
 
     pub to-cells : to ≤ cells g
-    to-cells = omega (arith, w .turns .within unit h)
+    to-cells = omega (arith, w .turns .between unit h .within)
 
     pub to-fits : to ≤ length flat
     to-fits = omega (arith, to-cells, w .turns .flat-long)
@@ -69,11 +69,11 @@ module _ {g : Grid} {states pids : List ℕ} {count : ℕ} {starts flat marks : 
       unfolding markedBoundary
       its-list = rw (ne-eqb (getD marks unit 0) 0 z)
 
-      pub listable : {b : List ℕ} {at : ℕ} → at + length (markedBoundary g states pids marks unit) ≤ length b → Listable g states pids (part flat from to) true unit b at
+      pub listable : {b : List ℕ} {at : ℕ} → at + length (markedBoundary g states pids marks unit) ≤ length b → Listable g states pids (stretch flat from to) true unit b at
       listable l =
           record {
             lent = record { limits = w .limits; states-long = w .states-long; ids-long = w .turns .ids-long };
-            cells-are = rw (from-is, to-is) (w .turns .cells-are unit h);
+            cells-are = rw (from-is, to-is) (w .turns .between unit h .are);
             room = rw its-list at l;
           }
 

@@ -17,9 +17,9 @@ use Rattle.groups.specs.Lent.{Grouped}
 use Rattle.groups.specs.Info.{blankPlaces}
 use Rattle.shape.specs.Shape.{unitFault}
 use Rattle.offsets.specs.Reach.{Tables}
-use Rattle.adjacency.specs.Turns.{InTurn}
+use Rattle.groups.specs.Lent.{InTurn}
 use Rattle.adjacency.specs.Adjacency.{Unmarked, Listing, Adjacency}
-use Rattle.adjacency.proofs.TurnLaws.{ids-are, front-turns}
+use Rattle.groups.proofs.Theorems.{ids-are, front-turns}
 use Rattle.inner_walls.specs.declared.Found.{Found}
 use Rattle.inner_walls.specs.Found.{Told}
 use Rattle.unit_check.specs.Units.{Units, Staged, Scratch}

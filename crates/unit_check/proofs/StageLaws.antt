@@ -11,8 +11,9 @@ use Rattle.grid.specs.declared.Grid.{Grid}
 use Rattle.grid.specs.Grid.{cells, Cell}
 use Rattle.grid.proofs.Geometry.{cells-le}
 use Rattle.groups.specs.Groups.{cellsOf}
-use Rattle.groups.specs.Info.{endOf, part}
+use Rattle.groups.specs.Info.{endOf, stretch}
 use Rattle.groups.proofs.GroupLaws.{in-cells}
+use Rattle.groups.proofs.Theorems.{turn-some}
 use Rattle.shape.specs.Shape.{headOr0}
 use Rattle.adjacency.specs.Adjacency.{Marking, MarksOf}
 use Rattle.adjacency.proofs.ListingLaws.{marking}
@@ -27,33 +28,33 @@ module _ {g : Grid} {states ids starts flat : List ℕ} {count : ℕ} {rows cols
     (p : Units g states ids starts flat count rows cols pids pstarts pflat pcount nstarts near marks-room failed-room buffer-room) {unit : ℕ} (h : unit < count)
     {from to : ℕ} (from-is : from ≡ getD starts unit 0) (to-is : to ≡ endOf (cells g) count starts unit) where
   pub from-to : from ≤ to
-  from-to = omega (arith, p .units .order unit h)
+  from-to = omega (arith, p .units .between unit h .some)
 
   pub to-cells : to ≤ cells g
-  to-cells = omega (arith, p .units .within unit h)
+  to-cells = omega (arith, p .units .between unit h .within)
 
   pub to-fits : to ≤ length flat
   to-fits = omega (arith, to-cells, p .units .flat-long)
 
-  cells-are : part flat from to ≡ cellsOf g ids unit
-  cells-are = rw (from-is, to-is) (p .units .cells-are unit h)
+  cells-are : stretch flat from to ≡ cellsOf g ids unit
+  cells-are = rw (from-is, to-is) (p .units .between unit h .are)
 
-  some-cells : 0 < length (part flat from to)
-  some-cells = rw cells-are (p .units .some unit h)
+  some-cells : 0 < length (stretch flat from to)
+  some-cells = rw cells-are (turn-some (p .units) h)
 
   pub from-cells : from < cells g
   from-cells = omega (arith, to-cells, length-take-le (to - from) (drop from flat) (simp length-drop (omega (arith, to-fits))), some-cells)
 
   module _ {first : ℕ} (first-is : first ≡ getD flat from 0) where
-    head-is : first ≡ headOr0 (part flat from to)
+    head-is : first ≡ headOr0 (stretch flat from to)
     head-is =
         let z : from + 0 ≡ from = omega arith in
         let l : 0 < to - from = omega (arith, length-take-le (to - from) (drop from flat) (simp length-drop (omega (arith, to-fits))), some-cells) in
-        first-is ∙ sym (head-at (part flat from to) ∙ getD-take (to - from) (drop from flat) 0 0 l ∙ getD-drop from flat 0 0 ∙ ap (λ i. getD flat i 0) z)
+        first-is ∙ sym (head-at (stretch flat from to) ∙ getD-take (to - from) (drop from flat) 0 0 l ∙ getD-drop from flat 0 0 ∙ ap (λ i. getD flat i 0) z)
 
     pub first-cell : Cell g first
     first-cell =
-        let l : 0 < length (cellsOf g ids unit) = p .units .some unit h in
+        let l : 0 < length (cellsOf g ids unit) = turn-some (p .units) h in
         rw (head-is ∙ ap headOr0 cells-are ∙ head-at (cellsOf g ids unit)) (in-cells g ids unit (getD (cellsOf g ids unit) 0 0) (getD-in 0 (cellsOf g ids unit) 0 l) .0)
 
     module _ {own : ℕ} (own-is : own ≡ getD pids first 0) where
@@ -64,7 +65,7 @@ module _ {g : Grid} {states ids starts flat : List ℕ} {count : ℕ} {rows cols
       own-marking marks e = marking (p .potentials) (p .lists) marks (omega (arith, p .marks-long)) own own-exists
 
       pub marked : {marks failed buffer : List ℕ} → length marks ≡ marks-room → length failed ≡ failed-room → length buffer ≡ buffer-room → MarksOf g states pids own marks
-          → Marked g states ids (part flat from to) unit first rows cols pids pstarts pflat pcount marks failed buffer
+          → Marked g states ids (stretch flat from to) unit first rows cols pids pstarts pflat pcount marks failed buffer
       marked a b c m =
           record {
             near = record { limits = p .limits; states-long = p .states-long; turns = p .potentials; marks-long = omega (arith, p .marks-long) };

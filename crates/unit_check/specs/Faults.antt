@@ -11,7 +11,7 @@ use Rattle.grid.specs.declared.Grid.{Grid}
 use Rattle.grid.specs.Grid.{Limits, cells, borderCount}
 use Rattle.groups.specs.Groups.{cellsOf}
 use Rattle.boundary.specs.Boundary.{unitBoundary, potentialBoundary}
-use Rattle.adjacency.specs.Turns.{InTurn}
+use Rattle.groups.specs.Lent.{InTurn}
 
 -- the boundary list of a potential unit, if it is marked
 unfoldable pub markedBoundary : Grid → List ℕ → List ℕ → List ℕ → ℕ → List ℕ

@@ -9,7 +9,7 @@ use Rattle.grid.specs.Grid.{Limits, cells, Cell, borderCount}
 use Rattle.groups.specs.Groups.{cellsOf}
 use Rattle.shape.specs.Shape.{headOr0}
 use Rattle.offsets.specs.Reach.{Tables}
-use Rattle.adjacency.specs.Turns.{InTurn}
+use Rattle.groups.specs.Lent.{InTurn}
 use Rattle.adjacency.specs.Adjacency.{Unmarked, Adjacency, MarksOf}
 use Rattle.unit_check.specs.Faults.{Near}
 

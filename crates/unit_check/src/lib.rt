@@ -6,7 +6,7 @@ ghost use lib.ListN.{length};
 ghost use Rattle.lists.specs.Lists.{range, first as firstOf};
 ghost use Rattle.groups.specs.Groups.{groupIds, groupCount};
 ghost use Rattle.shape.specs.Shape.{unitFault};
-ghost use Rattle.adjacency.specs.Turns.{InTurn};
+ghost use Rattle.groups.specs.Lent.{InTurn};
 ghost use Rattle.adjacency.specs.Adjacency.{Unmarked};
 ghost use Rattle.inner_walls.specs.Found.{Told};
 ghost use Rattle.unit_check.specs.Units.{Marked, Units, Staged, Scratch};
@@ -361,7 +361,7 @@ pub fn check_units<'a>(
     let mut pids = [0u16; 1024];
     let mut pstarts = [0u16; 1024];
     let mut pflat = [0u16; 1024];
-    let pcount = groups::groups_of(states, g, true, &mut pids, &mut pstarts, &mut pflat);
+    let pcount = groups::groups_of(g, states, true, &mut pids, &mut pstarts, &mut pflat);
     if n <= 64 {
         return check_small(
             g,

@@ -1,106 +1,56 @@
-// Replays the stored answers of the Rust (data/, written by compare/) and compares them with the port's: a line for each
-// case that differs, and a line of counts for each layer.
-mod board_runs;
+// Runs the calls of a script and says each one's answer in a line. The file `stdout` has the answers of the Rust to the same calls.
 mod boards;
-mod boundary_runs;
-mod case;
-mod group_runs;
-mod hand_runs;
-mod numbering;
-mod path_runs;
-mod puzzle_runs;
-mod room_runs;
-mod sample;
-mod shape_runs;
-mod union_runs;
+mod desk;
+mod grids;
+mod puzzles;
+mod queue;
+mod room_graphs;
+mod say;
+mod script;
+mod unions;
 
-use case::Counts;
-use libc::STDOUT_FILENO;
+use desk::Desk;
+use script::Command;
 
-fn say(text: &[u8]) {
-    io::write_all(STDOUT_FILENO, text);
-}
-
-fn say_number(number: usize) {
-    io::print_decimal(STDOUT_FILENO, number as u64);
-}
-
-// One case of a layer, by the sample's kind.
-fn replay_case(s: &[u8], at: usize) -> Counts {
-    let kind = sample::byte(s, 0);
-    match kind {
-        1 => numbering::replay(s, at),
-        2 => board_runs::replay(s, at),
-        3 => group_runs::replay(s, at),
-        4 => path_runs::replay(s, at),
-        5 => boundary_runs::replay(s, at),
-        6 => shape_runs::replay(s, at),
-        7 => union_runs::replay(s, at),
-        8 => room_runs::replay(s, at),
-        9 => puzzle_runs::replay(s, at),
-        10 => hand_runs::replay(s, at),
-        _ => case::unknown(),
+// One call, by the record's letter.
+fn step(d: Desk, c: Command) -> Desk {
+    let record = c.record;
+    match record {
+        b'g' => desk::on_grid(d, c),
+        b'l' => desk::on_lists(d, c),
+        b'b' => desk::on_board(d, c),
+        b'u' => desk::on_union(d, c),
+        b'r' => desk::on_room(d, c),
+        b'p' => desk::on_puzzle(d, c),
+        _ => {
+            say::text(b"no such record\n");
+            d
+        }
     }
 }
 
-// One case, with a line where it differs.
-fn check_case<'a>(name: &'a [u8], s: &'a [u8], all: Counts, number: usize) -> Counts {
-    let c = replay_case(s, all.next);
-    if 0 < c.differences {
-        say(name);
-        say(b": case ");
-        say_number(number);
-        say(b" differs\n");
+// Whether the script ends here: at its last line, which says so, or before it.
+fn ended(c: Command) -> bool {
+    if c.record == b'.' {
+        say::text(b"end\n");
+        return true;
     }
-    case::sum(all, c)
-}
-
-// All cases of a sample, one behind the other.
-fn check_cases<'a>(name: &'a [u8], s: &'a [u8], cases: usize) -> Counts {
-    let mut all = case::begun(3);
-    let mut i = 0;
-    while i < cases {
-        all = check_case(name, s, all, i);
-        i += 1;
+    if c.record == 0 {
+        say::text(b"the script is cut short\n");
+        return true;
     }
-    all
-}
-
-fn check<'a>(name: &'a [u8], s: &'a [u8]) {
-    let cases = sample::word(s, 1);
-    let all = check_cases(name, s, cases);
-    say(name);
-    say(b": ");
-    say_number(cases);
-    say(b" cases, ");
-    say_number(all.answers);
-    say(b" answers, ");
-    say_number(all.differences);
-    say(b" differences\n");
-}
-
-fn check_file(name: &[u8]) {
-    let fd = os::open_read(name);
-    if fd < 0 {
-        say(name);
-        say(b" is missing\n");
-        return;
-    }
-    let mut buffer = io::large_buffer();
-    let n = io::read_full(fd, &mut buffer);
-    libc::close(fd);
-    check(name, &buffer[..n]);
+    false
 }
 
 fn main() {
-    check_file(b"numbering.bin");
-    check_file(b"board.bin");
-    check_file(b"groups.bin");
-    check_file(b"path.bin");
-    check_file(b"boundary.bin");
-    check_file(b"shape.bin");
-    check_file(b"union_find.bin");
-    check_file(b"city_count.bin");
-    check_file(b"puzzle.bin");
-    check_file(b"hand_over.bin");
+    let mut d = desk::fresh();
+    let mut turns: usize = 0;
+    while turns < 100000 {
+        let c = script::next();
+        if ended(c) {
+            return;
+        }
+        d = step(d, c);
+        turns += 1;
+    }
 }

@@ -73,9 +73,11 @@ fn a_groups_cells() {
     let mut out = marked(4);
     assert_eq!(units.group(0, &mut out), [0, 1, 2]);
     assert_eq!(out, [0, 1, 2, UNTOUCHED]);
-    assert_eq!(units.group(0, &mut out[..2]), [0, 1]);
-    assert_eq!(units.group(3, &mut out[..1]), [5]);
+    out.fill(UNTOUCHED);
+    assert_eq!(units.group(0, &mut out[..2]), []);
     assert_eq!(units.group(0, &mut []), []);
+    assert_eq!(out, marked(4));
+    assert_eq!(units.group(3, &mut out[..1]), [5]);
 }
 
 /// The largest board, and every list of a puzzle on it.

@@ -16,7 +16,7 @@ fn call_by_call() {
     let mut case = Case::open(&FILE).unwrap();
     let mut out = vec![0; MAX_LINE];
     for (left, line) in [(3, "decided\n"), (2, "decided\n"), (1, "shape: 1 2\n"), (0, "undone\n"), (0, "")] {
-        assert_eq!(case.run(1, &mut out), line.as_bytes());
+        assert_eq!(case.run(1, &mut out).unwrap(), line.as_bytes());
         assert_eq!(case.left(), left);
     }
     assert_eq!(case.puzzle().ledger().collect::<Vec<_>>(), [(0, true)]);
@@ -26,10 +26,10 @@ fn call_by_call() {
 fn a_buffer_one_short() {
     let mut case = Case::open(&FILE).unwrap();
     let mut out = vec![7; 4 * MAX_LINE];
-    assert_eq!(case.run(9, &mut out[1..]), b"");
+    assert_eq!(case.run(9, &mut out[1..]), Err(Refusal::ShortBuffer));
     assert_eq!((case.left(), case.puzzle().ledger().count()), (4, 0));
     assert!(out.iter().all(|&byte| byte == 7));
-    assert_eq!(case.run(9, &mut out), b"decided\ndecided\nshape: 1 2\nundone\n");
+    assert_eq!(case.run(9, &mut out).unwrap(), b"decided\ndecided\nshape: 1 2\nundone\n");
     assert!(out[34..].iter().all(|&byte| byte == 7));
 }
 
@@ -43,6 +43,11 @@ fn refused_files() {
     assert_eq!(refused(&changed(3, 0)), Refusal::Sizes);
     assert_eq!(refused(&changed(4, 33)), Refusal::Sizes);
     assert_eq!(refused(&changed(9, 0)), Refusal::ClueValue);
+    // a puzzle that is refused leaves zeros
+    let file = changed(9, 0);
+    // SAFETY: the slice lives through the call.
+    let case = unsafe { sys::sendai_case_open(file.as_ptr(), file.len()) };
+    assert_eq!((case.at, case.count, case.puzzle.clues_len), (0, 0, 0));
 }
 
 /// The file's readers, and a line.
@@ -58,8 +63,10 @@ fn readers() {
     assert_eq!(unsafe { sys::sendai_file_number(at, length, 9, 1, 0) }, 65535);
     assert_eq!(unsafe { sys::sendai_file_number(at, length, 9, 1, 1) }, 0);
     let mut numbers = [7u16; 3];
-    unsafe { sys::sendai_file_numbers(at, length, 13, 2, numbers.as_mut_ptr(), 3) };
-    assert_eq!(numbers, [0x0200, 0x0001, 7]);
+    let told = unsafe { sys::sendai_file_numbers(at, length, 13, 2, numbers.as_mut_ptr(), 1) };
+    assert_eq!((told, numbers), (sys::Answer { code: 6, fault: false, length: 0 }, [7; 3]));
+    let told = unsafe { sys::sendai_file_numbers(at, length, 13, 2, numbers.as_mut_ptr(), 3) };
+    assert_eq!((told.code, told.length, numbers), (0, 2, [0x0200, 0x0001, 7]));
 
     let call = |place| unsafe { sys::sendai_file_call(at, length, place) };
     assert_eq!(call(13), sys::FileCall { code: 0, kind: 2, border: 0, behind: 16 });
@@ -70,10 +77,10 @@ fn readers() {
 
     let mut line = [b'-'; 39];
     let entries = [1u16, 2];
-    let length = unsafe { sys::sendai_line(4, 12, entries.as_ptr(), 2, line.as_mut_ptr(), 38) };
-    assert_eq!((length, &line), (0, &[b'-'; 39]));
-    let length = unsafe { sys::sendai_line(4, 12, entries.as_ptr(), 2, line.as_mut_ptr(), 39) };
-    assert_eq!(&line[..length], b"room 12: 1 2\n");
-    let length = unsafe { sys::sendai_line(5, 4, entries.as_ptr(), 0, line.as_mut_ptr(), 39) };
-    assert_eq!(&line[..length], b"refused 4\n");
+    let told = unsafe { sys::sendai_line(4, 12, entries.as_ptr(), 2, line.as_mut_ptr(), 38) };
+    assert_eq!((told.code, told.length, &line), (6, 0, &[b'-'; 39]));
+    let told = unsafe { sys::sendai_line(4, 12, entries.as_ptr(), 2, line.as_mut_ptr(), 39) };
+    assert_eq!((told.code, &line[..told.length]), (0, &b"room 12: 1 2\n"[..]));
+    let told = unsafe { sys::sendai_line(5, 4, entries.as_ptr(), 0, line.as_mut_ptr(), 39) };
+    assert_eq!((told.code, &line[..told.length]), (0, &b"refused 4\n"[..]));
 }

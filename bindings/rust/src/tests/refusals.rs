@@ -150,8 +150,8 @@ fn room_graphs() {
         (1, |r| r.vertices = 1025),
         (1, |r| r.edges = 1985),
         (2, |r| r.vs[1] = 3),
-        (2, |r| r.states[1] = 1),
-        (2, |r| r.len = usize::MAX),
+        (2, |r| r.book.states[1] = 1),
+        (2, |r| r.book.len = usize::MAX),
     ];
     for (number, damage) in damages {
         let mut bad = decided.clone();
@@ -206,8 +206,8 @@ fn zeros() {
     assert_eq!(made, sys::PuzzleAnswer { code: 7, puzzle });
 
     let (us, vs) = ([0u16, 9], [1u16, 1]);
-    let (ends, states) = ([0; 1984], [0; 1984]);
-    let room = sys::Room { vertices: 0, edges: 0, us: ends, vs: ends, count: 0, states, ledger: ends, len: 0 };
+    let (ends, book) = ([0; 1984], sys::Book { states: [0; 1984], ledger: [0; 1984], len: 0 });
+    let room = sys::Room { vertices: 0, edges: 0, us: ends, vs: ends, count: 0, book };
     // SAFETY: both slices live through the call.
     let made = unsafe { sys::sendai_room_make(3, us.as_ptr(), 2, vs.as_ptr(), 2, 5) };
     assert_eq!(made, sys::RoomAnswer { code: 3, room });

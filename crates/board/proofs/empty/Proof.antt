@@ -1,6 +1,6 @@
 -- `board::empty` meets its contract: both arrays are zeros. Assumes nothing.
 use mathlib.Core.Path.{refl}
-use Rattle.board.specs.Board.{zeros}
+use Rattle.ledger.specs.Books.{zeros}
 use Rattle.board.proofs.empty.Statement.{statement}
 use Rattle.board.proofs.empty.Tie as tie
 

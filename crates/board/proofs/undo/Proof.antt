@@ -1,73 +1,62 @@
 -- `board::undo` meets its contract: a refusal's number, or the ledger's last name, which is a border. Assumes nothing.
-use Prim.Native.Nat.{_<_}
-use mathlib.Core.Path.{_≡_, refl}
+use mathlib.Core.Path.{_≡_}
 use native.Mathlib.Omega.{arith}
 use borrow.Author.Needs.{needs}
 use lib.ListN.{length}
-use Rattle.grid.proofs.Geometry.{borderCount-le}
-use Rattle.board.specs.Board.{sizeOf}
-use Rattle.board.proofs.Laws.{ready, undoable, undo-answer, undone, last-name}
+use Rattle.limits.specs.Limits.{mostBorders}
+use Rattle.ledger.specs.Ledger.{undoCode}
+use Rattle.ledger.specs.Books.{taken}
+use Rattle.ledger.proofs.BookLaws.{Takeable}
+use Rattle.board.specs.declared.Board.{Board}
+use Rattle.board.proofs.Laws.{stopped, next-stops, accepted, taking}
 use Rattle.board.proofs.undo.Statement.{statement}
 use Rattle.board.proofs.undo.Tie as tie
+
+abbrev board : tie.After-check-parts → Board
+board k = k .before .before .before .before .before .before .args .b
 
 returns : tie.Need-returns
 returns c =
     let k = c .before in
-    let s = k .before .before .before .before .before .before in
-    undo-answer (s .args .b) (k .undo-code .result) (k .undo-code .ensures) (c .if1 .taken)
-
-sub-at : tie.Need-sub-at
-sub-at c =
-    let e = c .before in
-    let k = e .before in
-    let s = k .before .before .before .before .before .before in
-    let b = s .args .b in
-    let u = undoable (b .height) (b .width) (b .states) (b .ledger) (b .len) (k .undo-code .result) (k .undo-code .ensures) (e .if1 .left) in
-    let r = ready (b .height) (b .width) (b .states) (b .ledger) (b .len) (u .code) in
-    omega (arith, u .some)
-
-name-at-requires : tie.Need-name-at-requires
-name-at-requires c κs =
-    let e = c .before .before .before .before in
-    let k = e .before in
-    let s = k .before .before .before .before .before .before in
-    let b = s .args .b in
-    let u = undoable (b .height) (b .width) (b .states) (b .ledger) (b .len) (k .undo-code .result) (k .undo-code .ensures) (e .if1 .left) in
-    let r = ready (b .height) (b .width) (b .states) (b .ledger) (b .len) (u .code) in
-    let long : length (b .ledger) ≡ 1984 = search needs in
-    omega (arith, u .some, borderCount-le (sizeOf b) (r .limits), r .short)
-
-set-state-requires : tie.Need-set-state-requires
-set-state-requires c κs =
-    let e = c .before .before .before .before .before .before in
-    let k = e .before in
-    let s = k .before .before .before .before .before .before in
-    let b = s .args .b in
-    let u = undoable (b .height) (b .width) (b .states) (b .ledger) (b .len) (k .undo-code .result) (k .undo-code .ensures) (e .if1 .left) in
-    let r = ready (b .height) (b .width) (b .states) (b .ledger) (b .len) (u .code) in
-    let long : length (b .ledger) ≡ 1984 = search needs in
-    let some : 0 < b .len = omega (arith, u .some) in
-    omega (arith, c .before .name-at .ensures, borderCount-le (sizeOf b) (r .limits), last-name (b .height) (b .width) (b .states) (b .ledger) (b .len) r long some)
-
-set-name-requires : tie.Need-set-name-requires
-set-name-requires c κs =
-    let e = c .before .before .before .before .before .before .before .before in
-    let k = e .before in
-    let s = k .before .before .before .before .before .before in
-    let b = s .args .b in
-    let u = undoable (b .height) (b .width) (b .states) (b .ledger) (b .len) (k .undo-code .result) (k .undo-code .ensures) (e .if1 .left) in
-    let r = ready (b .height) (b .width) (b .states) (b .ledger) (b .len) (u .code) in
-    omega (arith, u .some, borderCount-le (sizeOf b) (r .limits), r .short)
+    stopped (board k) (k .check-parts .result) (k .check-parts .ensures) (undoCode (board k .book .len)) (taken (board k .book)) (c .if1 .taken)
 
 returns-2 : tie.Need-returns-2
 returns-2 c =
-    let e = c .before .before .before .before .before .before .before .before .before .before in
-    let k = e .before in
-    let s = k .before .before .before .before .before .before in
-    let b = s .args .b in
-    let u = undoable (b .height) (b .width) (b .states) (b .ledger) (b .len) (k .undo-code .result) (k .undo-code .ensures) (e .if1 .left) in
-    let r = ready (b .height) (b .width) (b .states) (b .ledger) (b .len) (u .code) in
-    rw (c .before .set-name .ensures, c .before .before .before .set-state .ensures, c .before .before .before .before .before .name-at .ensures) (undone b _ refl (u .code) (u .some))
+    let d = c .before in
+    let k = d .before .before in
+    next-stops (board k) (k .check-parts .result) (k .check-parts .ensures) (d .before .if1 .left) _ (d .undo-code .result) (taken (board k .book)) (d .undo-code .ensures) (c .if2 .taken)
+
+-- there is a last name, and its border has a place
+last : (c : tie.Else2) → Takeable (board (c .before .before .before) .book)
+last c =
+    let d = c .before in
+    let k = d .before .before in
+    let states : length (board k .book .states) ≡ mostBorders = search needs in
+    let names : length (board k .book .names) ≡ mostBorders = search needs in
+    taking (board k) (k .check-parts .result) (k .check-parts .ensures) (d .before .if1 .left) states names (d .undo-code .result) (d .undo-code .ensures) (c .if2 .left)
+
+name-at-requires : tie.Need-name-at-requires
+name-at-requires c κs =
+    let e = c .before .before .before in
+    let names : length (board (e .before .before .before) .book .names) ≡ mostBorders = search needs in
+    omega (arith, last e .some, last e .len-fits)
+
+clear-state-requires : tie.Need-clear-state-requires
+clear-state-requires c κs = rw (c .before .name-at .ensures) (last (c .before .before .before .before .before) .last-fits)
+
+clear-name-requires : tie.Need-clear-name-requires
+clear-name-requires c κs =
+    let f = last (c .before .before .before .before .before .before .before) in
+    omega (arith, f .some, f .len-fits)
+
+returns-3 : tie.Need-returns-3
+returns-3 c =
+    let n = c .before .before .before .before .before in
+    let e = n .before .before .before .before in
+    let d = e .before in
+    let k = d .before .before in
+    rw (c .before .clear-name .ensures, c .before .before .before .clear-state .ensures, n .name-at .ensures)
+    (accepted (board k) (k .check-parts .result) (k .check-parts .ensures) (d .before .if1 .left) _ (d .undo-code .result) (taken (board k .book)) (d .undo-code .ensures) (e .if2 .left))
 
 pub undo-spec : {M : Type 1} → statement M
 undo-spec =
@@ -75,9 +64,10 @@ undo-spec =
     (tie.spec
     (λ c κs. search needs)
     returns
-    sub-at
+    (λ c κs. search needs)
+    returns-2
+    (λ c. omega (arith, last c .some))
     name-at-requires
-    (λ c. search needs)
-    set-state-requires
-    set-name-requires
-    returns-2)
+    clear-state-requires
+    clear-name-requires
+    returns-3)

@@ -1,67 +1,59 @@
 -- `case_file::numbers` meets its contract: the invariant `Copying` says what is left, one law a turn and one at the end.
 -- Assumes nothing.
-use Prim.Native.Nat.{_+_, _*_, _-_, _<_}
+use Prim.Native.Nat.{ℕ, _+_, _*_, _-_, _<_}
 use mathlib.Core.Path.{refl, sym, _∙_}
+use mathlib.Core.List.{List}
 use native.Mathlib.Omega.{arith}
 use borrow.Author.Needs.{needs}
+use borrow.Author.Tests.{lt-leb}
 use lib.ListN.{length}
 use Rattle.case_file.specs.Layout.{numbersAt}
-use Rattle.case_file.proofs.NumberLaws.{Copying, copying-next, copying-end, number-in, number-at}
+use Rattle.case_file.proofs.NumberLaws.{Copying, copying-next, copied, number-in, number-at}
 use Rattle.case_file.proofs.numbers.Statement.{statement}
 use Rattle.case_file.proofs.numbers.Tie as tie
 
 abbrev Inv-loop : tie.InvT-loop
-Inv-loop file out₀ at count n k₀ out k = Copying (numbersAt file at count) out₀ n out k
+Inv-loop file buffer₀ at count n k₀ buffer k = Copying (numbersAt file at count) buffer₀ buffer k
 
 abbrev μ-loop : tie.MeasureT-loop
-μ-loop file out₀ at count n k₀ out k = n - k
+μ-loop file buffer₀ at count n k₀ buffer k = n - k
+
+-- the list, and how many numbers it has
+abbrev start : tie.After-reach Inv-loop μ-loop → tie.Start Inv-loop μ-loop
+start c = c .before .before .before
+
+abbrev list : tie.After-reach Inv-loop μ-loop → List ℕ
+list c = numbersAt (start c .args .file .now) (start c .args .list .at) (start c .args .list .count)
+
+abbrev entered : tie.In-loop Inv-loop μ-loop → tie.After-reach Inv-loop μ-loop
+entered c = c .before .before .before
+
+returns : tie.Need-returns Inv-loop μ-loop
+returns c = rw (lt-leb (length (list (c .before))) (length (start (c .before) .args .buffer .now)) (omega (arith, c .if1 .taken, c .before .reach .ensures))) (refl, refl)
 
 loop-holds : tie.Need-loop-holds Inv-loop μ-loop
-loop-holds c = record { within = omega arith; all = rw (← c .before .reach .ensures) (c .least .ensures); long = refl; left = refl }
+loop-holds c = record { within = omega arith; long = refl; left = refl }
 
 -- the number of a turn is one of the list
-below : (c : tie.In-loop Inv-loop μ-loop)
-    → let a = c .before .before .before .before .before .before .args in
-    c .before .loop .k < length (numbersAt (a .file .now) (a .list .at) (a .list .count))
-below c = omega (arith, c .loop-test .taken, c .before .loop .inv .all)
+below : (c : tie.In-loop Inv-loop μ-loop) → c .before .loop .k < length (list (entered c))
+below c = omega (arith, c .loop-test .taken, entered c .reach .ensures)
 
-inside : (c : tie.In-loop Inv-loop μ-loop)
-    → let a = c .before .before .before .before .before .before .args in
-    a .list .at + 2 * c .before .loop .k + 1 < length (a .file .now)
-inside c =
-    let a = c .before .before .before .before .before .before .args in
-    number-in (a .file .now) (a .list .at) (a .list .count) (c .before .loop .k) (below c)
+inside : (c : tie.In-loop Inv-loop μ-loop) → let s = start (entered c) in s .args .list .at + 2 * c .before .loop .k + 1 < length (s .args .file .now)
+inside c = let a = start (entered c) .args in number-in (a .file .now) (a .list .at) (a .list .count) (c .before .loop .k) (below c)
 
-mul-word : tie.Need-mul-word Inv-loop μ-loop
-mul-word c = omega (arith, inside c)
-
-add-word : tie.Need-add-word Inv-loop μ-loop
-add-word c = omega (arith, inside c)
-
-word-requires : tie.Need-word-requires Inv-loop μ-loop
-word-requires c κs = inside c
-
-cast-out : tie.Need-cast-out Inv-loop μ-loop
-cast-out c = omega (arith, c .word .ensures .1)
-
-mul-out : tie.Need-mul-out Inv-loop μ-loop
-mul-out c = omega (arith, inside (c .before))
-
-slice-write-out : tie.Need-slice-write-out Inv-loop μ-loop
-slice-write-out c = let i = c .before .before .loop .inv in omega (arith, c .before .loop-test .taken, i .all, i .long)
+slice-write-buffer : tie.Need-slice-write-buffer Inv-loop μ-loop
+slice-write-buffer c = omega (arith, below (c .before), c .before .before .before .if1 .left, entered (c .before) .reach .ensures, c .before .before .loop .inv .long)
 
 loop-again : tie.Need-loop-again Inv-loop μ-loop
 loop-again c =
-    let t = c .before in
-    let a = t .before .before .before .before .before .before .args in
-    copying-next (t .before .loop .inv) (c .word .result) (t .loop-test .taken)
-    (c .word .ensures .0 ∙ sym (number-at (a .file .now) (a .list .at) (a .list .count) (t .before .loop .k) (below t)))
+    let a = start (entered (c .before)) .args in
+    copying-next (c .before .before .loop .inv) (c .word .result) (below (c .before))
+    (c .word .ensures .0 ∙ sym (number-at (a .file .now) (a .list .at) (a .list .count) (c .before .before .loop .k) (below (c .before))))
 
-same-length : tie.Need-same-length Inv-loop μ-loop
-same-length c = c .before .loop .inv .long
-
-returns : tie.Need-returns Inv-loop μ-loop
-returns c = copying-end (c .before .loop .inv) (c .loop-test .left)
+returns-2 : tie.Need-returns-2 Inv-loop μ-loop
+returns-2 c =
+    let e = c .before .before in
+    copied (c .before .loop .inv) (e .before .reach .ensures) (c .loop-test .left) (e .if1 .left)
 
 pub numbers-spec : {M : Type 1} → statement M
 numbers-spec =
@@ -70,16 +62,16 @@ numbers-spec =
     Inv-loop
     μ-loop
     (λ c κs. search needs)
-    (λ c κs. search needs)
+    returns
     loop-holds
-    mul-word
-    add-word
-    word-requires
-    cast-out
-    mul-out
-    slice-write-out
+    (λ c. omega (arith, inside c))
+    (λ c. omega (arith, inside c))
+    (λ c κs. inside c)
+    (λ c. omega (arith, c .word .ensures .1))
+    (λ c. omega (arith, inside (c .before)))
+    slice-write-buffer
     (λ c. omega arith)
     (λ c. omega arith)
     loop-again
-    same-length
-    returns)
+    (λ c. c .before .loop .inv .long)
+    returns-2)

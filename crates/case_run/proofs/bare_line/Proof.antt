@@ -8,7 +8,7 @@ returns : tie.Need-returns
 returns c =
     let k = c .before .before in
     let a = k .before .before .before .before .args in
-    bare-written (a .line) (a .out .now) (k .before .before .before .before .pre) (k .write-line .ensures)
+    bare-written (a .line) (a .out .now) (k .put-line .ensures)
 
 pub bare-line-spec : {M : Type 1} → statement M
 bare-line-spec =

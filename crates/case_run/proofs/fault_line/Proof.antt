@@ -1,6 +1,7 @@
 -- `case_run::fault_line` meets its contract: hand-over has the room that it asks, and so has the line. Assumes nothing.
 use Rattle.case_run.specs.CaseRun.{blank}
 use Rattle.case_run.proofs.LineLaws.{fault-written, Listed, listed, never-refused}
+use native.Mathlib.Omega.{arith}
 use borrow.Author.Needs.{needs}
 use Rattle.case_run.proofs.fault_line.Statement.{statement}
 use Rattle.case_run.proofs.fault_line.Tie as tie
@@ -26,8 +27,14 @@ handed c =
 array-share-prefix-entries : tie.Need-array-share-prefix-entries
 array-share-prefix-entries c = handed (c .before) .within
 
-slice-aggregate-write-line : tie.Need-slice-aggregate-write-line
-slice-aggregate-write-line c = handed (c .before .before) .long
+slice-aggregate-put-line : tie.Need-slice-aggregate-put-line
+slice-aggregate-put-line c = handed (c .before .before) .long
+
+put-line-requires : tie.Need-put-line-requires
+put-line-requires c κs =
+    let t = c .before .before .before in
+    let s = t .before .before .before .before .before .before .before .before in
+    omega (arith, handed t .few, handed t .long, s .pre .1)
 
 returns-2 : tie.Need-returns-2
 returns-2 c =
@@ -36,7 +43,7 @@ returns-2 c =
     let t = l .before in
     let s = t .before .before .before .before .before .before .before .before in
     let f = s .args .list .now in
-    fault-written f (t .before .before .before .before .before .before .before .shared-slice-known .given) (s .pre .0) (s .args .check) (l .check-line .result) _ (s .args .out .now) (s .pre .1) (l .check-line .ensures) (handed t .is) (k .write-line .ensures)
+    fault-written f (t .before .before .before .before .before .before .before .shared-slice-known .given) (s .pre .0) (s .args .check) (l .check-line .result) _ (s .args .out .now) (l .check-line .ensures) (handed t .is) (k .put-line .ensures)
 
 pub fault-line-spec : {M : Type 1} → statement M
 fault-line-spec =
@@ -49,7 +56,7 @@ fault-line-spec =
     returns
     (λ c κs. search needs)
     array-share-prefix-entries
-    slice-aggregate-write-line
-    (λ c κs. search needs)
+    slice-aggregate-put-line
+    put-line-requires
     (λ c. search needs)
     returns-2)

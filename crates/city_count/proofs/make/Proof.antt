@@ -2,7 +2,7 @@
 use mathlib.Core.Path.{sym, _∙_}
 use borrow.Author.Tests.{not-true, not-false}
 use denote.Ref.{now}
-use Rattle.city_count.specs.Room.{zeros}
+use Rattle.ledger.specs.Books.{zeros}
 use Rattle.city_count.proofs.RoomLaws.{make-vertices, make-edges, make-lengths, make-ends, made}
 use borrow.Author.Needs.{needs}
 use Rattle.city_count.proofs.make.Statement.{statement}
@@ -37,12 +37,13 @@ returns-4 c =
 returns-5 : tie.Need-returns-5
 unfolding zeros
 returns-5 c =
-    let y = c .before .before .before .before in
+    let f = c .before .before .before in
+    let y = f .before .before .before in
     let x = y .before in
     let e = x .before .before in
     let k = e .before in
     let s = k .before .before .before in
-    made (s .args .n) (now (s .args .us)) (now (s .args .vs)) (s .args .count) (k .if1 .left) (e .if2 .left) (x .before .if3 .left) _ _ (c .before .before .copy .ensures) (c .copy2 .ensures) (sym (x .ends-exist .ensures) ∙ not-false _ (y .if4 .left))
+    made (s .args .n) (now (s .args .us)) (now (s .args .vs)) (s .args .count) (k .if1 .left) (e .if2 .left) (x .before .if3 .left) _ _ (f .before .copy .ensures) (c .before .copy2 .ensures) (sym (x .ends-exist .ensures) ∙ not-false _ (y .if4 .left))
 
 pub make-spec : {M : Type 1} → statement M
 make-spec =
@@ -57,6 +58,8 @@ make-spec =
     (λ c κs. search needs)
     (λ c κs. search needs)
     returns-4
+    (λ c. search needs)
     (λ c κs. search needs)
+    (λ c. search needs)
     (λ c κs. search needs)
     returns-5)

@@ -1,55 +1,76 @@
--- `city_count::undo` meets its contract: a law for each answer; the ledger's last name is an edge. Assumes nothing.
-use Prim.Native.Nat.{_<_}
+-- `city_count::undo` meets its contract: a refusal's number, or the ledger's last name, which is an edge. Assumes nothing.
 use mathlib.Core.Path.{_≡_}
 use native.Mathlib.Omega.{arith}
-use lib.ListN.{length}
-use Rattle.city_count.proofs.RoomLaws.{refused, nothing-left, undone, room-ready, last-name}
 use borrow.Author.Needs.{needs}
+use lib.ListN.{length}
+use Rattle.limits.specs.Limits.{mostBorders}
+use Rattle.ledger.specs.Ledger.{undoCode}
+use Rattle.ledger.specs.Books.{taken}
+use Rattle.ledger.proofs.BookLaws.{Takeable}
+use Rattle.city_count.specs.declared.CityCountConstraint.{CityCountConstraint}
+use Rattle.city_count.proofs.RoomLaws.{stopped, next-stops, accepted, taking}
 use Rattle.city_count.proofs.undo.Statement.{statement}
 use Rattle.city_count.proofs.undo.Tie as tie
 
 abbrev start : tie.After-check-parts → tie.Start
 start k = k .before .before .before .before .before .before .before .before .before .before
 
+abbrev room : tie.After-check-parts → CityCountConstraint
+room k = start k .args .r
+
 returns : tie.Need-returns
 returns c =
     let k = c .before in
-    let s = start k in
-    let r = s .args .t1 in
-    let code = k .check-parts .result in
-    let q = k .check-parts .ensures in
-    refused r code q _ (c .if1 .taken)
+    stopped (room k) (k .check-parts .result) (k .check-parts .ensures) (undoCode (room k .book .len)) (taken (room k .book)) (c .if1 .taken)
 
 returns-2 : tie.Need-returns-2
 returns-2 c =
-    let k = c .before .before in
-    let s = start k in
-    let r = s .args .t1 in
-    let code = k .check-parts .result in
-    let q = k .check-parts .ensures in
-    nothing-left r code q (c .before .if1 .left) (c .if2 .taken)
+    let d = c .before in
+    let k = d .before .before in
+    next-stops (room k) (k .check-parts .result) (k .check-parts .ensures) (d .before .if1 .left) _ (d .undo-code .result) (taken (room k .book)) (d .undo-code .ensures) (c .if2 .taken)
 
-take-back-requires : tie.Need-take-back-requires
-take-back-requires c κs =
-    let k = c .before .before in
-    let s = start k in
-    let r = s .args .t1 in
-    let code = k .check-parts .result in
-    let q = k .check-parts .ensures in
-    let w = room-ready r code q (c .before .if1 .left) in
-    let long : length (r .ledger) ≡ 1984 = search needs in
-    let some : 0 < r .len = omega (arith, c .if2 .left) in
-    (some, omega (arith, w .short, w .few-edges), omega (arith, w .few-edges, last-name (r .vertices) (r .edges) (r .us) (r .vs) (r .states) (r .ledger) (r .len) w long some))
+-- there is a last name, and its edge has a place
+last : (c : tie.Else2) → Takeable (room (c .before .before .before) .book)
+last c =
+    let d = c .before in
+    let k = d .before .before in
+    let states : length (room k .book .states) ≡ mostBorders = search needs in
+    let names : length (room k .book .names) ≡ mostBorders = search needs in
+    taking (room k) (k .check-parts .result) (k .check-parts .ensures) (d .before .if1 .left) states names (d .undo-code .result) (d .undo-code .ensures) (c .if2 .left)
+
+name-at-requires : tie.Need-name-at-requires
+name-at-requires c κs =
+    let e = c .before .before .before .before in
+    let names : length (room (e .before .before .before) .book .names) ≡ mostBorders = search needs in
+    omega (arith, last e .some, last e .len-fits)
+
+clear-state-requires : tie.Need-clear-state-requires
+clear-state-requires c κs = rw (c .before .name-at .ensures) (last (c .before .before .before .before .before .before) .last-fits)
+
+clear-name-requires : tie.Need-clear-name-requires
+clear-name-requires c κs =
+    let f = last (c .before .before .before .before .before .before .before .before) in
+    omega (arith, f .some, f .len-fits)
 
 returns-3 : tie.Need-returns-3
 returns-3 c =
-    let k = c .before .before .before in
-    let s = start k in
-    let r = s .args .t1 in
-    let code = k .check-parts .result in
-    let q = k .check-parts .ensures in
-    rw (c .take-back .ensures) (undone r code q (c .before .before .if1 .left) (c .before .if2 .left))
+    let n = c .before .before .before .before .before in
+    let e = n .before .before .before .before .before in
+    let d = e .before in
+    let k = d .before .before in
+    rw (c .before .clear-name .ensures, c .before .before .before .clear-state .ensures, n .name-at .ensures)
+    (accepted (room k) (k .check-parts .result) (k .check-parts .ensures) (d .before .if1 .left) _ (d .undo-code .result) (taken (room k .book)) (d .undo-code .ensures) (e .if2 .left))
 
 pub undo-spec : {M : Type 1} → statement M
 undo-spec =
-    tie.close (tie.spec (λ c κs. search needs) returns returns-2 take-back-requires returns-3)
+    tie.close
+    (tie.spec
+    (λ c κs. search needs)
+    returns
+    (λ c κs. search needs)
+    returns-2
+    (λ c. omega (arith, last (c .before) .some))
+    name-at-requires
+    clear-state-requires
+    clear-name-requires
+    returns-3)

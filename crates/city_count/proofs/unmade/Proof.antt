@@ -1,6 +1,6 @@
 -- `city_count::unmade` meets its contract: every number is 0. Assumes nothing.
 use mathlib.Core.Path.{refl}
-use Rattle.city_count.specs.Room.{zeros}
+use Rattle.ledger.specs.Books.{zeros}
 use Rattle.city_count.proofs.unmade.Statement.{statement}
 use Rattle.city_count.proofs.unmade.Tie as tie
 

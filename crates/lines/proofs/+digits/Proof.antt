@@ -33,22 +33,22 @@ digits-cast-digit :
     (t : ℕ) → digits-lts.Need-cast-digit (digits-below t, digits.Post) (digits-at t) digits.Post
 digits-cast-digit t c = omega arith
 
-digits-add-buf :
-    (t : ℕ) → digits-lts.Need-add-buf (digits-below t, digits.Post) (digits-at t) digits.Post
-digits-add-buf t c = omega arith
+digits-add-buffer :
+    (t : ℕ) → digits-lts.Need-add-buffer (digits-below t, digits.Post) (digits-at t) digits.Post
+digits-add-buffer t c = omega arith
 
-digits-slice-write-buf :
+digits-slice-write-buffer :
     (t : ℕ) →
-    digits-lts.Need-slice-write-buf (digits-below t, digits.Post) (digits-at t) digits.Post
-digits-slice-write-buf t c =
+    digits-lts.Need-slice-write-buffer (digits-below t, digits.Post) (digits-at t) digits.Post
+digits-slice-write-buffer t c =
     let s = c .before .before .before in
-    omega (arith, s .pre .1, one-digit (s .args .places) (s .args .n) (s .args .at) (now (s .args .buf)) (c .before .if1 .left) (c .if2 .taken) .0)
+    omega (arith, s .pre .1, one-digit (s .args .places) (s .args .n) (s .args .at) (now (s .args .buffer)) (c .before .if1 .left) (c .if2 .taken) .0)
 
 digits-add-result :
     (t : ℕ) → digits-lts.Need-add-result (digits-below t, digits.Post) (digits-at t) digits.Post
 digits-add-result t c =
     let s = c .before .before .before in
-    omega (arith, s .pre .1, one-digit (s .args .places) (s .args .n) (s .args .at) (now (s .args .buf)) (c .before .if1 .left) (c .if2 .taken) .0)
+    omega (arith, s .pre .1, one-digit (s .args .places) (s .args .n) (s .args .at) (now (s .args .buffer)) (c .before .if1 .left) (c .if2 .taken) .0)
 
 digits-same-length :
     (t : ℕ) → digits-lts.Need-same-length (digits-below t, digits.Post) (digits-at t) digits.Post
@@ -58,7 +58,7 @@ digits-returns-2 :
     (t : ℕ) → digits-lts.Need-returns-2 (digits-below t, digits.Post) (digits-at t) digits.Post
 digits-returns-2 t c =
     let s = c .before .before .before in
-    one-digit (s .args .places) (s .args .n) (s .args .at) (now (s .args .buf)) (c .before .if1 .left) (c .if2 .taken)
+    one-digit (s .args .places) (s .args .n) (s .args .at) (now (s .args .buffer)) (c .before .if1 .left) (c .if2 .taken)
 
 digits-sub-digits :
     (t : ℕ) → digits-lts.Need-sub-digits (digits-below t, digits.Post) (digits-at t) digits.Post
@@ -70,21 +70,21 @@ digits-digits-requires :
 digits-digits-requires t c κs =
     let s = c .before .before .before .before in
     let z = c .before .before .if1 .left in
-    (omega (arith, s .pre .0), omega (arith, s .pre .1, more-digits (s .args .places) (s .args .n) (s .args .at) (now (s .args .buf)) z (c .before .if2 .left)))
+    (omega (arith, s .pre .0), omega (arith, s .pre .1, more-digits (s .args .places) (s .args .n) (s .args .at) (now (s .args .buffer)) z (c .before .if2 .left)))
 
-digits-add-buf-2 :
-    (t : ℕ) → digits-lts.Need-add-buf-2 (digits-below t, digits.Post) (digits-at t) digits.Post
-digits-add-buf-2 t c = omega arith
+digits-add-buffer-2 :
+    (t : ℕ) → digits-lts.Need-add-buffer-2 (digits-below t, digits.Post) (digits-at t) digits.Post
+digits-add-buffer-2 t c = omega arith
 
-digits-slice-write-buf-2 : (t : ℕ) → digits-lts.Need-slice-write-buf-2 (
+digits-slice-write-buffer-2 : (t : ℕ) → digits-lts.Need-slice-write-buffer-2 (
   digits-below t,
   digits.Post,
 ) (digits-at t) digits.Post
-digits-slice-write-buf-2 t c =
+digits-slice-write-buffer-2 t c =
     let k = c .before .before .before .before in
     let s = k .before .before .before in
     let d = c .before .before .digits in
-    let m = more-digits (s .args .places) (s .args .n) (s .args .at) (now (s .args .buf)) (k .before .if1 .left) (k .if2 .left) in
+    let m = more-digits (s .args .places) (s .args .n) (s .args .at) (now (s .args .buffer)) (k .before .if1 .left) (k .if2 .left) in
     omega (arith, s .pre .1, m, d .ensures .0, d .kept .1 .1 .0)
 
 digits-add-result-2 :
@@ -93,7 +93,7 @@ digits-add-result-2 t c =
     let k = c .before .before .before .before in
     let s = k .before .before .before in
     let d = c .before .before .digits in
-    let m = more-digits (s .args .places) (s .args .n) (s .args .at) (now (s .args .buf)) (k .before .if1 .left) (k .if2 .left) in
+    let m = more-digits (s .args .places) (s .args .n) (s .args .at) (now (s .args .buffer)) (k .before .if1 .left) (k .if2 .left) in
     omega (arith, s .pre .1, m, d .ensures .0, d .kept .1 .1 .0)
 
 digits-same-length-2 :
@@ -107,7 +107,7 @@ digits-returns-3 t c =
     let k = c .before .before .before .before in
     let s = k .before .before .before in
     let d = c .before .before .digits in
-    last-digit (s .args .places) (s .args .n) (s .args .at) (now (s .args .buf)) (k .before .if1 .left) (k .if2 .left) (d .ensures .0) (d .ensures .1)
+    last-digit (s .args .places) (s .args .n) (s .args .at) (now (s .args .buffer)) (k .before .if1 .left) (k .if2 .left) (d .ensures .0) (d .ensures .1)
 
 pub +digits-spec : {M : Type 1} → statement M
 +digits-spec =
@@ -119,15 +119,15 @@ pub +digits-spec : {M : Type 1} → statement M
     digits.Post
     (digits-returns t)
     (digits-cast-digit t)
-    (digits-add-buf t)
-    (digits-slice-write-buf t)
+    (digits-add-buffer t)
+    (digits-slice-write-buffer t)
     (digits-add-result t)
     (digits-same-length t)
     (digits-returns-2 t)
     (digits-sub-digits t)
     (digits-digits-requires t)
-    (digits-add-buf-2 t)
-    (digits-slice-write-buf-2 t)
+    (digits-add-buffer-2 t)
+    (digits-slice-write-buffer-2 t)
     (digits-add-result-2 t)
     (digits-same-length-2 t)
     (digits-returns-3 t)

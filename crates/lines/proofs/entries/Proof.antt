@@ -10,16 +10,16 @@ use Rattle.lines.proofs.entries.Statement.{statement}
 use Rattle.lines.proofs.entries.Tie as tie
 
 abbrev Inv-loop : tie.InvT-loop
-Inv-loop list buf₀ at next₀ i₀ buf next i = Spacing list buf₀ at buf next i
+Inv-loop list buffer₀ at next₀ i₀ buffer next i = Spacing list buffer₀ at buffer next i
 
 abbrev μ-loop : tie.MeasureT-loop
-μ-loop list buf₀ at next₀ i₀ buf next i = length list - i
+μ-loop list buffer₀ at next₀ i₀ buffer next i = length list - i
 
 loop-holds : tie.Need-loop-holds Inv-loop μ-loop
 loop-holds c = record { within = omega arith; long = refl; most = omega arith; count = refl; left = refl }
 
-slice-write-buf : tie.Need-slice-write-buf Inv-loop μ-loop
-slice-write-buf c = let t = c .before .before in omega (arith, t .loop-test .taken, t .before .loop .inv .most)
+slice-write-buffer : tie.Need-slice-write-buffer Inv-loop μ-loop
+slice-write-buffer c = let t = c .before .before in omega (arith, t .loop-test .taken, t .before .loop .inv .most)
 
 add-digits : tie.Need-add-digits Inv-loop μ-loop
 add-digits c = let t = c .before .before .before in omega (arith, t .loop-test .taken, t .before .loop .inv .most)
@@ -52,7 +52,7 @@ entries-spec =
     (λ c. omega arith)
     (λ c. omega arith)
     (λ c κs. search needs)
-    slice-write-buf
+    slice-write-buffer
     add-digits
     digits-requires
     (λ c. omega arith)

@@ -10,16 +10,16 @@ use Rattle.lines.proofs.put.Statement.{statement}
 use Rattle.lines.proofs.put.Tie as tie
 
 abbrev Inv-loop : tie.InvT-loop
-Inv-loop word buf₀ at i₀ buf i = Putting word buf₀ at buf i
+Inv-loop word buffer₀ at i₀ buffer i = Putting word buffer₀ at buffer i
 
 abbrev μ-loop : tie.MeasureT-loop
-μ-loop word buf₀ at i₀ buf i = length word - i
+μ-loop word buffer₀ at i₀ buffer i = length word - i
 
 loop-holds : tie.Need-loop-holds Inv-loop μ-loop
 loop-holds c = record { within = omega arith; long = refl; left = simp add-zero }
 
-slice-write-buf : tie.Need-slice-write-buf Inv-loop μ-loop
-slice-write-buf c = omega (arith, c .before .before .loop .inv .long)
+slice-write-buffer : tie.Need-slice-write-buffer Inv-loop μ-loop
+slice-write-buffer c = omega (arith, c .before .before .loop .inv .long)
 
 loop-again : tie.Need-loop-again Inv-loop μ-loop
 loop-again c = putting-next (c .before .before .loop .inv) (c .before .loop-test .taken)
@@ -39,7 +39,7 @@ put-spec =
     loop-holds
     (λ c. omega arith)
     (λ c. omega arith)
-    slice-write-buf
+    slice-write-buffer
     (λ c. omega arith)
     (λ c. omega arith)
     loop-again

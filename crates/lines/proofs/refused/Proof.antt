@@ -29,7 +29,7 @@ returns c =
     let d = p .before .before .before .before .before in
     let h = d .before .before .before .before in
     let s = h .before .before .before .before in
-    let a = wrote (s .args .buf .now) refused (h .put .ensures .0) (h .put .ensures .1) in
+    let a = wrote (s .args .buffer .now) refused (h .put .ensures .0) (h .put .ensures .1) in
     let b = wrote-more (decimalOf (s .args .number)) a (d .digits .ensures .0) (d .digits .ensures .1) in
     let w = wrote-more feed b (p .put2 .ensures .0) (p .put2 .ensures .1) in
     (w .count, w .all)

@@ -16,7 +16,7 @@ returns c =
     let e = p .before .before .before .before .before in
     let h = e .before .before .before .before in
     let s = h .before .before .before .before .before in
-    let w = wrote-more feed (wrote-more (spacedOf (s .args .list .now)) (wrote (s .args .buf .now) shape (h .put .ensures .0) (h .put .ensures .1)) (e .entries .ensures .0 .0) (e .entries .ensures .1)) (p .put2 .ensures .0) (p .put2 .ensures .1) in
+    let w = wrote-more feed (wrote-more (spacedOf (s .args .list .now)) (wrote (s .args .buffer .now) shape (h .put .ensures .0) (h .put .ensures .1)) (e .entries .ensures .0 .0) (e .entries .ensures .1)) (p .put2 .ensures .0) (p .put2 .ensures .1) in
     (w .count, w .all)
 
 pub shape-spec : {M : Type 1} → statement M

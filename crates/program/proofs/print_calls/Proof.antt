@@ -2,7 +2,7 @@
 use Prim.Native.Nat.{_-_}
 use mathlib.Core.Path.{sym}
 use native.Mathlib.Omega.{arith}
-use Rattle.program.proofs.PrintLaws.{Printing, printing, printing-next, printed, Lined, lined}
+use Rattle.program.proofs.PrintLaws.{Printing, printing, printing-next, stopped, finished, Lined, lined}
 use borrow.Author.Needs.{needs}
 use Rattle.program.proofs.print_calls.Statement.{statement}
 use Rattle.program.proofs.print_calls.Tie as tie
@@ -13,36 +13,30 @@ Inv-loop file opened out₀ puzzle₀ at₀ done₀ out puzzle at done = Printin
 abbrev μ-loop : tie.MeasureT-loop
 μ-loop file opened out₀ puzzle₀ at₀ done₀ out puzzle at done = opened .count - done
 
+-- a turn: its calls are run, and their line is printed
+abbrev turn : tie.After-run-calls Inv-loop μ-loop → tie.Then1 Inv-loop μ-loop
+turn c = c .before .before
+
+abbrev ran : tie.After-print Inv-loop μ-loop → tie.After-run-calls Inv-loop μ-loop
+ran c = c .before .before .before
+
 loop-holds : tie.Need-loop-holds Inv-loop μ-loop
 loop-holds c = let a = c .before .before .before .args in printing (a .opened .puzzle) (a .file .now) (a .opened .at) (a .opened .count) (c .before .large-buffer .result) (sym (c .before .large-buffer .ensures))
-
-slice-aggregate-run-calls : tie.Need-slice-aggregate-run-calls Inv-loop μ-loop
-slice-aggregate-run-calls c = sym (c .before .before .before .loop .inv .long)
 
 -- the line that a call left in the buffer
 line-in : (c : tie.After-run-calls Inv-loop μ-loop) → Lined (c .run-calls .result .len) (c .run-calls .last .1 .1 .1 .1 .0)
 line-in c = lined (c .run-calls .result .len) (c .run-calls .last .1 .1 .1 .1 .0) (omega (arith, c .run-calls .ensures .1 .1, c .run-calls .kept .1 .1 .1 .1 .0))
 
-array-share-prefix-out : tie.Need-array-share-prefix-out Inv-loop μ-loop
-array-share-prefix-out c = line-in (c .before) .within
-
-slice-aggregate-write-all : tie.Need-slice-aggregate-write-all Inv-loop μ-loop
-slice-aggregate-write-all c = line-in (c .before .before) .long
-
-add-done : tie.Need-add-done Inv-loop μ-loop
-add-done c = let t = c .before .before .before .before .before .before in omega (arith, t .if1 .taken)
+returns : tie.Need-returns Inv-loop μ-loop
+returns c = stopped (turn (ran (c .before)) .before .before .loop .inv)
 
 loop-less : tie.Need-loop-less Inv-loop μ-loop
-loop-less c = let t = c .before .before .before .before .before .before in omega (arith, t .if1 .taken)
+loop-less c = omega (arith, turn (ran (c .before .before)) .if1 .taken)
 
 loop-again : tie.Need-loop-again Inv-loop μ-loop
 loop-again c =
-    let k = c .before .before .before .before in
-    let t = k .before .before in
-    printing-next (t .before .before .loop .inv) (k .run-calls .result) (k .run-calls .last .1 .1 .1 .1 .0) (t .if1 .taken) (k .run-calls .ensures .0) (k .run-calls .kept .1 .1 .1 .1 .0)
-
-returns : tie.Need-returns Inv-loop μ-loop
-returns c = printed (c .before .before .loop .inv) (c .if1 .left)
+    let k = ran (c .before .before) in
+    printing-next (turn k .before .before .loop .inv) (k .run-calls .result) (k .run-calls .last .1 .1 .1 .1 .0) (turn k .if1 .taken) (k .run-calls .ensures .0) (k .run-calls .kept .1 .1 .1 .1 .0)
 
 pub print-calls-spec : {M : Type 1} → statement M
 print-calls-spec =
@@ -52,12 +46,13 @@ print-calls-spec =
     μ-loop
     (λ c κs. search needs)
     loop-holds
-    slice-aggregate-run-calls
+    (λ c. sym (c .before .before .before .loop .inv .long))
     (λ c κs. search needs)
-    array-share-prefix-out
-    slice-aggregate-write-all
+    (λ c. line-in (c .before) .within)
+    (λ c. line-in (c .before .before) .long)
     (λ c κs. search needs)
-    add-done
+    returns
+    (λ c. omega (arith, turn (ran (c .before .before)) .if1 .taken))
     loop-less
     loop-again
-    returns)
+    (λ c. finished (c .before .before .loop .inv) (c .if1 .left)))

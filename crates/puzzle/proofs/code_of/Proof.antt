@@ -86,7 +86,7 @@ holds-requires c κs =
     let n = c .before .before .before .before .before in
     let short = rw (n .border-count .ensures) at (c .before .before .before .before .if5 .left) in
     rw (c .before .before .put .ensures, n .border-count .ensures)
-    (marks-lent (p .given) (p .«given_len») w (bordersOf (p .board)) (p .board .len) (p .board .states) (p .board .ledger) (borderCount-le (gridOf p) (limits (gridOf p) ok)) short (s .pre .0 .states-long) (s .pre .0 .names-long))
+    (marks-lent (p .given) (p .«given_len») w (bordersOf (p .board)) (p .board .book .len) (p .board .book .states) (p .board .book .names) (borderCount-le (gridOf p) (limits (gridOf p) ok)) short (s .pre .0 .states-long) (s .pre .0 .names-long))
 
 returns-6 : tie.Need-returns-6
 unfolding unmarked
@@ -98,7 +98,7 @@ returns-6 c =
     let w = walls-fit p (limits (gridOf p) ok) (c .before .before .before .before .before .before .before .before .before .before .before .before .before .before .before .before .before .before .before .before .before .if2 .left) z (s .pre .0 .given-long) in
     let n = c .before .before .before .before .before .before .before .before in
     let short = rw (n .border-count .ensures) at (c .before .before .before .before .before .before .before .if5 .left) in
-    let t = by-marks (bordersOf (p .board)) (n .border-count .result) (givenOf p) (p .board .states) (namesOf (p .board)) (puts (givenOf p) 1 unmarked) (c .before .before .holds .result) (n .border-count .ensures) (marks-given (p .given) (p .«given_len») w) (rw (c .before .before .before .before .before .put .ensures) at (c .before .before .holds .ensures)) in
+    let t = by-marks (bordersOf (p .board)) (n .border-count .result) (givenOf p) (p .board .book .states) (namesOf (p .board)) (puts (givenOf p) 1 unmarked) (c .before .before .holds .result) (n .border-count .ensures) (marks-given (p .given) (p .«given_len») w) (rw (c .before .before .before .before .before .put .ensures) at (c .before .before .holds .ensures)) in
     (by-ledger p ok (c .before .before .before .before .before .before .before .before .before .before .before .before .before .before .before .before .before .before .before .before .before .if2 .left) (c .before .before .before .before .before .before .before .before .before .before .before .before .before .before .before .before .before .before .before .before .if3 .left) z short true (t ∙ c .if6 .taken), λ q. c .before .before .before .before .before .before .before .before .before .before .before .before .before .before .before .before .lists-code .ensures .1 (c .before .before .before .before .before .before .before .before .before .if4 .left))
 
 returns-7 : tie.Need-returns-7
@@ -111,7 +111,7 @@ returns-7 c =
     let w = walls-fit p (limits (gridOf p) ok) (c .before .before .before .before .before .before .before .before .before .before .before .before .before .before .before .before .before .before .before .before .before .if2 .left) z (s .pre .0 .given-long) in
     let n = c .before .before .before .before .before .before .before .before in
     let short = rw (n .border-count .ensures) at (c .before .before .before .before .before .before .before .if5 .left) in
-    let t = by-marks (bordersOf (p .board)) (n .border-count .result) (givenOf p) (p .board .states) (namesOf (p .board)) (puts (givenOf p) 1 unmarked) (c .before .before .holds .result) (n .border-count .ensures) (marks-given (p .given) (p .«given_len») w) (rw (c .before .before .before .before .before .put .ensures) at (c .before .before .holds .ensures)) in
+    let t = by-marks (bordersOf (p .board)) (n .border-count .result) (givenOf p) (p .board .book .states) (namesOf (p .board)) (puts (givenOf p) 1 unmarked) (c .before .before .holds .result) (n .border-count .ensures) (marks-given (p .given) (p .«given_len») w) (rw (c .before .before .before .before .before .put .ensures) at (c .before .before .holds .ensures)) in
     (by-ledger p ok (c .before .before .before .before .before .before .before .before .before .before .before .before .before .before .before .before .before .before .before .before .before .if2 .left) (c .before .before .before .before .before .before .before .before .before .before .before .before .before .before .before .before .before .before .before .before .if3 .left) z short false (t ∙ c .if6 .left), λ q. absurd (let z : _≡_ {A = ℕ} 2 0 = q in omega arith))
 
 pub code-of-spec : {M : Type 1} → statement M

@@ -19,18 +19,18 @@ given-long s = search needs
 clues-long : (s : tie.Start) → length (s .args .t1 .clues) ≡ 1024
 clues-long s = search needs
 
-states-long : (s : tie.Start) → length (s .args .t1 .board .states) ≡ 1984
+states-long : (s : tie.Start) → length (s .args .t1 .board .book .states) ≡ 1984
 states-long s = search needs
 
-ledger-long : (s : tie.Start) → length (s .args .t1 .board .ledger) ≡ 1984
+ledger-long : (s : tie.Start) → length (s .args .t1 .board .book .names) ≡ 1984
 ledger-long s = search needs
 
 parts-code-requires : tie.Need-parts-code-requires
-parts-code-requires c κs = let s = c .before .before .before .before .before .before .before .before .before in record { states-long = states-long s; names-long = ledger-long s; given-long = given-long s; clues-long = clues-long s }
+parts-code-requires c κs = let s = c .before .before .before .before .before .before .before .before .before .before .before in record { states-long = states-long s; names-long = ledger-long s; given-long = given-long s; clues-long = clues-long s }
 
 returns : tie.Need-returns
 returns c =
-    let s = c .before .before .before .before .before .before .before .before .before .before .before in
+    let s = c .before .before .before .before .before .before .before .before .before .before .before .before .before in
     let p = s .args .t1 in
     let k = c .before in
     let code = k .parts-code .result in
@@ -39,56 +39,56 @@ returns c =
 
 border-count-requires : tie.Need-border-count-requires
 border-count-requires c κs =
-    let s = c .before .before .before .before .before .before .before .before .before .before .before .before in
+    let s = c .before .before .before .before .before .before .before .before .before .before .before .before .before in
     let p = s .args .t1 in
-    let k = c .before .before in
+    let k = c .before in
     let code = k .parts-code .result in
     let q = k .parts-code .ensures in
-    let z = c .before .if1 .left in
+    let z = c .if1 .left in
     let r = ready p (sym q ∙ z) in
     r .limits
 
 returns-2 : tie.Need-returns-2
 returns-2 c =
-    let s = c .before .before .before .before .before .before .before .before .before .before .before .before .before .before in
+    let s = c .before .before .before .before .before .before .before .before .before .before .before .before .before .before .before in
     let p = s .args .t1 in
-    let k = c .before .before .before .before in
+    let k = c .before .before .before in
     let code = k .parts-code .result in
     let q = k .parts-code .ensures in
-    let z = c .before .before .before .if1 .left in
+    let z = c .before .before .if1 .left in
     no-border p code q z (s .args .border) (s .args .wall) (rw (c .before .border-count .ensures) at (c .if2 .taken))
 
 element-copy-out-if3 : tie.Need-element-copy-out-if3
 element-copy-out-if3 c =
-    let s = c .before .before .before .before .before .before .before .before .before .before .before .before .before .before in
+    let s = c .before .before .before .before .before .before .before .before .before .before .before .before .before .before .before in
     let p = s .args .t1 in
-    let k = c .before .before .before .before in
+    let k = c .before .before .before in
     let code = k .parts-code .result in
     let q = k .parts-code .ensures in
-    let z = c .before .before .before .if1 .left in
+    let z = c .before .before .if1 .left in
     let h : s .args .border < bordersOf (p .board) = rw (c .before .border-count .ensures) at (c .if2 .left) in
     let r = ready p (sym q ∙ z) in
     omega (arith, borderCount-le (gridOf p) (r .limits))
 
 returns-3 : tie.Need-returns-3
 returns-3 c =
-    let s = c .before .before .before .before .before .before .before .before .before .before .before .before .before .before .before .before in
+    let s = c .before .before .before .before .before .before .before .before .before .before .before .before .before .before .before .before .before in
     let p = s .args .t1 in
-    let k = c .before .before .before .before .before .before in
+    let k = c .before .before .before .before .before in
     let code = k .parts-code .result in
     let q = k .parts-code .ensures in
-    let z = c .before .before .before .before .before .if1 .left in
+    let z = c .before .before .before .before .if1 .left in
     let h : s .args .border < bordersOf (p .board) = rw (c .before .before .before .border-count .ensures) at (c .before .before .if2 .left) in
     not-free p code q z (s .args .border) (s .args .wall) h (c .if3 .taken)
 
 place-requires : tie.Need-place-requires
 place-requires c κs =
-    let s = c .before .before .before .before .before .before .before .before .before .before .before .before .before .before .before .before in
+    let s = c .before .before .before .before .before .before .before .before .before .before .before .before .before .before .before .before .before in
     let p = s .args .t1 in
-    let k = c .before .before .before .before .before .before in
+    let k = c .before .before .before .before .before in
     let code = k .parts-code .result in
     let q = k .parts-code .ensures in
-    let z = c .before .before .before .before .before .if1 .left in
+    let z = c .before .before .before .before .if1 .left in
     let h : s .args .border < bordersOf (p .board) = rw (c .before .before .before .border-count .ensures) at (c .before .before .if2 .left) in
     let r = ready p (sym q ∙ z) in
     let long = ledger-long s in
@@ -96,12 +96,12 @@ place-requires c κs =
 
 returns-4 : tie.Need-returns-4
 returns-4 c =
-    let s = c .before .before .before .before .before .before .before .before .before .before .before .before .before .before .before .before .before .before in
+    let s = c .before .before .before .before .before .before .before .before .before .before .before .before .before .before .before .before .before .before .before in
     let p = s .args .t1 in
-    let k = c .before .before .before .before .before .before .before .before in
+    let k = c .before .before .before .before .before .before .before in
     let code = k .parts-code .result in
     let q = k .parts-code .ensures in
-    let z = c .before .before .before .before .before .before .before .if1 .left in
+    let z = c .before .before .before .before .before .before .if1 .left in
     let h : s .args .border < bordersOf (p .board) = rw (c .before .before .before .before .before .border-count .ensures) at (c .before .before .before .before .if2 .left) in
     ap (answer 0) (c .onto .ensures ∙ ap (onto p) (c .before .place .ensures)) ∙ decided p code q z (s .args .border) (s .args .wall) h (c .before .before .if3 .left)
 

@@ -1,6 +1,6 @@
 -- `puzzle::fresh` meets its contract: the lists stand at the fronts of their arrays. Assumes nothing.
 use denote.Ref.{now}
-use Rattle.board.specs.Board.{zeros}
+use Rattle.ledger.specs.Books.{zeros}
 use Rattle.puzzle.specs.Puzzle.{noClues}
 use Rattle.puzzle.proofs.Making.{puzzle-is}
 use borrow.Author.Needs.{needs}

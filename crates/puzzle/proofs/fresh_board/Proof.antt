@@ -1,7 +1,7 @@
 -- `puzzle::fresh_board` meets its contract: Wall at each given wall, and nothing else. Assumes nothing.
 use mathlib.Core.Path.{_∙_}
 use denote.Ref.{now}
-use Rattle.board.specs.Board.{zeros}
+use Rattle.ledger.specs.Books.{zeros}
 use Rattle.rooms.specs.Lent.{unmarked}
 use Rattle.puzzle.proofs.Making.{fresh-states, board-is}
 use borrow.Author.Needs.{needs}

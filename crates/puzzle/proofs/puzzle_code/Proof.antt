@@ -12,10 +12,10 @@ given-long s = search needs
 clues-long : (s : tie.Start) → length (s .args .t1 .clues) ≡ 1024
 clues-long s = search needs
 
-states-long : (s : tie.Start) → length (s .args .t1 .board .states) ≡ 1984
+states-long : (s : tie.Start) → length (s .args .t1 .board .book .states) ≡ 1984
 states-long s = search needs
 
-ledger-long : (s : tie.Start) → length (s .args .t1 .board .ledger) ≡ 1984
+ledger-long : (s : tie.Start) → length (s .args .t1 .board .book .names) ≡ 1984
 ledger-long s = search needs
 
 parts-code-requires : tie.Need-parts-code-requires

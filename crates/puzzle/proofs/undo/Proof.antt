@@ -18,10 +18,10 @@ given-long s = search needs
 clues-long : (s : tie.Start) → length (s .args .t1 .clues) ≡ 1024
 clues-long s = search needs
 
-states-long : (s : tie.Start) → length (s .args .t1 .board .states) ≡ 1984
+states-long : (s : tie.Start) → length (s .args .t1 .board .book .states) ≡ 1984
 states-long s = search needs
 
-ledger-long : (s : tie.Start) → length (s .args .t1 .board .ledger) ≡ 1984
+ledger-long : (s : tie.Start) → length (s .args .t1 .board .book .names) ≡ 1984
 ledger-long s = search needs
 
 parts-code-requires : tie.Need-parts-code-requires
@@ -56,7 +56,7 @@ take-back-requires c κs =
     let z = c .before .before .before .if1 .left in
     let r = ready p (sym q ∙ z) in
     let long = ledger-long s in
-    let some : 0 < p .board .len = omega (arith, c .if2 .left) in
+    let some : 0 < p .board .book .len = omega (arith, c .if2 .left) in
     let n = borderCount-le (gridOf p) (r .limits) in
     (some, omega (arith, r .short), omega (arith, last-name p r long some))
 

@@ -1,6 +1,6 @@
 -- `puzzle::unmade` meets its contract: all its arrays are zeros. Assumes nothing.
 use mathlib.Core.Path.{refl}
-use Rattle.board.specs.Board.{zeros}
+use Rattle.ledger.specs.Books.{zeros}
 use Rattle.puzzle.specs.Puzzle.{noClues}
 use Rattle.puzzle.proofs.unmade.Statement.{statement}
 use Rattle.puzzle.proofs.unmade.Tie as tie

@@ -1,6 +1,6 @@
 -- `shape_check::shape_fault` meets its contract: the units in its arrays, and the two stages. Assumes nothing.
 use Rattle.groups.specs.Info.{blankPlaces}
-use Rattle.adjacency.proofs.TurnLaws.{arrays-lent, ids-fit, ids-part}
+use Rattle.groups.proofs.Theorems.{arrays-lent, ids-fit, ids-part}
 use Rattle.shape_check.proofs.ShapeLaws.{inner-asked, inner-fault, staged, units-told}
 use borrow.Author.Needs.{needs}
 use Rattle.shape_check.proofs.shape_fault.Statement.{statement}

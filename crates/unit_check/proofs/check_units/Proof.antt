@@ -1,6 +1,6 @@
 -- `unit_check::check_units` meets its contract: the check by short arrays or by long ones, over the potential units. Assumes nothing.
 use Rattle.groups.specs.Info.{blankPlaces}
-use Rattle.adjacency.proofs.TurnLaws.{arrays-lent, ids-fit, ids-part}
+use Rattle.groups.proofs.Theorems.{arrays-lent, ids-fit, ids-part}
 use Rattle.unit_check.proofs.PotentialLaws.{board-fits, potentials, told}
 use borrow.Author.Needs.{needs}
 use Rattle.unit_check.proofs.check_units.Statement.{statement}

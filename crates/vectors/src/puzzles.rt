@@ -1,0 +1,91 @@
+// Calls on a puzzle: make (its given walls and clues wait in two queues), decide, undo and ask; its board's record.
+use crate::queue;
+use crate::queue::Queue;
+use crate::say;
+use crate::script::Command;
+use answers::Plain;
+use puzzle::Answer;
+use puzzle::Check;
+use puzzle::Made;
+use puzzle::Puzzle;
+
+fn kept(m: Made) -> Puzzle {
+    say::code(m.code);
+    m.puzzle
+}
+
+pub fn make(height: usize, width: usize, first: Queue, second: Queue) -> Puzzle {
+    let given = first.items;
+    let clues = second.items;
+    let m = queue::within(&given, first.len);
+    let n = queue::within(&clues, second.len);
+    kept(puzzle::make(height, width, &given[..m], &clues[..n]))
+}
+
+// Which check found a fault.
+fn say_check(check: Check) {
+    match check {
+        Check::Shape => say::text(b"shape "),
+        Check::Room(room) => {
+            say::text(b"room ");
+            say::number(room);
+            say::text(b" ");
+        }
+    }
+}
+
+fn of_answer(answer: Answer) -> Plain {
+    match answer {
+        Answer::Clear => Plain {
+            code: 0,
+            fault: false,
+            length: 0,
+        },
+        Answer::Fault(check, length) => {
+            say_check(check);
+            Plain {
+                code: 0,
+                fault: true,
+                length,
+            }
+        }
+        Answer::Refused(code) => Plain {
+            code,
+            fault: false,
+            length: 0,
+        },
+    }
+}
+
+// An ask that is lent so many places.
+fn ask_lent(p: Puzzle, places: usize, buffer: &mut [u16]) -> Plain {
+    let n = queue::within(buffer, places);
+    of_answer(puzzle::ask(p, &mut buffer[..n]))
+}
+
+fn ask(p: Puzzle, places: usize) {
+    let mut buffer = [0u16; 9216];
+    let a = ask_lent(p, places, &mut buffer);
+    say::plain(a, &buffer);
+}
+
+fn say_record(p: Puzzle, n: usize) {
+    let b = p.board;
+    say::record(&b.book.states, n, &b.book.names, b.book.len);
+}
+
+pub fn call(p: Puzzle, c: Command) -> Puzzle {
+    let call = c.call;
+    match call {
+        b'd' => kept(puzzle::decide(p, c.x, c.y == 2)),
+        b'u' => kept(puzzle::undo(p)),
+        b'r' => {
+            say_record(p, c.x);
+            p
+        }
+        _ => {
+            ask(p, c.x);
+            p
+        }
+    }
+}
