@@ -213,7 +213,7 @@ SENDAI_LAYOUT(SendaiPlace, 24, border, 16);
 SENDAI_LAYOUT(SendaiPlace, 24, ends, 1);
 SENDAI_LAYOUT(SendaiPlace, 24, cell, 8);
 
-/* A list of this length in the buffer, which no fault stands behind. */
+/* A list of this length in the buffer; of an ask: clear, or a fault with such a list. */
 typedef struct SendaiAnswer {
     uint8_t code;
     bool fault;
@@ -221,22 +221,6 @@ typedef struct SendaiAnswer {
 } SendaiAnswer;
 SENDAI_LAYOUT(SendaiAnswer, 16, length, 8);
 SENDAI_LAYOUT(SendaiAnswer, 16, fault, 1);
-
-/* A list of this length in the buffer. */
-typedef struct SendaiListing {
-    uint8_t code;
-    size_t length;
-} SendaiListing;
-SENDAI_LAYOUT(SendaiListing, 16, length, 8);
-
-/* Clear, or a fault with a list of this length in the buffer. */
-typedef struct SendaiVerdict {
-    uint8_t code;
-    bool fault;
-    size_t length;
-} SendaiVerdict;
-SENDAI_LAYOUT(SendaiVerdict, 16, length, 8);
-SENDAI_LAYOUT(SendaiVerdict, 16, fault, 1);
 
 /* What a puzzle's ask answered: its kind; of a refusal the code, of a room's fault the room, of a fault the list's length. */
 typedef struct SendaiOutcome {
@@ -326,7 +310,7 @@ uint8_t sendai_board_decide_in_place(SendaiBoard *board, size_t border, bool wal
 uint8_t sendai_board_undo_in_place(SendaiBoard *board);
 
 /* The shape check: clear, or a fault whose listed borders can't all hold. Refused: 1, 2, 6 (9*h*w entries). */
-SendaiVerdict sendai_board_ask(SendaiBoard board, uint16_t *buffer, size_t buffer_length);
+SendaiAnswer sendai_board_ask(SendaiBoard board, uint16_t *buffer, size_t buffer_length);
 
 /* Each cell's group and each group's start; the cells of all groups, in turn, go to the buffer's first h*w places. Units are joined by
  * Connected borders, potential units also by undecided ones. Refused: 1, 2, 6 (h*w cells), with a record of zeros. */
@@ -338,13 +322,13 @@ size_t sendai_group(SendaiGroupInfo info, const uint16_t *buffer, size_t buffer_
 
 /* The list of the Connected borders that lead from target back to start, as a first-in first-out search from start finds them.
  * Refused: 1, 2, 3, 6 (9*h*w entries), 10. */
-SendaiListing sendai_path(SendaiBoard board, size_t start, size_t target, uint16_t *buffer, size_t buffer_length);
+SendaiAnswer sendai_path(SendaiBoard board, size_t start, size_t target, uint16_t *buffer, size_t buffer_length);
 
 /* The list of a unit's Connected borders and its Walls, by the unit's number as sendai_groups numbers it. Refused: 1, 2, 3, 6 (9*h*w entries). */
-SendaiListing sendai_unit_boundary(SendaiBoard board, size_t unit, uint16_t *buffer, size_t buffer_length);
+SendaiAnswer sendai_unit_boundary(SendaiBoard board, size_t unit, uint16_t *buffer, size_t buffer_length);
 
 /* The list of a potential unit's Walls to other potential units. Refused: 1, 2, 3, 6 (9*h*w entries). */
-SendaiListing sendai_potential_unit_boundary(SendaiBoard board, size_t unit, uint16_t *buffer, size_t buffer_length);
+SendaiAnswer sendai_potential_unit_boundary(SendaiBoard board, size_t unit, uint16_t *buffer, size_t buffer_length);
 
 /* ---- Puzzles ---- */
 
@@ -386,7 +370,7 @@ SendaiRoomAnswer sendai_room_decide(SendaiRoom room, size_t edge, bool wall);
 SendaiRoomAnswer sendai_room_undo(SendaiRoom room);
 
 /* The room count: clear, or a fault whose listed edges can't all hold. Refused: 1, 2, 6 (as many entries as edges). */
-SendaiVerdict sendai_room_ask(SendaiRoom room, uint16_t *buffer, size_t buffer_length);
+SendaiAnswer sendai_room_ask(SendaiRoom room, uint16_t *buffer, size_t buffer_length);
 
 /* ---- Unions ---- */
 
@@ -402,7 +386,7 @@ SendaiUnited sendai_union_unite(SendaiUnion parts, size_t x, size_t y);
 /* ---- Hand-over ---- */
 
 /* The entries, rising, each once: what a clause learner reads. Refused: 6 (as many entries as the input has). */
-SendaiListing sendai_hand_over(const uint16_t *entries, size_t entries_length, uint16_t *buffer, size_t buffer_length);
+SendaiAnswer sendai_hand_over(const uint16_t *entries, size_t entries_length, uint16_t *buffer, size_t buffer_length);
 
 /* ---- Case files, in the format of the README ---- */
 

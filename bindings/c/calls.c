@@ -51,7 +51,7 @@ static void lists(void) {
     SendaiBoard board = sendai_board_make(1, 3).board;
     sendai_board_decide_in_place(&board, 0, true);
     sendai_board_decide_in_place(&board, 1, false);
-    SendaiVerdict verdict = sendai_board_ask(board, list, 27);
+    SendaiAnswer verdict = sendai_board_ask(board, list, 27);
     CHECK(verdict.code == SENDAI_ACCEPTED && verdict.fault && is(verdict.length, fault, 5));
     CHECK(is(sendai_path(board, 2, 1, list, 27).length, path, 1));
     CHECK(sendai_path(board, 0, 1, list, 27).code == SENDAI_NOT_JOINED);
@@ -92,7 +92,7 @@ static void rooms(void) {
     SendaiRoom same = sendai_room_make_of_edges(3, edges, 2, 1).room;
     CHECK(same.vertices == 3 && same.edges == 2 && same.us[1] == 1 && same.vs[1] == 2 && same.count == 1);
     room = sendai_room_decide(room, 0, true).room;
-    SendaiVerdict verdict = sendai_room_ask(room, list, 2);
+    SendaiAnswer verdict = sendai_room_ask(room, list, 2);
     CHECK(verdict.code == SENDAI_ACCEPTED && verdict.fault && is(verdict.length, fault, 1));
     CHECK(sendai_room_ask(room, list, 1).code == SENDAI_SHORT_BUFFER);
     CHECK(sendai_room_undo(room).room.book.len == 0);

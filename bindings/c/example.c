@@ -32,7 +32,7 @@ int main(void) {
     if (outcome.kind != SENDAI_SHAPE_FAULT) return 1;
     print("shape, as listed", list, outcome.length);
 
-    SendaiListing over = sendai_hand_over(list, outcome.length, handed, SENDAI_MAX_LIST);
+    SendaiAnswer over = sendai_hand_over(list, outcome.length, handed, SENDAI_MAX_LIST);
     if (over.code != SENDAI_ACCEPTED) return 1;
     print("handed over", handed, over.length);
     for (size_t i = 0; i < over.length; i++)

@@ -173,15 +173,9 @@ mod c {
     }
 
     #[repr(C)]
-    pub struct Verdict {
+    pub struct Answer {
         pub code: u8,
         pub fault: bool,
-        pub length: usize,
-    }
-
-    #[repr(C)]
-    pub struct Listing {
-        pub code: u8,
         pub length: usize,
     }
 
@@ -222,7 +216,7 @@ mod c {
             count: u32,
         ) -> RoomDecided;
         pub fn sendai_room_make_of_edges(vertices: usize, edges: *const Edge, length: usize, count: u32) -> RoomDecided;
-        pub fn sendai_room_ask(room: CityCountConstraint, buffer: *mut u16, room_for: usize) -> Verdict;
+        pub fn sendai_room_ask(room: CityCountConstraint, buffer: *mut u16, room_for: usize) -> Answer;
         pub fn sendai_groups(board: Board, potential: bool, buffer: *mut u16, room: usize) -> Grouping;
         pub fn sendai_group(
             info: GroupInfo,
@@ -232,11 +226,11 @@ mod c {
             out: *mut u16,
             room: usize,
         ) -> usize;
-        pub fn sendai_path(board: Board, start: usize, target: usize, buffer: *mut u16, room: usize) -> Listing;
-        pub fn sendai_unit_boundary(board: Board, unit: usize, buffer: *mut u16, room: usize) -> Listing;
-        pub fn sendai_potential_unit_boundary(board: Board, unit: usize, buffer: *mut u16, room: usize) -> Listing;
-        pub fn sendai_board_ask(board: Board, buffer: *mut u16, room: usize) -> Verdict;
-        pub fn sendai_hand_over(entries: *const u16, length: usize, buffer: *mut u16, room: usize) -> Listing;
+        pub fn sendai_path(board: Board, start: usize, target: usize, buffer: *mut u16, room: usize) -> Answer;
+        pub fn sendai_unit_boundary(board: Board, unit: usize, buffer: *mut u16, room: usize) -> Answer;
+        pub fn sendai_potential_unit_boundary(board: Board, unit: usize, buffer: *mut u16, room: usize) -> Answer;
+        pub fn sendai_board_ask(board: Board, buffer: *mut u16, room: usize) -> Answer;
+        pub fn sendai_hand_over(entries: *const u16, length: usize, buffer: *mut u16, room: usize) -> Answer;
         pub fn sendai_case_open(file: *const u8, length: usize) -> Opened;
         pub fn sendai_case_run(
             file: *const u8,
@@ -257,7 +251,7 @@ mod c {
             count: usize,
             out: *mut u16,
             room: usize,
-        ) -> Verdict;
+        ) -> Answer;
         pub fn sendai_line(
             kind: u8,
             number: usize,
@@ -265,7 +259,7 @@ mod c {
             length: usize,
             buffer: *mut u8,
             room: usize,
-        ) -> Verdict;
+        ) -> Answer;
     }
 }
 
@@ -389,7 +383,7 @@ impl Union {
 const UNTOUCHED: u16 = 0xbeef;
 
 /// Lends a buffer of so many places to a call, and takes out the list that it wrote; the other places must be untouched.
-fn listed(room: usize, call: impl FnOnce(*mut u16, usize) -> c::Listing) -> Result<Vec<u16>, u8> {
+fn listed(room: usize, call: impl FnOnce(*mut u16, usize) -> c::Answer) -> Result<Vec<u16>, u8> {
     let mut buffer = vec![UNTOUCHED; room];
     let listing = call(buffer.as_mut_ptr(), room);
     let used = if listing.code == 0 { listing.length } else { 0 };
@@ -399,12 +393,12 @@ fn listed(room: usize, call: impl FnOnce(*mut u16, usize) -> c::Listing) -> Resu
 }
 
 /// The same for an ask: none where it is clear, else the fault's list.
-fn judged(room: usize, call: impl FnOnce(*mut u16, usize) -> c::Verdict) -> Result<Option<Vec<u16>>, u8> {
+fn judged(room: usize, call: impl FnOnce(*mut u16, usize) -> c::Answer) -> Result<Option<Vec<u16>>, u8> {
     let mut fault = false;
     let list = listed(room, |buffer, places| {
-        let verdict = call(buffer, places);
-        fault = verdict.fault;
-        c::Listing { code: verdict.code, length: verdict.length }
+        let answer = call(buffer, places);
+        fault = answer.fault;
+        answer
     });
     list.map(|list| fault.then_some(list))
 }
@@ -436,8 +430,9 @@ impl Grouping {
     /// The cells that are handed out for a group.
     pub fn group(&self, group: usize) -> Vec<u16> {
         let (from, length) = (self.cells.as_ptr(), self.cells.len());
-        let call = |out, room| c::Listing {
+        let call = |out, room| c::Answer {
             code: 0,
+            fault: false,
             // both slices live through the call, and neither overlaps the other
             length: unsafe { c::sendai_group(self.info, from, length, group, out, room) },
         };

@@ -162,13 +162,13 @@ pub fn neighbour(height: usize, width: usize, cell: usize, direction: Direction)
 }
 
 /// The list that a call wrote to the front of the buffer.
-fn listed(told: sys::Listing, buffer: &[u16]) -> Result<&[u16], Refusal> {
+fn listed(told: sys::Answer, buffer: &[u16]) -> Result<&[u16], Refusal> {
     accepted(told.code)?;
     Ok(&buffer[..told.length])
 }
 
 /// The list of a fault, `None` where the answer is clear.
-fn judged(told: sys::Verdict, buffer: &[u16]) -> Result<Option<&[u16]>, Refusal> {
+fn judged(told: sys::Answer, buffer: &[u16]) -> Result<Option<&[u16]>, Refusal> {
     accepted(told.code)?;
     Ok(told.fault.then(|| &buffer[..told.length]))
 }

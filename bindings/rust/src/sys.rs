@@ -100,15 +100,6 @@ records! {
         fault: bool = 1,
         length: usize = 8,
     }
-    Listing, 16 {
-        code: u8 = 0,
-        length: usize = 8,
-    }
-    Verdict, 16 {
-        code: u8 = 0,
-        fault: bool = 1,
-        length: usize = 8,
-    }
     Outcome, 24 {
         kind: u8 = 0,
         code: u8 = 1,
@@ -158,7 +149,7 @@ unsafe extern "C" {
     pub safe fn sendai_board_undo(board: Board) -> BoardAnswer;
     pub safe fn sendai_board_decide_in_place(board: &mut Board, border: usize, wall: bool) -> u8;
     pub safe fn sendai_board_undo_in_place(board: &mut Board) -> u8;
-    pub fn sendai_board_ask(board: Board, buffer: *mut u16, length: usize) -> Verdict;
+    pub fn sendai_board_ask(board: Board, buffer: *mut u16, length: usize) -> Answer;
     pub fn sendai_groups(board: Board, is_potential: bool, buffer: *mut u16, length: usize) -> Grouping;
     pub fn sendai_group(
         info: GroupInfo,
@@ -168,9 +159,9 @@ unsafe extern "C" {
         out: *mut u16,
         out_length: usize,
     ) -> usize;
-    pub fn sendai_path(board: Board, start: usize, target: usize, buffer: *mut u16, length: usize) -> Listing;
-    pub fn sendai_unit_boundary(board: Board, unit: usize, buffer: *mut u16, length: usize) -> Listing;
-    pub fn sendai_potential_unit_boundary(board: Board, unit: usize, buffer: *mut u16, length: usize) -> Listing;
+    pub fn sendai_path(board: Board, start: usize, target: usize, buffer: *mut u16, length: usize) -> Answer;
+    pub fn sendai_unit_boundary(board: Board, unit: usize, buffer: *mut u16, length: usize) -> Answer;
+    pub fn sendai_potential_unit_boundary(board: Board, unit: usize, buffer: *mut u16, length: usize) -> Answer;
 
     pub fn sendai_puzzle_make(
         height: usize,
@@ -197,13 +188,13 @@ unsafe extern "C" {
     pub safe fn sendai_room_check(room: Room) -> u8;
     pub safe fn sendai_room_decide(room: Room, edge: usize, wall: bool) -> RoomAnswer;
     pub safe fn sendai_room_undo(room: Room) -> RoomAnswer;
-    pub fn sendai_room_ask(room: Room, buffer: *mut u16, length: usize) -> Verdict;
+    pub fn sendai_room_ask(room: Room, buffer: *mut u16, length: usize) -> Answer;
 
     pub safe fn sendai_union_new(n: usize) -> UnionMade;
     pub safe fn sendai_union_find(parts: Union, x: usize) -> Found;
     pub safe fn sendai_union_unite(parts: Union, x: usize, y: usize) -> United;
 
-    pub fn sendai_hand_over(entries: *const u16, length: usize, buffer: *mut u16, buffer_length: usize) -> Listing;
+    pub fn sendai_hand_over(entries: *const u16, length: usize, buffer: *mut u16, buffer_length: usize) -> Answer;
 
     pub fn sendai_case_open(file: *const u8, length: usize) -> Case;
     pub fn sendai_case_run(

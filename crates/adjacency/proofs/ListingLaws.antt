@@ -21,12 +21,11 @@ use Rattle.borders.specs.Border.{stands}
 use Rattle.borders.proofs.BorderLaws.{stands-step}
 use Rattle.boundary.specs.Boundary.{ahead}
 use Rattle.groups.specs.Groups.{cellsOf}
-use Rattle.groups.specs.Info.{endOf, stretch}
-use Rattle.groups.specs.Lent.{InTurn}
+use Rattle.groups.specs.Info.{endOf, groupPart}
 use Rattle.groups.proofs.GroupLaws.{in-cells}
 use Rattle.groups.proofs.InfoLaws.{end-next}
-use Rattle.shape.specs.Shape.{wallTo}
-use Rattle.adjacency.specs.Adjacency.{behind, parted, Looks, Noted, Looked, Written, Unmarked, Listed, Listing, Adjacency, Marking}
+use Rattle.shape.specs.Shape.{behind, parted, wallTo}
+use Rattle.adjacency.specs.Adjacency.{Looks, Noted, Looked, Written, Unmarked, Listed, Listing, Adjacency, Marking}
 
 -- ONE POTENTIAL UNIT
 
@@ -127,35 +126,38 @@ module _ {g : Grid} {states pids : List ℕ} {count : ℕ} {first flat marks₀ 
         list-long = refl;
       }
 
-  module _ {marks starts list : List ℕ} {len p : ℕ} (a : At marks starts list len p) (h : p < count) {from to : ℕ} (from-is : from ≡ getD first p 0) (to-is : to ≡ endOf (cells g) count first p) where
-    pub from-to : from ≤ to
-    from-to = omega (arith, w .turns .between p h .some)
+  module _ {marks starts list : List ℕ} {len p : ℕ} (a : At marks starts list len p) (h : p < count) {cs : List ℕ} (cells-are : cs ≡ groupPart (cells g) count first flat p) where
+    own-cells : cs ≡ cellsOf g pids p
+    own-cells = cells-are ∙ w .turns .between p h .are
 
-    pub to-fits : to ≤ length flat
-    to-fits = omega (arith, w .turns .between p h .within, w .turns .flat-long)
+    to : ℕ
+    to = endOf (cells g) count first p
 
-    pub cells-are : stretch flat from to ≡ cellsOf g pids p
-    cells-are = rw (from-is, to-is) (w .turns .between p h .are)
+    how-many : getD first p 0 + length cs ≡ to
+    unfolding to
+    how-many =
+        let b = w .turns .between p h in
+        let l : length cs ≡ endOf (cells g) count first p - getD first p 0 =
+        ap length cells-are ∙ length-take-le (endOf (cells g) count first p - getD first p 0) (drop (getD first p 0) flat) (simp length-drop (omega (arith, b .within, w .turns .flat-long))) in
+        omega (arith, b .some)
 
-    how-many : length (stretch flat from to) ≡ to - from
-    how-many = length-take-le (to - from) (drop from flat) (simp length-drop (omega (arith, to-fits)))
-
-    pub on-board : (i : ℕ) → i < length (stretch flat from to) → Cell g (getD (stretch flat from to) i 0)
+    pub on-board : (i : ℕ) → i < length cs → Cell g (getD cs i 0)
     on-board i l =
-        let z : i < length (cellsOf g pids p) = rw cells-are at l in
-        rw cells-are (in-cells g pids p (getD (cellsOf g pids p) i 0) (getD-in 0 (cellsOf g pids p) i z) .0)
+        let z : i < length (cellsOf g pids p) = rw own-cells at l in
+        rw own-cells (in-cells g pids p (getD (cellsOf g pids p) i 0) (getD-in 0 (cellsOf g pids p) i z) .0)
 
-    pub looks : Looks g states pids (4 * length (stretch flat from to)) marks list len
+    pub looks : Looks g states pids (4 * length cs) marks list len
+    unfolding to
     looks =
         record {
           limits = w .limits;
           states-long = w .states-long;
           pids-long = w .turns .ids-long;
           small = λ c l. omega (arith, w .turns .small c l, w .marks-long, a .marks-long);
-          room = omega (arith, how-many, a .next-room h, w .turns .between p h .within, w .list-long, a .list-long, from-to);
+          room = omega (arith, how-many, a .next-room h, w .turns .between p h .within, w .list-long, a .list-long);
         }
 
-    module _ {marks' list' : List ℕ} {len' : ℕ} (l : Listed (parted g states pids (stretch flat from to)) (4 * length (stretch flat from to)) marks list len marks' list' len') where
+    module _ {marks' list' : List ℕ} {len' : ℕ} (l : Listed (parted g states pids cs) (4 * length cs) marks list len marks' list' len') where
       starts' : List ℕ
       starts' = set starts (p + 1) len'
 
@@ -168,14 +170,14 @@ module _ {g : Grid} {states pids : List ℕ} {count : ℕ} {first flat marks₀ 
       new = getD-set-same starts (p + 1) len' 0 (omega (arith, a .starts-long, w .starts-long))
 
       upto : len' ≤ 4 * to
-      upto = omega (arith, how-many, a .next-room h, l .most, from-to)
+      upto = omega (arith, how-many, a .next-room h, l .most)
 
       abbrev Has : ℕ → ℕ → Type 0
       Has k q = (i : ℕ) × (getD starts' k 0 ≤ i) × (i < getD starts' (k + 1) 0) × (getD list' i 0 ≡ q)
 
       has-new : (q : ℕ) → parted g states pids (cellsOf g pids p) q ≡ true → Has p q
       has-new q t =
-          let o = l .has q (ap (λ cs. parted g states pids cs q) cells-are ∙ t) in
+          let o = l .has q (ap (λ cs. parted g states pids cs q) own-cells ∙ t) in
           (o .0, rw (old p (omega arith), a .end) (o .1), rw new (o .2), o .3)
 
       all-lists : Adjacency g states pids (p + 1) starts' list'
@@ -196,7 +198,7 @@ module _ {g : Grid} {states pids : List ℕ} {count : ℕ} {first flat marks₀ 
                 let lower : k ≤ p = omega arith in
                 omega (arith, old k lower, new, a .lists .within k lower, a .end, l .more))
                 (eq-or-ne k (p + 1));
-            fits = omega (arith, new, upto, w .turns .between p h .within, w .list-long, a .list-long, l .list-long);
+            fits = unfold to in omega (arith, new, upto, w .turns .between p h .within, w .list-long, a .list-long, l .list-long);
             has = λ k q z t.
                 ⊎-elim
                 (λ (e : k ≡ p). let r : parted g states pids (cellsOf g pids k) q ≡ true → Has k q = rw e (has-new q) in r t)
@@ -209,7 +211,7 @@ module _ {g : Grid} {states pids : List ℕ} {count : ℕ} {first flat marks₀ 
             only = λ k i z x y.
                 ⊎-elim
                 (λ (e : k ≡ p).
-                ap (λ cs. parted g states pids cs (getD list' i 0)) (ap (cellsOf g pids) e ∙ sym cells-are)
+                ap (λ cs. parted g states pids cs (getD list' i 0)) (ap (cellsOf g pids) e ∙ sym own-cells)
                 ∙ l .only i (rw (e, old p (omega arith), a .end) at x) (rw (e, new) at y))
                 (λ (e : k ≢ p).
                 let lower : k < p = omega arith in
@@ -220,7 +222,7 @@ module _ {g : Grid} {states pids : List ℕ} {count : ℕ} {first flat marks₀ 
           }
 
       pub listing-turn : At marks' (set starts (p + 1) len') list' len' (p + 1)
-      unfolding starts'
+      unfolding starts' to
       listing-turn =
           record {
             within = omega arith;
@@ -235,9 +237,9 @@ module _ {g : Grid} {states pids : List ℕ} {count : ℕ} {first flat marks₀ 
           }
 
 -- what marks need of the lists
-pub marking : {g : Grid} {states pids : List ℕ} {count : ℕ} {first flat starts list : List ℕ} → InTurn g pids count first flat → Adjacency g states pids count starts list
+pub marking : {g : Grid} {states pids : List ℕ} {count : ℕ} {starts list : List ℕ} → ((c : ℕ) → Cell g c → getD pids c 0 < count) → Adjacency g states pids count starts list
     → (marks : List ℕ) → count ≤ length marks → (p : ℕ) → p < count → Marking p starts list marks
-marking {g} {states} {pids} {count} {list = list} t a marks long p h =
+marking {g} {states} {pids} {count} {list = list} few a marks long p h =
     record {
       starts-long = omega (arith, a .long);
       rising = a .rising p h;
@@ -245,6 +247,6 @@ marking {g} {states} {pids} {count} {list = list} t a marks long p h =
       small = λ i x y.
           let on : (j : ℕ) → j < length (cellsOf g pids p) → Cell g (getD (cellsOf g pids p) j 0) = λ j l. in-cells g pids p (getD (cellsOf g pids p) j 0) (getD-in 0 (cellsOf g pids p) j l) .0 in
           let o = parted-cell g states pids (cellsOf g pids p) on (getD list i 0) (a .only p i h x y) in
-          omega (arith, t .small (o .0) (o .1), o .2);
+          omega (arith, few (o .0) (o .1), o .2);
       own = omega arith;
     }

@@ -14,8 +14,8 @@ use Rattle.lists.specs.Choice.{either}
 use Rattle.lists.proofs.Cases.{eq-or-ne, le-or-lt, true-or-false, not-both}
 use Rattle.grid.specs.declared.Grid.{Grid}
 use Rattle.groups.specs.Groups.{cellsOf}
-use Rattle.shape.specs.Shape.{adjacent}
-use Rattle.adjacency.specs.Adjacency.{behind, parted, Written, Adjacency, Unmarked, MarksOf}
+use Rattle.shape.specs.Shape.{parted, adjacent}
+use Rattle.adjacency.specs.Adjacency.{Written, Adjacency, Unmarked, MarksOf}
 
 module _ (list : List ℕ) (from mark : ℕ) (marks : List ℕ) where
   pub written-none : Written list from from mark marks marks
@@ -38,7 +38,7 @@ module _ (list : List ℕ) (from mark : ℕ) (marks : List ℕ) where
 
 module _ (g : Grid) (states pids : List ℕ) (p q : ℕ) where
   adjacent-parted : adjacent g states pids p q ≡ either (eqb p q) (parted g states pids (cellsOf g pids p) q)
-  unfolding adjacent parted behind
+  unfolding adjacent
   adjacent-parted = refl
 
   self : q ≡ p → adjacent g states pids p q ≡ true

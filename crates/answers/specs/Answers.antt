@@ -1,4 +1,4 @@
--- What a call comes to, the case of its answer with 01's number and values, and what it leaves in the buffer.
+-- What a call comes to, the case of its answer with its number and values (SPEC 3.16), and what it leaves in the buffer (SPEC 3.12, 3.15).
 -- Assumes nothing.
 use Prim.Native.Nat.{ℕ}
 use mathlib.Core.Path.{_≡_}
@@ -26,7 +26,7 @@ abbrev pub found : Option (List ℕ) → Outcome
 found none = clear
 found (some l) = listed l
 
--- 01's number and values for each case of an answer: the refusal's number, or the list's length
+-- SPEC 3.16: the number and values for each case of an answer: the refusal's number, or the list's length
 abbrev pub listedOf : Outcome → Listed
 listedOf (refused n) = case-listed.Refused n
 listedOf clear = case-listed.List 0
@@ -46,7 +46,7 @@ abbrev pub listOf : Option (List ℕ) → List ℕ
 listOf none = []
 listOf (some l) = l
 
--- THE BUFFER: "no buffer byte changes"; "An accepted list fills the first n places, and the others stay"
+-- THE BUFFER: a refusal changes no byte (SPEC 3.12); a list fills the first places, and the others stay (SPEC 3.15)
 abbrev pub written : Outcome → List ℕ → List ℕ
 written (refused n) buffer = buffer
 written clear buffer = buffer

@@ -15,7 +15,8 @@ use Rattle.grid.proofs.Geometry.{limits, limits-ok, borderCount-le}
 use Rattle.ledger.specs.declared.Book.{Book}
 use Rattle.ledger.specs.Ledger.{decideCode, undoCode, firstCode}
 use Rattle.ledger.specs.Books.{noneGiven, stateAt, bookHolds}
-use Rattle.ledger.proofs.BookLaws.{first-stops, first-passes, Places, Placeable, Takeable, placeable, takeable}
+use Rattle.ledger.proofs.Codes.{first-stops, first-passes}
+use Rattle.ledger.proofs.BookLaws.{Places, Placeable, Takeable, placeable, takeable}
 use Rattle.board.specs.declared.Board.{Board}
 use Rattle.board.specs.Board.{answer, bordersOf, checkOf, boardCode, onto, answered}
 

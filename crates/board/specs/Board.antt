@@ -2,15 +2,13 @@
 -- Assumes nothing.
 use Prim.Native.Nat.{ℕ}
 use mathlib.Core.Bool.{Bool}
-use mathlib.Core.List.{List}
 use lib.Dec.{eqb}
 use Rattle.lists.specs.Choice.{pick}
 use Rattle.grid.specs.declared.Grid.{Grid}
 use Rattle.grid.specs.Grid.{grid, sizesOk, borderCount}
 use Rattle.ledger.specs.declared.Book.{Book}
 use Rattle.ledger.specs.Ledger.{decideCode, undoCode, firstCode}
-use Rattle.ledger.specs.Books.{zeros, freshBook, noneGiven, namesIn, stateAt, bookHolds}
-use Rattle.ledger.specs.Books as books
+use Rattle.ledger.specs.Books.{zeros, freshBook, noneGiven, stateAt, bookHolds, placed, taken}
 use Rattle.board.specs.declared.Board.{Board}
 use Rattle.board.specs.declared.Decided.{Decided}
 
@@ -30,10 +28,6 @@ sizeOf b = b .grid
 
 abbrev pub bordersOf : Board → ℕ
 bordersOf b = borderCount (b .grid)
-
--- the borders that the ledger names
-abbrev pub namesOf : Board → List ℕ
-namesOf b = namesIn (b .book)
 
 -- the number of the question, 1 or 2, that refuses a board of these parts, or 0: no border of a lone board is given
 abbrev pub checkOf : Grid → Book → ℕ
@@ -55,13 +49,7 @@ abbrev pub answered : ℕ → Board → Book → Decided
 answered n b k = pick (eqb n 0) (answer 0 (onto b k)) (answer n b)
 
 abbrev pub decideOf : Board → ℕ → Bool → Decided
-decideOf b e wall = answered (firstCode (boardCode b) (decideCode (bordersOf b) (stateAt (b .book .states)) e)) b (books.placed (b .book) e wall)
+decideOf b e wall = answered (firstCode (boardCode b) (decideCode (bordersOf b) (stateAt (b .book .states)) e)) b (placed (b .book) e wall)
 
 abbrev pub undoOf : Board → Decided
-undoOf b = answered (firstCode (boardCode b) (undoCode (b .book .len))) b (books.taken (b .book))
-
-abbrev pub placed : Board → ℕ → Bool → Board
-placed b e wall = onto b (books.placed (b .book) e wall)
-
-abbrev pub taken : Board → Board
-taken b = onto b (books.taken (b .book))
+undoOf b = answered (firstCode (boardCode b) (undoCode (b .book .len))) b (taken (b .book))

@@ -1,11 +1,9 @@
 // The board (`BoardManager`): a size around a book. Making, decide and undo on a record by value, and whether a record holds together.
 ghost use mathlib.Core.Path.{_≡_};
-ghost use Prim.Native.Nat.{_-_, _≤_, _<_};
-ghost use lib.ListN.{length, getD};
+ghost use lib.ListN.{length};
 ghost use Rattle.limits.specs.Limits.{mostBorders};
-ghost use Rattle.grid.specs.Grid.{grid};
 ghost use Rattle.ledger.specs.Books.{book};
-ghost use Rattle.board.specs.Board.{freshBoard, makeOf, checkOf, boardCode, placed, taken, decideOf, undoOf};
+ghost use Rattle.board.specs.Board.{freshBoard, makeOf, checkOf, boardCode, decideOf, undoOf};
 use grid::Grid;
 use ledger::Book;
 
@@ -127,31 +125,4 @@ pub fn undo(b: Board) -> Decided
     ledger::clear_name(&mut out.board.book.names, at);
     out.board.book.len = at;
     out
-}
-
-// The border gets its value and stands at the ledger's end.
-pub fn place(b: Board, border: usize, wall: bool) -> Board
-    requires { ⌜ (border < mostBorders) × (b .book .len < mostBorders) ⌝ }
-    ensures { λ r. ⌜ r ≡ placed b border wall ⌝ }
-{
-    let len = b.book.len;
-    let mut next = b;
-    ledger::place_state(&mut next.book.states, border, wall);
-    ledger::place_name(&mut next.book.names, len, border);
-    next.book.len = len + 1;
-    next
-}
-
-// The ledger's last border is undecided again, and its place free.
-pub fn take_back(b: Board) -> Board
-    requires { ⌜ (0 < b .book .len) × (b .book .len ≤ mostBorders) × (getD (b .book .names) (b .book .len - 1) 0 < mostBorders) ⌝ }
-    ensures { λ r. ⌜ r ≡ taken b ⌝ }
-{
-    let at = b.book.len - 1;
-    let mut next = b;
-    let border = ledger::name_at(&next.book.names, at);
-    ledger::clear_state(&mut next.book.states, border);
-    ledger::clear_name(&mut next.book.names, at);
-    next.book.len = at;
-    next
 }

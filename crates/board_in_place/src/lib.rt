@@ -3,7 +3,7 @@ ghost use mathlib.Core.Path.{_≡_};
 ghost use Rattle.board.specs.Board.{answer, decideOf, undoOf};
 use board::Board;
 
-// Decides a border of a lent board as Wall or Connected, and returns 01's number: 0 where it was accepted.
+// Decides a border of a lent board as Wall or Connected, and returns the number of the question that refuses it, or 0.
 pub fn decide(b: &mut Board, border: usize, wall: bool) -> u8
     ensures { λ r. ⌜ answer r (now (b .exit)) ≡ decideOf (now (b .entry)) border wall ⌝ }
 {
@@ -12,7 +12,7 @@ pub fn decide(b: &mut Board, border: usize, wall: bool) -> u8
     d.code
 }
 
-// Takes the last decision of a lent board back, and returns 01's number: 0 where it was accepted.
+// Takes the last decision of a lent board back, and returns the number of the question that refuses it, or 0.
 pub fn undo(b: &mut Board) -> u8
     ensures { λ r. ⌜ answer r (now (b .exit)) ≡ undoOf (now (b .entry)) ⌝ }
 {

@@ -23,6 +23,6 @@ unfoldable pub stands : Grid → List ℕ → ℕ → Direction → ℕ → Bool
 unfolding goesOn stateAt
 stands g states k d c = both (goesOn g d c) (eqb (stateAt g states d c) k)
 
--- "states 0 to 2"; what stands behind the board's borders is no part of it
+-- states 0 to 2 (SPEC 1.3); what stands behind the board's borders is no part of it (1.11)
 abbrev pub StatesOk : Grid → List ℕ → Type 0
 StatesOk g states = (e : ℕ) → e < borderCount g → stateOf states e ≤ 2

@@ -1,4 +1,4 @@
--- Entries (01, "Entry"). A border, or a room graph's edge, is undecided (0), Connected (1) or Wall (2).
+-- Entries (SPEC 1.4). A border, or a room graph's edge, is undecided (0), Connected (1) or Wall (2).
 -- Assumes nothing.
 use Prim.Native.Nat.{ℕ, _+_, _*_, _/_, _%_}
 use mathlib.Core.Path.{_≡_}
@@ -7,7 +7,7 @@ use mathlib.Core.List.{List}
 use Rattle.lists.specs.Choice.{pick}
 use Rattle.lists.specs.Lists.{In}
 
--- "2 × border + 1 for Wall, 2 × border for Connected"
+-- the entry of a border as Connected, and as Wall
 abbrev pub connectedEntry : ℕ → ℕ
 connectedEntry e = 2 * e
 

@@ -10,6 +10,7 @@ use borrow.Author.Tests.{lt-ltb, le-ltb, le-leb, lt-leb, ne-eqb}
 use lib.Dec.{eqb}
 use lib.ListN.{length, take, drop, length-replicate}
 use lib.Seq.{length-sets, sets-eq, take-append-seam}
+use Rattle.limits.specs.Limits.{mostCells}
 use Rattle.lists.specs.Choice.{pick}
 use Rattle.lists.proofs.Cases.{eq-or-ne}
 use Rattle.grid.specs.declared.Grid.{Grid}
@@ -24,15 +25,15 @@ use Rattle.groups.specs.Groups.{groupIds, groupCount}
 use Rattle.groups.specs.Info.{blankPlaces, grouping, zeroInfo, infoOf, groupingCode, groupingOf, bufferOf, handOutOf}
 use Rattle.groups.proofs.EdgeLaws.{ids-length}
 use Rattle.groups.proofs.Theorems.{grouping-hand-out}
-use Rattle.boundary.specs.declared.BoundaryAnswer.the-variants.{Listed}
+use Rattle.answers.specs.declared.Listed.the-variants as case
 use Rattle.boundary.specs.Listing.{boundary, Listable}
 use Rattle.boundary.specs.Appended.{Appended}
-use Rattle.boundary.specs.Answer.{answerOf, boundaryOutcome}
-use Rattle.board.specs.Outcome.{Outcome, refused, listed, written}
+use Rattle.boundary.specs.Answer.{boundaryOutcome}
+use Rattle.answers.specs.Answers.{Outcome, refused, listed, listedOf, written}
 use Rattle.boundary.proofs.BoundaryLaws.{unit-most, potential-most, cells-most}
 
 -- answer and buffer go by the outcome
-pub told : (o o' : Outcome) (buffer : List ℕ) → o' ≡ o → (answerOf o ≡ answerOf o') × (written o buffer ≡ written o' buffer)
+pub told : (o o' : Outcome) (buffer : List ℕ) → o' ≡ o → (listedOf o ≡ listedOf o') × (written o buffer ≡ written o' buffer)
 told o o' buffer q = (rw q, rw q)
 
 -- 9·h·w entries are enough
@@ -41,7 +42,7 @@ boundary-most g states ids true k = omega (arith, potential-most g states ids k,
 boundary-most g states ids false k = omega (arith, unit-most g states ids k, cells-most g ids k)
 
 -- a grouping with room for every board is refused exactly as the board is
-code-is : (b : Board) (places : ℕ) → 1024 ≤ places → groupingCode b places ≡ boardCode b
+code-is : (b : Board) (places : ℕ) → mostCells ≤ places → groupingCode b places ≡ boardCode b
 code-is b places h =
     ⊎-elim
     (λ (z : boardCode b ≡ 0). rw (z, le-leb (cells (sizeOf b)) places (omega (arith, cells-le (sizeOf b) (board-ready b (boardCode b) refl z .limits)))))
@@ -56,7 +57,7 @@ info-of n i z q = rw q
 
 -- what the grouping answered, whose cells went to a slice that held `flat` before
 pub record Made (b : Board) (p : Bool) (flat : List ℕ) (made : Grouping) : Type 0 where
-  pub long : 1024 ≤ length flat
+  pub long : mostCells ≤ length flat
   pub is : made ≡ groupingOf b p (length flat)
 
 module _ {b : Board} {p : Bool} {flat : List ℕ} {made : Grouping} (o : Made b p flat made) where
@@ -104,7 +105,7 @@ module _ {b : Board} {p : Bool} {flat : List ℕ} {made : Grouping} (o : Made b 
         let I = groupIds (sizeOf b) (b .book .states) p in
         let n : length I ≡ cells (sizeOf b) = ids-length (sizeOf b) (b .book .states) p in
         let q : made .info .ids ≡ I ++ drop (0 + length I) blankPlaces =
-        ap (λ (i : GroupInfo). i .ids) info-is ∙ sets-eq I blankPlaces 0 (omega (arith, cells-le (sizeOf b) board-limits, length-replicate {A = ℕ} 1024 0)) in
+        ap (λ (i : GroupInfo). i .ids) info-is ∙ sets-eq I blankPlaces 0 (omega (arith, cells-le (sizeOf b) board-limits, length-replicate {A = ℕ} mostCells 0)) in
         rw (← n, q) (take-append-seam I (drop (0 + length I) blankPlaces))
 
     pub ids-size : cells (sizeOf b) ≡ length (take (cells (sizeOf b)) (made .info .ids))
@@ -113,7 +114,7 @@ module _ {b : Board} {p : Bool} {flat : List ℕ} {made : Grouping} (o : Made b 
     pub ids-long : cells (sizeOf b) ≤ length (made .info .ids)
     unfolding blankPlaces
     ids-long =
-        let q : length (made .info .ids) ≡ 1024 = ap (λ (i : GroupInfo). length (i .ids)) info-is ∙ simp length-sets (length-replicate {A = ℕ} 1024 0) in
+        let q : length (made .info .ids) ≡ mostCells = ap (λ (i : GroupInfo). length (i .ids)) info-is ∙ simp length-sets (length-replicate {A = ℕ} mostCells 0) in
         omega (arith, cells-le (sizeOf b) board-limits)
 
     module _ (k : ℕ) (l : k < made .info .count) {buffer : List ℕ} (m : 9 * cells (sizeOf b) ≤ length buffer) where
@@ -129,7 +130,7 @@ module _ {b : Board} {p : Bool} {flat : List ℕ} {made : Grouping} (o : Made b 
           })
 
       pub group-written : {buffer' : List ℕ} {r : ℕ} → Appended buffer 0 (boundary (sizeOf b) (b .book .states) (take (cells (sizeOf b)) (made .info .ids)) p k) buffer' r
-          → (Listed r ≡ answerOf (boundaryOutcome b p k (length buffer))) × (buffer' ≡ written (boundaryOutcome b p k (length buffer)) buffer)
+          → (case.List r ≡ listedOf (boundaryOutcome b p k (length buffer))) × (buffer' ≡ written (boundaryOutcome b p k (length buffer)) buffer)
       group-written {buffer'} {r} a =
           let xs = boundary (sizeOf b) (b .book .states) (groupIds (sizeOf b) (b .book .states) p) p k in
           let w : Appended buffer 0 xs buffer' r = rw ids-front at a in

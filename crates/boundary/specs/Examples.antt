@@ -1,4 +1,4 @@
--- Closed examples of the two lists; the 1 by 3 board is 01's.
+-- Closed examples of the two lists; the 1 by 3 board is that of SPEC 7.3.
 -- Assumes nothing.
 use Prim.Native.Nat.{ℕ}
 use mathlib.Core.Path.{_≡_, refl}
@@ -12,7 +12,7 @@ use Rattle.ledger.specs.Books.{bookHolds}
 use Rattle.groups.specs.Groups.{groupIds, groupCount}
 use Rattle.boundary.specs.Boundary.{unitBoundary, potentialBoundary}
 use Rattle.boundary.specs.Answer.{boundaryOutcome}
-use Rattle.board.specs.Outcome.{refused, listed}
+use Rattle.answers.specs.Answers.{refused, listed}
 
 -- 1 by 3, Wall, Connected: the unit of two cells, and its potential unit
 unit-of-two : unitBoundary (grid 1 3) (2 ∷ 1 ∷ []) (groupIds (grid 1 3) (2 ∷ 1 ∷ []) false) 1 ≡ 2 ∷ 1 ∷ []

@@ -14,7 +14,8 @@ use Rattle.lists.specs.Choice.{pick}
 use Rattle.lists.proofs.Cases.{eq-or-ne}
 use Rattle.borders.specs.Border.{StatesOk}
 use Rattle.ledger.proofs.Question.{holds-question}
-use Rattle.board.specs.Board.{bordersOf, namesOf}
+use Rattle.ledger.specs.Books.{namesIn}
+use Rattle.ledger.proofs.BookLaws.{held}
 use Rattle.rooms.specs.Rooms.{isGiven}
 use Rattle.grid.proofs.Geometry.{cells-le}
 use Rattle.hand_over.specs.Sorted.{sortedOnce}
@@ -27,7 +28,7 @@ use Rattle.puzzle.specs.declared.Check.{Check}
 use Rattle.puzzle.specs.declared.Answer.{Answer}
 use Rattle.puzzle.specs.declared.Answer.the-variants.{Clear, Fault, Refused}
 use Rattle.puzzle.specs.Fault.{Found}
-use Rattle.puzzle.specs.Puzzle.{gridOf, givenOf, cluesOf, puzzleCode, longEnough, askCode, faultIn, says, askOf}
+use Rattle.puzzle.specs.Puzzle.{gridOf, bordersOf, givenOf, cluesOf, puzzleCode, longEnough, askCode, faultIn, says, askOf}
 use Rattle.puzzle.specs.Run.{puzzleAfter, replyTo}
 use Rattle.puzzle.proofs.FaultLaws.{fault-most}
 use Rattle.puzzle.proofs.Ready.{ready, Ready}
@@ -53,7 +54,10 @@ pub record Filled (n : ℕ) (buf : List ℕ) : Type 0 where
 
 module _ (p : Puzzle) where
   states-ok : Ready p → StatesOk (gridOf p) (p .board .book .states)
-  states-ok r e l = holds-question (bordersOf (p .board)) (isGiven (givenOf p)) (p .board .book .states) (namesOf (p .board)) (r .holds) .kept e l .state
+  states-ok r e l =
+      let n = bordersOf p in
+      let given = isGiven (givenOf p) in
+      holds-question n given (p .board .book .states) (namesIn (p .board .book)) (held n given (p .board .book) (r .holds) .1) .kept e l .state
 
   -- a fault's list has its places in the program's buffer
   pub fault-few : (buf : List ℕ) (k : Check) (n : ℕ) → Fault k n ≡ askOf p buf .answer → n ≤ 9216

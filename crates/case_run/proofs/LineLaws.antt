@@ -15,11 +15,12 @@ use Rattle.limits.specs.Limits.{mostEntries, longestLine}
 use Rattle.lists.specs.Lists.{In, gather}
 use Rattle.lists.proofs.ListLaws.{in-getD}
 use Rattle.hand_over.specs.Sorted.{sortedOnce}
-use Rattle.hand_over.specs.HandOver.{paper, handOverOf, handedTo}
-use Rattle.hand_over.specs.declared.Handed.{Handed}
-use Rattle.hand_over.specs.declared.Handed.the-variants as handed
+use Rattle.answers.specs.declared.Listed.{Listed as Answer}
+use Rattle.answers.specs.declared.Listed.the-variants as case
+use Rattle.answers.specs.Answers.{listedOf, written}
+use Rattle.hand_over.specs.HandOver.{handOver}
 use Rattle.hand_over.proofs.SortedLaws.{met, no-longer}
-use Rattle.hand_over.proofs.HandOverLaws.{written, refused}
+use Rattle.hand_over.proofs.HandOverLaws.{given, refused}
 use Rattle.lines.specs.declared.Line.{Line}
 use Rattle.lines.specs.declared.Line.the-variants as line
 use Rattle.lines.specs.Line.{spacedOf, lineOf}
@@ -74,12 +75,13 @@ pub record Listed (list : List ℕ) (n : ℕ) (buf : List ℕ) : Type 0 where
   pub is : take n buf ≡ sortedOnce list
 
 module _ (list : List ℕ) (few : length list ≤ 9216) where
-  pub never-refused : (h : Handed) (k : ℕ) → h ≡ handed.Refused k → paper h ≡ handOverOf list (length blank) → ⊥
+  pub never-refused : (h : Answer) (k : ℕ) → h ≡ case.Refused k → h ≡ listedOf (handOver list (length blank)) → ⊥
   never-refused h k q e = let o = refused list (length blank) k (rw q at e) in omega (arith, o .0, blank-length)
 
-  pub listed : (h : Handed) (n : ℕ) (buf : List ℕ) → h ≡ handed.Written n → paper h ≡ handOverOf list (length blank) → buf ≡ handedTo list blank → Listed list n buf
+  pub listed : (h : Answer) (n : ℕ) (buf : List ℕ) → h ≡ case.List n → h ≡ listedOf (handOver list (length blank)) → buf ≡ written (handOver list (length blank)) blank
+      → Listed list n buf
   listed h n buf k e m =
-      let o = written list (length blank) n (rw k at e) in
+      let o = given list (length blank) n (rw k at e) in
       let s : buf ≡ sets blank 0 (sortedOnce list) = rw (le-leb (length list) (length blank) (o .0)) at m in
       let t : take n buf ≡ sortedOnce list = rw (s, o .1) (front blank (sortedOnce list) (omega (arith, o .0, no-longer list))) in
       record { within = omega (arith, ap length s, length-sets blank 0 (sortedOnce list), o .0, o .1, no-longer list); long = o .1 ∙ ap length (sym t); few = omega (arith, o .1, no-longer list); is = t }

@@ -59,10 +59,6 @@ module _ (p : Puzzle) (c : Call) (cs : List Call) where
   abbrev next : Puzzle
   next = puzzleAfter p (asCall c)
 
-  run-next : runOf p (c ∷ cs) ≡ runOf next cs
-  unfolding run
-  run-next = refl
-
   printed-next : printedBy p (c ∷ cs) ≡ lineBy p c ++ printedBy next cs
   unfolding replies linesOf
   printed-next = refl

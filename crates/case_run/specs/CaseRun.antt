@@ -1,4 +1,4 @@
--- 01, Program: what a case file's puzzle is, and the line that each of its calls prints in the run of demand 3.
+-- What a case file's puzzle is, and the line that each of its calls prints (SPEC 5.4, 5.5) in the run of demand 3 (6.4).
 -- Assumes nothing.
 use Prim.Native.Nat.{ℕ, zero, suc, _+_, _*_, _≤_}
 use mathlib.Core.Path.{_≡_}
@@ -37,7 +37,7 @@ opened code p at count = record { code = code; puzzle = p; at = at; count = coun
 abbrev pub openedAs : Made → ℕ → ℕ → Opened
 openedAs m at count = pick (eqb (m .code) 0) (opened 0 (m .puzzle) at count) (opened (m .code) (m .puzzle) 0 0)
 
--- question 11 "comes before all others"; else the making of the file's size, given walls and clues, and where its calls stand
+-- question 11 comes first (SPEC 3.11); else the making of the file's size, given walls and clues, and where its calls stand
 abbrev pub openedOf : Option Case → Opened
 openedOf none = opened 11 zeroPuzzle 0 0
 openedOf (some f) = openedAs (makeOf (f .height) (f .width) (f .walls) (f .clues)) (layoutOf f .calls .at) (length (f .calls))
@@ -66,18 +66,18 @@ unfoldable pub bytesOf : List Call → ℕ
 bytesOf [] = 0
 bytesOf (c ∷ cs) = sizeOf c + bytesOf cs
 
--- THE LINES: "`decided`, `undone`, `clear`"
+-- THE LINES (SPEC 5.4): `decided`, `undone`, `clear`
 abbrev pub wellLine : Call → Line
 wellLine Undo = line.Undone
 wellLine (Decide e wall) = line.Decided
 wellLine Ask = line.Clear
 
--- "`shape:` or `room 4:` with handed-over entries"
+-- `shape:` or `room 4:`
 abbrev pub checkLine : Check → Line
 checkLine Shape = line.Shape
 checkLine (Room r) = line.Room r
 
--- "or `refused 4`": the line of a decide or an undo by its number
+-- the line of a decide or an undo by its number, 0 or that of `refused 4`
 abbrev pub codeLine : Line → ℕ → List ℕ
 codeLine well zero = lineOf well []
 codeLine well (suc n) = lineOf (line.Refused (suc n)) []
@@ -92,7 +92,7 @@ abbrev pub replyLine : Line → Reply → List ℕ
 replyLine well (coded n) = codeLine well n
 replyLine well (asked a) = askLine well (a .answer) (a .buffer)
 
--- "One line a call": each call's line, by what the run replies to it
+-- one line a call (SPEC 5.4), by what the run replies to it
 unfoldable pub linesOf : List Call → List Reply → List ℕ
 linesOf [] rs = []
 linesOf (c ∷ cs) [] = []

@@ -11,10 +11,10 @@ ghost use Rattle.case_file.specs.Sound.{decodeOf};
 ghost use Rattle.case_file.specs.declared.Call.the-variants.{Undo, Decide, Ask};
 ghost use Rattle.lines.specs.Line.{lineOf};
 ghost use Rattle.case_run.specs.CaseRun.{openedOf, checkLine, codeLine, lineBy, printedBy, codeIn, doneIn, ranOf, Counts, Turned};
+use answers::Listed;
 use case_file::Call;
 use case_file::File;
 use case_file::Step;
-use hand_over::Handed;
 use lines::Line;
 use puzzle::Answer;
 use puzzle::Check;
@@ -137,7 +137,7 @@ fn fault_line(check: Check, list: &[u16], out: &mut [u8]) -> usize
     ensures { λ _. ⌜ now (out .exit) ≡ sets (now (out .entry)) 0 (lineOf (checkLine check) (sortedOnce (now (list .entry)))) ⌝ }
 {
     let mut entries = [0u16; limits::ENTRIES];
-    let Handed::Written(n) = hand_over::hand_over(list, &mut entries) else {
+    let Listed::List(n) = hand_over::hand_over(list, &mut entries) else {
         return 0;
     };
     let line = check_line(check);

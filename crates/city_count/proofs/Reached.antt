@@ -16,7 +16,8 @@ use Rattle.ledger.specs.declared.Book.{Book}
 use Rattle.ledger.specs.Ledger.{Decision, Call, decide, undo, ask, accepted, decideCode, undoCode, firstCode, ledgerAfter, ledgerOf}
 use Rattle.ledger.specs.Books.{zeros, freshBook, noneGiven, stateAt, placed, taken, bookAfter}
 use Rattle.ledger.specs.Books as books
-use Rattle.ledger.proofs.BookLaws.{zero-at, zeros-length, first-passes, clear-both}
+use Rattle.ledger.proofs.Codes.{first-passes, clear-both}
+use Rattle.ledger.proofs.BookLaws.{zero-at, zeros-length}
 use Rattle.ledger.proofs.Reached.{Reached, reached-holds, record-accepts, placed-reached, reached-after, taken-placed, undo-placed}
 use Rattle.ledger.proofs.Reached as ledger
 use Rattle.city_count.specs.declared.CityCountConstraint.{CityCountConstraint}

@@ -9,7 +9,7 @@ use mathlib.Core.Option.{Option, none, some}
 use native.Mathlib.Omega.{arith}
 use borrow.Author.Tests.{eq-eqb, ne-eqb, le-leb, lt-leb, leb-true}
 use denote.Enum.Declared.{tagOf}
-use lib.Dec.{eqb, leb}
+use lib.Dec.{leb}
 use lib.ListN.{length}
 use lib.Seq.{sets}
 use Rattle.limits.specs.Limits.{mostCells, mostBorders}
@@ -23,12 +23,10 @@ use Rattle.answers.proofs.Found.{the-type}
 use Rattle.ledger.specs.declared.Book.{Book}
 use Rattle.ledger.specs.Ledger.{decideCode, undoCode, firstCode}
 use Rattle.ledger.specs.Books.{zeros, noneGiven, stateAt, bookHolds}
-use Rattle.ledger.proofs.BookLaws.{first-stops, first-passes, Places, Placeable, Takeable, placeable, takeable}
+use Rattle.ledger.proofs.Codes.{first-stops, first-passes}
+use Rattle.ledger.proofs.BookLaws.{Places, Placeable, Takeable, placeable, takeable}
 use Rattle.room_parts.specs.Graph as rooms
 use Rattle.city_count.specs.declared.CityCountConstraint.{CityCountConstraint}
-use Rattle.city_count.specs.declared.Inconsistency.{Inconsistency}
-use Rattle.city_count.specs.declared.Inconsistency.the-variants.{Nothing, Listed}
-use Rattle.city_count.proofs.Inconsistency.{the-type as the-inconsistency}
 use Rattle.city_count.specs.Room.{zeroRoom, freshRoom, answer, endsExist, checkOf, roomCode, makeOf, onto, answered, faultOf, askOf, Sized}
 use Rattle.city_count.proofs.LoopLaws.{Ends, all-ends, ends-all}
 
@@ -164,8 +162,3 @@ module _ (r : CityCountConstraint) (code : ℕ) (q : code ≡ roomCode r) where
 -- an ask of a record that holds together, with a long enough buffer
 pub ask-accepted : (r : CityCountConstraint) (places : ℕ) → roomCode r ≡ 0 → r .edges ≤ places → askOf r places ≡ found (faultOf r)
 ask-accepted r places z h = simp (z, le-leb (r .edges) places h)
-
--- what the `else` of an `if let Inconsistency::Listed(..)` knows is the tag
-pub nothing-found : (i : Inconsistency) → tagOf the-inconsistency i ≡ 0 → i ≡ Nothing
-nothing-found Nothing e = refl
-nothing-found (Listed n) e = absurd (omega arith)

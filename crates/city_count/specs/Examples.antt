@@ -1,11 +1,11 @@
--- 01's examples of room graphs, and the questions that refuse. Assumes nothing.
+-- Examples of room graphs (SPEC 7.6, 7.7, and others). Assumes nothing.
 use mathlib.Core.Path.{_≡_, refl}
 use mathlib.Core.List.{[], _∷_}
 use mathlib.Core.Option.{none, some}
 use Rattle.room_parts.specs.Graph.{Graph, graph, statesIn}
 use Rattle.city_count.specs.Fault.{roomFault}
 
--- "Edges 0–1, 1–2, count 3: undecided clear; both Connected, list 0, 2. Count 1, first Wall: list 1."
+-- edges 0–1 and 1–2, count 3: undecided, clear; both Connected, list 0, 2; count 1, the first Wall: list 1
 path : Graph
 path = graph 3 2 (0 ∷ 1 ∷ []) (1 ∷ 2 ∷ [])
 
@@ -21,7 +21,7 @@ first-wall : roomFault path 1 (statesIn (2 ∷ 0 ∷ [])) ≡ some (1 ∷ [])
 unfolding path roomFault
 first-wall = refl
 
--- "Two vertices, no edge, count 3: clear. One vertex, count 0: fault, empty."
+-- two vertices, no edge, count 3: clear; one vertex, count 0: a fault with the empty list
 two-alone : roomFault (graph 2 0 [] []) 3 (statesIn []) ≡ none
 unfolding roomFault
 two-alone = refl

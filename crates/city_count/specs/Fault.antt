@@ -1,8 +1,8 @@
 -- What the room check lists (SPEC 4.14).
 -- Assumes nothing.
 use Prim.Native.Nat.{ℕ}
-use mathlib.Core.List.{List, []}
-use mathlib.Core.Option.{Option, none, some}
+use mathlib.Core.List.{List}
+use mathlib.Core.Option.{Option}
 use lib.Dec.{eqb, ltb}
 use Rattle.lists.specs.Choice.{when, give, orElse}
 use Rattle.lists.specs.Lists.{range, gather}
@@ -14,14 +14,9 @@ unfoldable pub entriesOf : (ℕ → ℕ) → ℕ → ℕ → (ℕ → ℕ) → L
 unfolding gather when range
 entriesOf entry k m s = gather (λ i. when (eqb (s i) k) (entry i)) (range m)
 
--- "once below the count, the list is every Connected edge of the graph. Otherwise, if the parts joined without Walls outnumber the count,
--- the list is every Wall edge."
+-- Once below the count, the entries of all Connected edges of the graph; otherwise, where the parts joined without Walls outnumber the count, those of
+-- all Walls (SPEC 4.14)
 unfoldable pub roomFault : Graph → ℕ → (ℕ → ℕ) → Option (List ℕ)
 unfolding orElse give tippedOf entriesOf partsIf
 roomFault g count s =
     orElse (give (tippedOf g count s) (entriesOf connectedEntry 1 (g .edges) s)) (give (ltb count (joinedParts g s)) (entriesOf wallEntry 2 (g .edges) s))
-
--- what is listed: nothing where the graph is clear
-abbrev pub listOf : Option (List ℕ) → List ℕ
-listOf none = []
-listOf (some l) = l

@@ -4,7 +4,7 @@ use Prim.Native.Nat.{ℕ}
 use mathlib.Core.Path.{_≡_}
 use mathlib.Core.Bool.{Bool}
 use mathlib.Core.List.{List}
-use mathlib.Core.Option.{Option, none, some}
+use mathlib.Core.Option.{Option}
 use lib.Dec.{eqb, ltb, leb}
 use lib.ListN.{length, getD}
 use lib.Seq.{sets}
@@ -19,8 +19,6 @@ use Rattle.room_parts.specs.Graph.{Graph, graph, statesIn}
 use Rattle.city_count.specs.Fault.{roomFault}
 use Rattle.city_count.specs.declared.CityCountConstraint.{CityCountConstraint}
 use Rattle.city_count.specs.declared.Decided.{Decided}
-use Rattle.city_count.specs.declared.Inconsistency.{Inconsistency}
-use Rattle.city_count.specs.declared.Inconsistency.the-variants.{Nothing, Listed}
 
 -- a graph with this book
 abbrev pub roomOf : ℕ → ℕ → List ℕ → List ℕ → ℕ → Book → CityCountConstraint
@@ -90,10 +88,6 @@ askCode r places = firstCode (roomCode r) (pick (leb (r .edges) places) 0 6)
 -- what an ask comes to
 abbrev pub askOf : CityCountConstraint → ℕ → Outcome
 askOf r places = pick (eqb (askCode r places) 0) (found (faultOf r)) (refused (askCode r places))
-
-abbrev pub foundOf : Option (List ℕ) → Inconsistency
-foundOf none = Nothing
-foundOf (some l) = Listed (length l)
 
 -- the arrays have their places
 pub record Sized (us vs s l : List ℕ) : Type 0 where

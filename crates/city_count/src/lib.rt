@@ -12,8 +12,8 @@ ghost use Rattle.ledger.specs.Ledger.{stateFor};
 ghost use Rattle.ledger.specs.Books.{book};
 ghost use Rattle.borders.specs.Entry.{entryOf};
 ghost use Rattle.room_parts.specs.Graph.{graph, statesIn, Lent};
-ghost use Rattle.city_count.specs.Fault.{entriesOf, roomFault, listOf};
-ghost use Rattle.city_count.specs.Room.{foundOf, below, endsExist, checkOf, roomCode, zeroRoom, answer, makeOf, decideOf, undoOf, askOf, Sized};
+ghost use Rattle.city_count.specs.Fault.{entriesOf, roomFault};
+ghost use Rattle.city_count.specs.Room.{below, endsExist, checkOf, roomCode, zeroRoom, answer, makeOf, decideOf, undoOf, askOf, Sized};
 use answers::Answer;
 use answers::Found;
 use ledger::Book;
@@ -34,12 +34,6 @@ pub struct CityCountConstraint {
 pub struct Decided {
     pub code: u8,
     pub room: CityCountConstraint,
-}
-
-// What the check finds: nothing, or a fault whose list fills that many places of the buffer.
-pub enum Inconsistency {
-    Nothing,
-    Listed(usize),
 }
 
 // Whether an edge of this state is Wall, or Connected.
@@ -92,30 +86,6 @@ fn find<'a>(
         return Found::Fault(list(m, states, true, buffer));
     }
     Found::Nothing
-}
-
-// The check of a graph whose edges have these states: the list of a fault goes to the buffer's front, and a clear graph leaves the buffer.
-pub fn find_inconsistency<'a>(
-    n: usize,
-    m: usize,
-    us: &'a [u16],
-    vs: &'a [u16],
-    states: &'a [u8],
-    count: usize,
-    buf: &mut [u16],
-) -> Inconsistency
-    requires { ⌜ Lent n m (now us) (now vs) (now states) ⌝ }
-    requires { ⌜ m ≤ length (now buf) ⌝ }
-    ensures { λ r. ⌜ r ≡ foundOf (roomFault (graph n m (now (us .entry)) (now (vs .entry))) count (statesIn (now (states .entry)))) ⌝ }
-    ensures { λ r. ⌜ now (buf .exit) ≡ sets (now (buf .entry)) 0 (listOf (roomFault (graph n m (now (us .entry)) (now (vs .entry))) count (statesIn (now (states .entry))))) ⌝ }
-{
-    if room_parts::tipped(n, m, us, vs, states, count) {
-        return Inconsistency::Listed(list(m, states, false, buf));
-    }
-    if room_parts::outnumber(n, m, us, vs, states, count) {
-        return Inconsistency::Listed(list(m, states, true, buf));
-    }
-    Inconsistency::Nothing
 }
 
 // Is each of the first `m` numbers below `n`? The loop has no way out before its end, so that it is compiled to take many numbers at a time.
@@ -283,6 +253,7 @@ pub fn decide(r: CityCountConstraint, edge: usize, wall: bool) -> Decided
 pub fn undo(r: CityCountConstraint) -> Decided
     ensures { λ d. ⌜ d ≡ undoOf r ⌝ }
 {
+    let len = r.book.len;
     let mut out = Decided { code: 0, room: r };
     let code = check_parts(
         r.vertices,
@@ -291,18 +262,18 @@ pub fn undo(r: CityCountConstraint) -> Decided
         &out.room.vs,
         &out.room.book.states,
         &out.room.book.names,
-        r.book.len,
+        len,
     );
     if code != 0 {
         out.code = code;
         return out;
     }
-    let number = ledger::undo_code(r.book.len);
+    let number = ledger::undo_code(len);
     if number != 0 {
         out.code = number;
         return out;
     }
-    let at = r.book.len - 1;
+    let at = len - 1;
     let edge = ledger::name_at(&out.room.book.names, at);
     ledger::clear_state(&mut out.room.book.states, edge);
     ledger::clear_name(&mut out.room.book.names, at);

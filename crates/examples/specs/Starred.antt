@@ -11,7 +11,7 @@ use Rattle.limits.specs.Limits.{noClue}
 use Rattle.lists.specs.Lists.{count}
 use Rattle.grid.specs.Grid.{grid}
 use Rattle.shape.specs.Shape.{shapeFault}
-use Rattle.ledger.specs.Books.{zeros}
+use Rattle.ledger.specs.Books.{zeros, bookHolds}
 use Rattle.puzzle.specs.declared.Check.{Check}
 use Rattle.puzzle.specs.declared.Check.the-variants.{Shape, Room}
 use Rattle.puzzle.specs.declared.Answer.{Answer}
@@ -105,7 +105,7 @@ table =
 
 -- THE CHECK
 pub starred : map (λ (x : Example). told (x .question)) table ≡ map (λ (x : Example). x .answer) table
-unfolding table run shapeFault roomFault listsCode together zeros noClues statesOf faultOf count sortedOnce
+unfolding table run shapeFault roomFault listsCode together bookHolds zeros noClues statesOf faultOf count sortedOnce
 starred = refl
 
 -- the calls of the file of SPEC 7.9 (decided, decided, a fault of five entries, undone), with refused calls among them that change nothing
@@ -113,5 +113,5 @@ file : replies (freshOf 1 3 [] (noClue ∷ []))
     (undo ∷ decide 0 true ∷ decide 2 true ∷ ask [] ∷ decide 0 false ∷ decide 1 false ∷ ask (replicate 28 9) ∷ undo ∷ [])
     ≡ coded 5 ∷ coded 0 ∷ coded 3 ∷ asked (record { answer = Refused 6; buffer = [] }) ∷ coded 4 ∷ coded 0
     ∷ asked (record { answer = Fault Shape 5; buffer = 2 ∷ 2 ∷ 1 ∷ 1 ∷ 1 ∷ replicate 23 9 }) ∷ coded 0 ∷ []
-unfolding replies listsCode together zeros noClues statesOf faultOf count
+unfolding replies listsCode together bookHolds zeros noClues statesOf faultOf count
 file = refl

@@ -1,5 +1,4 @@
--- A case file's layout and its calls as numbers (01: "A call's first byte is 0 undo, 1 Connected or 2 Wall (each with its border, 16 bits), 3 ask";
--- question 11: "is the file sound? No: 11").
+-- A case file's layout and its calls as numbers: kinds as in SPEC 5.2, and 11 for an unsound file (3.11).
 -- Assumes nothing.
 use Prim.Native.Nat.{ℕ}
 use Rattle.lists.specs.Choice.{pick}

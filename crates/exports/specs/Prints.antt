@@ -6,7 +6,7 @@ use Rattle.lists.specs.Choice.{pick}
 use Rattle.lines.specs.declared.Line.{Line}
 use Rattle.lines.specs.declared.Line.the-variants.{Decided, Undone, Clear, Shape, Room, Refused}
 
--- 01's words in its order: "`decided`, `undone`, `clear`, `shape:` or `room 4:`"; every other number is "`refused 4`", whose number has 8 bits
+-- the lines in the order of SPEC 5.4: `decided`, `undone`, `clear`, `shape:`, `room 4:`; every other number is `refused 4`, whose number has 8 bits
 abbrev pub lineBy : ℕ → ℕ → Line
 lineBy kind number =
     pick (eqb kind 0) Decided

@@ -1,5 +1,4 @@
--- A puzzle's answer as numbers (01: "The answer is clear, or a fault that says which check found it, shape or a room with its number, and the
--- list's length").
+-- A puzzle's answer as numbers (SPEC 4.15): clear, or a fault with its check and its list's length, or refused.
 -- Assumes nothing.
 use Prim.Native.Nat.{ℕ}
 use Rattle.puzzle.specs.declared.Check.{Check}
@@ -13,7 +12,7 @@ abbrev pub faultOutcome : Check → ℕ → Outcome
 faultOutcome Shape n = record { kind = 1; code = 0; room = 0; length = n }
 faultOutcome (Room r) n = record { kind = 2; code = 0; room = r; length = n }
 
--- kind 0 for clear, 3 for a refusal with 01's number
+-- kind 0 for clear, 3 for a refusal with its number
 abbrev pub outcomeOf : Answer → Outcome
 outcomeOf Clear = record { kind = 0; code = 0; room = 0; length = 0 }
 outcomeOf (Fault check n) = faultOutcome check n

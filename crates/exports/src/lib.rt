@@ -9,7 +9,6 @@ mod files;
 mod groupings;
 mod hands;
 mod in_place;
-mod listings;
 mod paths;
 mod places;
 mod prints;

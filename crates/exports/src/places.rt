@@ -4,6 +4,7 @@ ghost use Rattle.grid.specs.Grid.{grid, neighbourOf};
 ghost use Rattle.exports.specs.Places.{directionOf, placeOf};
 use grid::Beyond;
 use grid::Direction;
+use grid::Grid;
 
 // What lies beyond a cell: code 0 with the neighbour and the border, or with `ends` where the board ends; else refused.
 #[repr(C)]
@@ -55,5 +56,6 @@ pub extern "C" fn sendai_neighbour(height: usize, width: usize, cell: usize, dir
     ensures { λ r. ⌜ r ≡ placeOf (neighbourOf (grid height width) (directionOf direction) cell) ⌝ }
 {
     let d = direction_of(direction);
-    place_of(grid::sizes::neighbour(height, width, cell, d))
+    let g = Grid { height, width };
+    place_of(grid::neighbour(g, cell, d))
 }

@@ -1,42 +1,11 @@
 // The room graph's calls.
 ghost use mathlib.Core.Path.{_≡_};
 ghost use lib.ListN.{length};
-ghost use Rattle.answers.specs.Answers.{answerOf, written};
+ghost use Rattle.answers.specs.Answers.{answerOf, plainAnswer, written};
 ghost use Rattle.city_count.specs.Room.{makeOf, roomCode, decideOf, undoOf, askOf};
-ghost use Rattle.exports.specs.Rooms.{verdictOf};
-use answers::Answer;
+use answers::Plain;
 use city_count::CityCountConstraint;
 use city_count::Decided;
-
-// Code 0 and clear, or code 0 and a fault with its list's length, or refused.
-#[repr(C)]
-pub struct Verdict {
-    pub code: u8,
-    pub fault: bool,
-    pub length: usize,
-}
-
-fn verdict_of(answer: Answer) -> Verdict
-    ensures { λ r. ⌜ r ≡ verdictOf answer ⌝ }
-{
-    match answer {
-        Answer::Clear => Verdict {
-            code: 0,
-            fault: false,
-            length: 0,
-        },
-        Answer::Fault(length) => Verdict {
-            code: 0,
-            fault: true,
-            length,
-        },
-        Answer::Refused(code) => Verdict {
-            code,
-            fault: false,
-            length: 0,
-        },
-    }
-}
 
 #[no_mangle]
 pub extern "C" fn sendai_room_make<'a>(
@@ -72,9 +41,9 @@ pub extern "C" fn sendai_room_undo(r: CityCountConstraint) -> Decided
 }
 
 #[no_mangle]
-pub extern "C" fn sendai_room_ask(r: CityCountConstraint, buf: &mut [u16]) -> Verdict
-    ensures { λ v. ⌜ v ≡ verdictOf (answerOf (askOf r (length (now (buf .entry))))) ⌝ }
-    ensures { λ v. ⌜ now (buf .exit) ≡ written (askOf r (length (now (buf .entry)))) (now (buf .entry)) ⌝ }
+pub extern "C" fn sendai_room_ask(r: CityCountConstraint, buffer: &mut [u16]) -> Plain
+    ensures { λ v. ⌜ v ≡ plainAnswer (answerOf (askOf r (length (now (buffer .entry))))) ⌝ }
+    ensures { λ v. ⌜ now (buffer .exit) ≡ written (askOf r (length (now (buffer .entry)))) (now (buffer .entry)) ⌝ }
 {
-    verdict_of(city_count::ask(r, buf))
+    answers::of_answer(city_count::ask(r, buffer))
 }

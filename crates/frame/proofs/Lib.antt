@@ -1,3 +1,4 @@
+pub mod Offset
 pub mod Chains
 pub mod Never
 pub mod Partners

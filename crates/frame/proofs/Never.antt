@@ -6,7 +6,7 @@ use mathlib.Core.Path.{_≡_}
 use mathlib.Core.Logic.{inl, inr, _≢_, ⊎-elim}
 use Rattle.lists.proofs.Cases.{eq-or-ne}
 use Rattle.frame.specs.Frame.{Relation, States, Symmetric, here, on, SameUnit, SamePotential, Adjacent}
-use Rattle.frame.specs.Offset.{Placement, Tried, Good, Fails, Reason}
+use Rattle.frame.proofs.Offset.{Placement, Tried, Good, Fails, Reason}
 use Rattle.frame.proofs.Chains.{chain-then, unit-back, potential-back, unit-potential, adjacent-then, then-adjacent}
 
 module _ (Nb : Relation) (symmetric : Symmetric Nb) where

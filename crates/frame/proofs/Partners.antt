@@ -4,7 +4,7 @@ use Prim.Native.Nat.{ℕ}
 use mathlib.Core.Path.{_≡_}
 use mathlib.Core.Logic.{inr, _≢_, ⊎-elim}
 use Rattle.frame.specs.Frame.{Relation, States, Symmetric, here, on, Link, SameUnit, SamePotential, Parted, Full, NoInnerWall, Partner}
-use Rattle.frame.specs.Offset.{Placement, Good}
+use Rattle.frame.proofs.Offset.{Placement, Good}
 use Rattle.frame.proofs.Chains.{chain-then, chain-map, unit-back, unit-potential}
 
 module _ (Nb : Relation) (symmetric : Symmetric Nb) (s : States) (full : Full Nb s) where

@@ -151,12 +151,12 @@ passes-potential s l z =
     (λ (k : s ≢ 1). right-either (eqb s 1) (eqb s 0) (eq-eqb s 0 (omega arith)))
     (eq-or-ne s 1)
 
--- "A unit is a largest set of cells joined by Connected borders"
+-- units are joined over Connected borders (SPEC 2.2)
 pub unit-labels : (g : Grid) (states : List ℕ) → Labels g (groupIds g states false) (groupCount g states false) (SameUnit (Neighbours g) (stateOf states))
 unit-labels g states =
     group-labels g states false (λ e. stateOf states e ≡ 1) (λ a b e n q. unit-passes (stateOf states e) q) (λ a b e n q. passes-unit (stateOf states e) q)
 
--- "potential units also over undecided": where states run from 0 to 2, over all that is no Wall
+-- potential units (SPEC 4.1): where states run from 0 to 2, over all that is no Wall
 pub potential-labels : (g : Grid) (states : List ℕ) → StatesOk g states
     → Labels g (groupIds g states true) (groupCount g states true) (SamePotential (Neighbours g) (stateOf states))
 potential-labels g states ok =

@@ -10,6 +10,7 @@ use borrow.Author.Tests.{lt-ltb, le-ltb, le-leb, lt-leb, eq-eqb, ne-eqb, ltb-tru
 use lib.Dec.{eqb, ltb, leb}
 use lib.ListN.{getD, length}
 use lib.Seq.{sets}
+use Rattle.limits.specs.Limits.{mostCells}
 use Rattle.lists.specs.Choice.{pick}
 use Rattle.lists.specs.Lists.{countFrom, range, all}
 use Rattle.lists.proofs.ChoiceLaws.{both-true}
@@ -71,7 +72,7 @@ by-exists n count ids e = rw e
 
 -- GROUPING
 
-pub lent : (n : ℕ) (buffer : List ℕ) → n ≤ 1024 → n ≤ length buffer → Lent n blankPlaces blankPlaces buffer
+pub lent : (n : ℕ) (buffer : List ℕ) → n ≤ mostCells → n ≤ length buffer → Lent n blankPlaces blankPlaces buffer
 unfolding blankPlaces
 lent n buffer h k = record { ids-long = h; starts-long = h; flat-long = k }
 

@@ -1,4 +1,4 @@
--- What is shown of groups (01, "Groups"): the numbers, the cells of each group and of all, and the hand-out of a grouping's own record and buffer.
+-- What is shown of groups (SPEC 4.1 and 4.2): the numbers, the cells of each group and of all, and the hand-out of a grouping's own record and buffer.
 -- Assumes nothing.
 use Prim.Native.Nat.{ℕ, suc, _+_, _-_, _≤_, _<_}
 use mathlib.Core.Path.{_≡_, refl, ap, sym, _∙_}
@@ -11,6 +11,7 @@ use borrow.Author.Tests.{lt-ltb, ltb-true, leb-true, eq-eqb, eqb-true, eqb-false
 use lib.Dec.{eqb, leb}
 use lib.ListN.{getD, length, take, drop, length-drop, length-map}
 use lib.Seq.{sets, length-sets, ext-getD, getD-take, getD-drop, length-take-le}
+use Rattle.limits.specs.Limits.{mostCells}
 use Rattle.lists.specs.Choice.{pick}
 use Rattle.lists.specs.Lists.{range, all}
 use Rattle.lists.proofs.Cases.{le-or-lt}
@@ -201,7 +202,7 @@ in-turn {g} {st} {p} {starts₀ = starts₀} {flat₀ = flat₀} l w =
 
 -- ARRAYS OF 1,024 PLACES, lent to a grouping
 
-blank-long : length blankPlaces ≡ 1024
+blank-long : length blankPlaces ≡ mostCells
 unfolding blankPlaces
 blank-long = refl
 
@@ -294,7 +295,7 @@ grouping-hand-out b p buffer k z h =
     let a = accepted b (length buffer) z in
     rw z (own-hand-out (sizeOf b) (b .book .states) p (sizes-fit b p refl (a .0)) buffer k (a .1) h)
 
--- question 2 in 01's words: "starts rise strictly from 0 and stay below h·w"
+-- question 2 as SPEC 3.2 has it: the starts rise strictly from 0 and stay below h·w
 pub rise-iff : (n count : ℕ) (starts : List ℕ)
     → (startsRise n count starts ≡ true)
     ↔ ((getD starts 0 0 ≡ 0) × ((k : ℕ) → k + 1 < count → getD starts k 0 < getD starts (k + 1) 0) × ((k : ℕ) → k < count → getD starts k 0 < n))
@@ -317,7 +318,7 @@ rise-iff n count starts = (
       (le-or-lt count (k + 1))))),
 )
 
--- "its cells' groups exist"
+-- the group of each cell exists
 pub exist-iff : (n count : ℕ) (ids : List ℕ) → (groupsExist n count ids ≡ true) ↔ ((c : ℕ) → c < n → getD ids c 0 < count)
 unfolding groupsExist
 exist-iff n count ids = (

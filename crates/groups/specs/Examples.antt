@@ -16,7 +16,7 @@ row-starts : startsOf 3 (0 ∷ 1 ∷ 1 ∷ []) 2 ≡ 0 ∷ 1 ∷ []
 unfolding startsOf
 row-starts = refl
 
--- 2 by 2: the left border Connected, the others undecided, undecided and Wall
+-- 2 by 2: the upper border undecided, the left one Connected, the lower and the right one Walls
 square-units : groupIds (grid 2 2) (0 ∷ 2 ∷ 1 ∷ 2 ∷ []) false ≡ 0 ∷ 1 ∷ 0 ∷ 2 ∷ []
 unfolding groupIds
 square-units = refl

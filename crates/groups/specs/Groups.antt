@@ -1,4 +1,4 @@
--- Groups of cells (01, "Groups"): the parts into which a board's borders that pass join its cells.
+-- Groups of cells (SPEC 4.1): the parts into which a board's borders that pass join its cells.
 -- Assumes nothing.
 use Prim.Native.Nat.{ℕ}
 use mathlib.Core.Bool.{Bool}
@@ -14,7 +14,7 @@ use Rattle.grid.specs.Grid.{cells, goesOn, next, border}
 use Rattle.borders.specs.Border.{stateOf}
 use Rattle.parts.specs.Parts.{Edge, edge, roots, begunIn, parts}
 
--- "Units join over Connected; potential units also over undecided": a border of state s joins its cells
+-- a border of state s joins its cells: for units a Connected one, for potential units an undecided one too (SPEC 4.1)
 unfoldable pub passes : Bool → ℕ → Bool
 passes potential s = either (eqb s 1) (both potential (eqb s 0))
 
@@ -32,7 +32,11 @@ edgesOver g pass = gather (λ c. gather (edgeAt g pass c) (Down ∷ Right ∷ []
 abbrev pub edges : Grid → List ℕ → Bool → List Edge
 edges g states potential = edgesOver g (λ e. passes potential (stateOf states e))
 
--- each cell's group: "Groups are numbered from 0 by first cell in row order"
+-- in a cell's place while its group is not known yet
+abbrev pub noGroup : ℕ
+noGroup = 65535
+
+-- each cell's group, numbered from 0 by first cell (SPEC 4.1)
 unfoldable pub groupIds : Grid → List ℕ → Bool → List ℕ
 unfolding edgesOver passes parts
 groupIds g states potential = parts (cells g) (edges g states potential)

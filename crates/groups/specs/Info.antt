@@ -1,4 +1,4 @@
--- The group record, and what grouping and hand-out answer (01, "Groups", with questions 1, 2, 3 and 6).
+-- The group record, and what grouping and hand-out answer (SPEC 1.10, 4.1 and 4.2, with questions 1, 2, 3 and 6).
 -- Assumes nothing.
 use Prim.Native.Nat.{ℕ, _+_, _-_, _*_}
 use mathlib.Core.Bool.{Bool}
@@ -6,6 +6,7 @@ use mathlib.Core.List.{List, []}
 use lib.Dec.{eqb, ltb, leb}
 use lib.ListN.{getD, length, take, drop, replicate}
 use lib.Seq.{sets}
+use Rattle.limits.specs.Limits.{mostCells}
 use Rattle.lists.specs.Choice.{both, pick}
 use Rattle.lists.specs.Lists.{range, all}
 use Rattle.grid.specs.declared.Grid.{Grid}
@@ -19,16 +20,16 @@ use Rattle.groups.specs.Turn.{inTurn, startsOf}
 
 -- no number of the arrays is used yet
 unfoldable pub blankPlaces : List ℕ
-blankPlaces = replicate 1024 0
+blankPlaces = replicate mostCells 0
 
 abbrev pub grouping : ℕ → GroupInfo → Grouping
 grouping n i = record { code = n; info = i }
 
--- "a refused grouping returns such a group record": every number is 0
+-- the record of a refused grouping (SPEC 3.13)
 abbrev pub zeroInfo : GroupInfo
 zeroInfo = record { grid = grid 0 0; count = 0; ids = blankPlaces; starts = blankPlaces }
 
--- "a group record: height, width, each cell's group, each group's start"; places behind the last cell and the last group stay 0
+-- the group record (SPEC 1.10); places behind the last cell and the last group stay 0
 abbrev pub infoOf : Grid → List ℕ → Bool → GroupInfo
 infoOf g st potential =
     record {
@@ -48,14 +49,14 @@ groupingOf b potential places =
     (grouping 0 (infoOf (sizeOf b) (b .book .states) potential))
     (grouping (groupingCode b places) zeroInfo)
 
--- "writes the cells of all groups, in turn, to the buffer's first h·w places"
+-- the cells of all groups in turn, in the buffer's first h·w places (SPEC 4.1)
 abbrev pub bufferOf : Board → Bool → List ℕ → List ℕ
 bufferOf b potential buffer =
     pick (eqb (groupingCode b (length buffer)) 0)
     (sets buffer 0 (inTurn (cells (sizeOf b)) (groupIds (sizeOf b) (b .book .states) potential) (groupCount (sizeOf b) (b .book .states) potential)))
     buffer
 
--- where group k ends: "to the next group's start, or to h·w for the last"
+-- where group k ends: at the next group's start, the last at h·w (SPEC 4.2)
 unfoldable pub endOf : ℕ → ℕ → List ℕ → ℕ → ℕ
 endOf n count starts k = pick (ltb (k + 1) count) (getD starts (k + 1) 0) n
 
@@ -67,11 +68,11 @@ stretch xs a e = take (e - a) (drop a xs)
 abbrev pub groupPart : ℕ → ℕ → List ℕ → List ℕ → ℕ → List ℕ
 groupPart n count starts flat k = stretch flat (getD starts k 0) (endOf n count starts k)
 
--- "a group record's starts rise strictly from 0 and stay below h·w": the first is 0, and each is below the next or, the last, below h·w
+-- the starts rise strictly from 0 (SPEC 3.2): the first is 0, and each is below the next or, the last, below h·w
 unfoldable pub startsRise : ℕ → ℕ → List ℕ → Bool
 startsRise n count starts = both (eqb (getD starts 0 0) 0) (all (λ k. ltb (getD starts k 0) (endOf n count starts k)) (range count))
 
--- "its cells' groups exist"
+-- the group of each cell exists (SPEC 3.2)
 unfoldable pub groupsExist : ℕ → ℕ → List ℕ → Bool
 groupsExist n count ids = all (λ c. ltb (getD ids c 0) count) (range n)
 
@@ -88,14 +89,14 @@ abbrev pub handOutCode : GroupInfo → ℕ → ℕ → ℕ
 handOutCode i places k =
     pick (eqb (infoCode i) 0) (pick (ltb k (i .count)) (pick (leb (cells (i .grid)) places) 0 6) 3) (infoCode i)
 
--- "the buffer's part from the group's start to the next group's start, or to h·w for the last"; refused, the empty part
+-- the buffer's part from the group's start to its end (SPEC 4.2); refused, the empty part (3.14)
 abbrev pub handOutOf : GroupInfo → List ℕ → ℕ → List ℕ
 handOutOf i buffer k =
     pick (eqb (handOutCode i (length buffer) k) 0)
     (groupPart (cells (i .grid)) (i .count) (i .starts) buffer k)
     []
 
--- where that part begins: at the group's start; refused, "at the buffer's start"
+-- where that part begins: at the group's start; refused, at the buffer's start (SPEC 3.14)
 abbrev pub handOutStart : GroupInfo → ℕ → ℕ → ℕ
 handOutStart i places k = pick (eqb (handOutCode i places k) 0) (getD (i .starts) k 0) 0
 

@@ -11,11 +11,11 @@ use lib.Seq.{sets, length-sets}
 use Rattle.lists.specs.Choice.{orElse}
 use Rattle.lists.specs.Lists.{countFrom, range, first}
 use Rattle.lists.proofs.ListLaws.{countFrom-step, countFrom-end}
-use Rattle.inner_walls.specs.declared.Found.{Found}
-use Rattle.inner_walls.specs.declared.Found.the-variants.{Clear, Fault}
-use Rattle.inner_walls.specs.Found.{Told}
+use Rattle.answers.specs.declared.Found.{Found}
+use Rattle.answers.specs.declared.Found.the-variants.{Nothing, Fault}
+use Rattle.answers.specs.Answers.{Told}
 
-pub told-nothing : {o : Option (List ℕ)} {b : List ℕ} → o ≡ none → Told o b b Clear
+pub told-nothing : {o : Option (List ℕ)} {b : List ℕ} → o ≡ none → Told o b b Nothing
 told-nothing {b = b} q = record { answer = rw q; stored = rw q }
 
 module _ {b b' : List ℕ} {r : Found} where
@@ -24,7 +24,7 @@ module _ {b b' : List ℕ} {r : Found} where
   told-long (some L) t = ap length (t .stored) ∙ length-sets b 0 L
 
   no-fault : {n : ℕ} → Told none b b' r → r ≡ Fault n → ⊥
-  no-fault {n} t e = let q : Clear ≡ Fault n = sym (t .answer) ∙ e in let z : _≡_ {A = ℕ} 0 1 = cc in omega arith
+  no-fault {n} t e = let q : Nothing ≡ Fault n = sym (t .answer) ∙ e in let z : _≡_ {A = ℕ} 0 1 = cc in omega arith
 
   -- a fault: its length, and its list in the buffer
   pub told-fault : (o : Option (List ℕ)) {n : ℕ} → Told o b b' r → r ≡ Fault n → (L : List ℕ) × (o ≡ some L) × (n ≡ length L) × (b' ≡ sets b 0 L)
@@ -32,9 +32,9 @@ module _ {b b' : List ℕ} {r : Found} where
   told-fault (some L) {n} t e = (L, refl, let q : Fault (length L) ≡ Fault n = sym (t .answer) ∙ e in cc, t .stored)
 
   -- nothing: the buffer is as it was
-  pub told-clear : (o : Option (List ℕ)) → Told o b b' r → r ≡ Clear → (o ≡ none) × (b' ≡ b)
-  told-clear none t e = (refl, t .stored)
-  told-clear (some L) t e = absurd (let q : Fault (length L) ≡ Clear = sym (t .answer) ∙ e in let z : _≡_ {A = ℕ} 0 1 = cc in omega arith)
+  pub told-none : (o : Option (List ℕ)) → Told o b b' r → r ≡ Nothing → (o ≡ none) × (b' ≡ b)
+  told-none none t e = (refl, t .stored)
+  told-none (some L) t e = absurd (let q : Fault (length L) ≡ Nothing = sym (t .answer) ∙ e in let z : _≡_ {A = ℕ} 0 1 = cc in omega arith)
 
   -- one stage before another
   pub first-told : (p q : Option (List ℕ)) {n : ℕ} → Told p b b' r → r ≡ Fault n → Told (orElse p q) b b' (Fault n)
@@ -42,9 +42,9 @@ module _ {b b' : List ℕ} {r : Found} where
   first-told none q t e = absurd (no-fault t e)
   first-told (some L) q t e = record { answer = sym e ∙ t .answer; stored = t .stored }
 
-  pub next-told : {p q : Option (List ℕ)} {b'' : List ℕ} {r' : Found} → Told p b b' r → r ≡ Clear → Told q b' b'' r' → Told (orElse p q) b b'' r'
+  pub next-told : {p q : Option (List ℕ)} {b'' : List ℕ} {r' : Found} → Told p b b' r → r ≡ Nothing → Told q b' b'' r' → Told (orElse p q) b b'' r'
   unfolding orElse
-  next-told {p} t e u = let o = told-clear p t e in rw (o .0, ← o .1) u
+  next-told {p} t e u = let o = told-none p t e in rw (o .0, ← o .1) u
 
 pub orElse-none : (o : Option (List ℕ)) → orElse o none ≡ o
 unfolding orElse
@@ -72,12 +72,12 @@ module _ (f : ℕ → Option (List ℕ)) (n : ℕ) where
       pub search-fault : {b' : List ℕ} {r : Found} {k : ℕ} → Told (f i) b b' r → r ≡ Fault k → Told (first f (range n)) b₀ b' (Fault k)
       search-fault t e = rw (← turn, ← s .same) (first-told (f i) (first f (countFrom (i + 1) (n - (i + 1)))) t e)
 
-      pub search-on : {b' : List ℕ} {r : Found} → Told (f i) b b' r → r ≡ Clear → Searched b₀ b' (i + 1)
+      pub search-on : {b' : List ℕ} {r : Found} → Told (f i) b b' r → r ≡ Nothing → Searched b₀ b' (i + 1)
       unfolding orElse
       search-on t e =
-          let o = told-clear (f i) t e in
+          let o = told-none (f i) t e in
           record { within = omega arith; same = o .1 ∙ s .same; left = rw (o .0) at turn }
 
-    pub search-over : n ≤ i → Told (first f (range n)) b₀ b Clear
+    pub search-over : n ≤ i → Told (first f (range n)) b₀ b Nothing
     unfolding first
     search-over h = rw (s .same) (told-nothing (sym (s .left) ∙ rw (countFrom-end n i h)))

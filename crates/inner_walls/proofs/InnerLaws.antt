@@ -10,6 +10,7 @@ use borrow.Author.Tests.{eq-eqb, ne-eqb}
 use denote.Enum.Declared.{tagOf}
 use lib.ListN.{getD, length, set, length-append}
 use lib.Seq.{sets}
+use Rattle.limits.specs.Limits.{mostBorders}
 use Rattle.lists.specs.Choice.{give}
 use Rattle.grid.specs.declared.Direction.{Direction}
 use Rattle.grid.specs.declared.Beyond.{Beyond}
@@ -26,8 +27,8 @@ use Rattle.path.specs.Trace.{Asks}
 use Rattle.path.proofs.PathLaws.{path-list-short}
 use Rattle.grid.proofs.Told.{at-told, end-told}
 use Rattle.shape.specs.Shape.{innerAt}
-use Rattle.inner_walls.specs.declared.Found.the-variants.{Clear, Fault}
-use Rattle.inner_walls.specs.Found.{Told}
+use Rattle.answers.specs.declared.Found.the-variants.{Nothing, Fault}
+use Rattle.answers.specs.Answers.{Told}
 use Rattle.inner_walls.specs.Asked.{Asked}
 use Rattle.inner_walls.proofs.FoundLaws.{told-nothing}
 
@@ -37,7 +38,7 @@ sets-last [] b at x = let q : at + 0 ≡ at = omega arith in rw q
 sets-last (y ∷ xs) b at x = let q : at + suc (length xs) ≡ suc at + length xs = omega arith in rw q (sets-last xs (set b at y) (suc at) x)
 
 module _ {g : Grid} {states ids b : List ℕ} (a : Asked g states ids b) {c : ℕ} (cell : Cell g c) (d : Direction) {r : Beyond} (is : r ≡ stepOf g d c) where
-  pub at-end : (tagOf the-type r ≡ 1) ⊎ (tagOf the-type r ≡ 2) → Told (innerAt g states ids c d) b b Clear
+  pub at-end : (tagOf the-type r ≡ 1) ⊎ (tagOf the-type r ≡ 2) → Told (innerAt g states ids c d) b b Nothing
   unfolding innerAt give stands
   at-end k = told-nothing (rw (end-told g d c is k))
 
@@ -48,7 +49,7 @@ module _ {g : Grid} {states ids b : List ℕ} (a : Asked g states ids b) {c : �
     pub border-fits : e < length states
     border-fits = omega (arith, border-lt g d c n e there, a .states-long)
 
-    pub border-small : e < 1984
+    pub border-small : e < mostBorders
     border-small = omega (arith, border-lt g d c n e there, borderCount-le g (a .limits))
 
     pub next-fits : n < length ids
@@ -57,12 +58,12 @@ module _ {g : Grid} {states ids b : List ℕ} (a : Asked g states ids b) {c : �
     pub asks : Asks g states c n
     asks = record { limits = a .limits; states-long = a .states-long; start-cell = cell; target-cell = there .cell' }
 
-    pub no-wall : getD states e 0 ≢ 2 → Told (innerAt g states ids c d) b b Clear
+    pub no-wall : getD states e 0 ≢ 2 → Told (innerAt g states ids c d) b b Nothing
     unfolding innerAt give stands stateAt
     no-wall z = let t = at-told g d c is at in told-nothing (rw (t .0, ← t .2, ne-eqb (getD states e 0) 2 z))
 
     module _ (wall : getD states e 0 ≡ 2) where
-      pub two-units : getD ids c 0 ≢ getD ids n 0 → Told (innerAt g states ids c d) b b Clear
+      pub two-units : getD ids c 0 ≢ getD ids n 0 → Told (innerAt g states ids c d) b b Nothing
       unfolding innerAt give stands stateAt
       two-units z =
           let t = at-told g d c is at in

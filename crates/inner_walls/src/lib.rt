@@ -4,17 +4,12 @@ ghost use Rattle.lists.specs.Lists.{first};
 ghost use Rattle.grid.specs.Orders.{forward};
 ghost use Rattle.grid.specs.Grid.{Cell};
 ghost use Rattle.shape.specs.Shape.{innerAt, innerWall};
-ghost use Rattle.inner_walls.specs.Found.{Told};
+ghost use Rattle.answers.specs.Answers.{Told};
 ghost use Rattle.inner_walls.specs.Asked.{Asked};
+use answers::Found;
 use grid::Beyond;
 use grid::Direction;
 use grid::Grid;
-
-// What a stage of the check finds: nothing, or a fault whose list fills so many places of the buffer.
-pub enum Found {
-    Clear,
-    Fault(usize),
-}
 
 // The Wall that a cell has in a direction, if it lies inside a unit: the path between its cells, and then that Wall.
 fn inner_at<'a>(
@@ -31,16 +26,16 @@ fn inner_at<'a>(
         ⌜ Told (innerAt g (now (states .entry)) (now (ids .entry)) cell direction) (now (buffer .entry)) (now (buffer .exit)) r ⌝ }
 {
     let Beyond::At(next, border) = grid::step(g, cell, direction) else {
-        return Found::Clear;
+        return Found::Nothing;
     };
     if states[border] != 2 {
-        return Found::Clear;
+        return Found::Nothing;
     }
     if ids[cell] != ids[next] {
-        return Found::Clear;
+        return Found::Nothing;
     }
-    let n = path::list_joined(states, g, cell, next, buffer);
-    buffer[n] = (2 * border + 1) as u16;
+    let n = path::list_joined(g, states, cell, next, buffer);
+    buffer[n] = borders::entry(border, true);
     Found::Fault(n + 1)
 }
 
@@ -79,5 +74,5 @@ pub fn inner_wall<'a>(g: Grid, states: &'a [u8], ids: &'a [u16], buffer: &mut [u
         }
         cell += 1;
     }
-    Found::Clear
+    Found::Nothing
 }

@@ -1,26 +1,25 @@
--- The numbers of a decide and an undo as facts, and what an accepted one needs of a book that holds together: a place for one more name, and a last
--- name that is a border.
+-- What an accepted decide or undo needs of a book that holds together: a place for one more name, and a last name that is a border.
 -- Assumes nothing.
 use Prim.Native.Nat.{ℕ, _-_, _≤_, _<_}
-use mathlib.Core.Path.{_≡_, refl, ap, sym, _∙_, fun-ext}
-use mathlib.Core.Logic.{_≢_, ⊎-elim}
-use mathlib.Core.Bool.{Bool, true, false}
+use mathlib.Core.Path.{_≡_, ap, sym, _∙_, fun-ext}
+use mathlib.Core.Logic.{⊎-elim}
+use mathlib.Core.Bool.{Bool, true}
 use mathlib.Core.List.{List}
 use native.Mathlib.Omega.{arith}
-use borrow.Author.Tests.{eqb-true, eqb-false, ne-eqb, ltb-true, lt-ltb, leb-true}
-use lib.Dec.{eqb, ltb, leb}
+use borrow.Author.Tests.{leb-true}
+use lib.Dec.{eqb, leb}
 use lib.ListN.{length, getD, replicate, getD-replicate, length-replicate, List·getD-eq-default}
 use lib.Seq.{getD-take, length-take-le}
 use Rattle.limits.specs.Limits.{mostBorders}
-use Rattle.lists.specs.Choice.{pick}
 use Rattle.lists.proofs.Cases.{le-or-lt}
 use Rattle.lists.proofs.ChoiceLaws.{both-true}
 use Rattle.lists.proofs.ListLaws.{getD-in}
 use Rattle.ledger.specs.declared.Book.{Book}
-use Rattle.ledger.specs.Ledger.{decideCode, undoCode, firstCode, holdsOf}
+use Rattle.ledger.specs.Ledger.{decideCode, undoCode, holdsOf}
 use Rattle.ledger.specs.Books.{zeros, noneGiven, namesIn, stateAt, bookHolds}
 use Rattle.ledger.specs.Marks.{givenIn, LentBook}
 use Rattle.ledger.proofs.Question.{Question, holds-question, room-left}
+use Rattle.ledger.proofs.Codes.{undecided, some-name}
 
 pub zero-at : (e : ℕ) → getD zeros e 0 ≡ 0
 unfolding zeros
@@ -44,41 +43,6 @@ by-marks n b t k = sym (k ∙ rw none-given)
 pub lent-book : (n : ℕ) (s l : List ℕ) → n ≤ mostBorders → length s ≡ mostBorders → length l ≡ mostBorders → LentBook n s l zeros
 lent-book n s l h p q =
     record { states-long = omega arith; names-long = omega arith; marks-long = omega (arith, zeros-length); marks-given = λ e. omega (arith, zero-at e) }
-
--- the first of two questions refuses, or the second is put
-pub first-stops : (code next : ℕ) → code ≢ 0 → firstCode code next ≡ code
-first-stops code next z = rw (ne-eqb code 0 z)
-
-pub first-passes : (code next : ℕ) → code ≡ 0 → firstCode code next ≡ next
-first-passes code next z = rw z
-
--- two questions that accept
-pub clear-both : (code next : ℕ) → firstCode code next ≡ 0 → (code ≡ 0) × (next ≡ 0)
-clear-both code next = go (eqb code 0) refl
-  where
-    go : (t : Bool) → eqb code 0 ≡ t → pick t next code ≡ 0 → (code ≡ 0) × (next ≡ 0)
-    go true p z = (eqb-true code 0 p, z)
-    go false p z = absurd (eqb-false code 0 p z)
-
--- a decide that no question refuses
-pub undecided : (n : ℕ) (state : ℕ → ℕ) (e : ℕ) → decideCode n state e ≡ 0 → (e < n) × (state e ≡ 0)
-undecided n state e = go (ltb e n) (eqb (state e) 0) refl refl
-  where
-    go : (t u : Bool) → ltb e n ≡ t → eqb (state e) 0 ≡ u → _≡_ {A = ℕ} (pick t (pick u 0 4) 3) 0 → (e < n) × (state e ≡ 0)
-    go true true p q z = (ltb-true e n p, eqb-true (state e) 0 q)
-    go true false p q z = absurd (omega arith)
-    go false u p q z = absurd (omega arith)
-
-pub decidable : (n : ℕ) (state : ℕ → ℕ) (e : ℕ) → e < n → state e ≡ 0 → decideCode n state e ≡ 0
-decidable n state e h z = rw (lt-ltb e n h, z)
-
--- an undo that no question refuses
-pub some-name : (len : ℕ) → undoCode len ≡ 0 → 0 < len
-some-name len = go (eqb len 0) refl
-  where
-    go : (t : Bool) → eqb len 0 ≡ t → _≡_ {A = ℕ} (pick t 5 0) 0 → 0 < len
-    go true p z = absurd (omega arith)
-    go false p z = omega (arith, eqb-false len 0 p)
 
 -- the arrays of a book, and the borders that they are for
 pub record Places (n : ℕ) (b : Book) : Type 0 where

@@ -1,4 +1,5 @@
 pub mod Question
+pub mod Codes
 pub mod Standing
 pub mod MarkLaws
 pub mod Loops

@@ -10,7 +10,7 @@ use borrow.Author.Tests.{eqb-true, eq-eqb, ne-eqb, leb-false, lt-leb}
 use lib.Dec.{eqb, leb}
 use lib.ListN.{length, getD, set, length-set}
 use lib.Seq.{getD-set-same, getD-set-other}
-use Rattle.lists.specs.Choice.{both, either, pick}
+use Rattle.lists.specs.Choice.{both, pick}
 use Rattle.lists.specs.Lists.{range, In, count, all}
 use Rattle.lists.proofs.Cases.{eq-or-ne, le-or-lt}
 use Rattle.lists.proofs.ChoiceLaws.{both-true, true-both, either-true, left-either, right-either, same-truth}
@@ -105,16 +105,6 @@ marked-other m (x ∷ l) e z =
     (λ c. absurd (omega (arith, c .1)))
     (λ c. marked-other (set m x 2) l e (omega (arith, c .1)) ∙ getD-set-other m x e 2 0 (c .0))
     (count-cons x e l)
-
--- a state beside a mark, by cases on the mark
-fits-none : (s : ℕ) → fitsOf s 0 ≡ eqb s 0
-fits-none s = refl
-
-fits-given : (s : ℕ) → fitsOf s 1 ≡ eqb s 2
-fits-given s = refl
-
-fits-named : (s : ℕ) → fitsOf s 2 ≡ either (eqb s 1) (eqb s 2)
-fits-named s = refl
 
 named-facts : (s : ℕ) → fitsOf s 2 ≡ true → (s ≢ 0) × (s ≤ 2)
 named-facts s q =

@@ -9,17 +9,19 @@ use mathlib.Core.List.{List, [], _∷_, _++_}
 use native.Mathlib.Omega.{arith}
 use native.Mathlib.Numerals.{add-one}
 use borrow.Author.Tests.{eq-eqb, ne-eqb, lt-ltb, le-ltb, le-leb}
-use lib.Dec.{eqb, ltb}
+use lib.Dec.{eqb}
 use lib.ListN.{length, getD, take, set, length-set, length-append}
 use lib.Seq.{getD-take, getD-set-same, getD-set-other, take-suc-set, take-set-le, take-take, set-set, set-getD, length-take-le, take-length}
-use Rattle.lists.specs.Choice.{both, pick}
+use Rattle.limits.specs.Limits.{mostBorders}
+use Rattle.lists.specs.Choice.{pick}
 use Rattle.lists.proofs.ChoiceLaws.{true-both}
 use Rattle.lists.proofs.Cases.{le-or-lt, eq-or-ne}
 use Rattle.ledger.specs.declared.Book.{Book}
 use Rattle.ledger.specs.Ledger.{Decision, Call, decide, undo, ask, stateFor, stateIn, standing, decideCode, undoCode, accepted, ledgerAfter, ledgerOf}
 use Rattle.ledger.specs.Books.{freshBook, namesIn, stateAt, bookHolds, placed, taken, bookAfter, run}
 use Rattle.ledger.proofs.Standing.{Sound, sound-empty, sound-length, sound-decide, sound-take, Follows, follows-decide, follows-undo, holds-together, accepted-facts}
-use Rattle.ledger.proofs.BookLaws.{zero-at, zeros-length, undecided, name-free}
+use Rattle.ledger.proofs.Codes.{undecided}
+use Rattle.ledger.proofs.BookLaws.{zero-at, zeros-length, name-free}
 
 -- a book of calls: exactly the decisions of the ledger L stand, and the places behind the last name are free
 pub record Reached (n : ℕ) (given : ℕ → Bool) (L : List Decision) (b : Book) : Type 0 where
@@ -29,16 +31,6 @@ pub record Reached (n : ℕ) (given : ℕ → Bool) (L : List Decision) (b : Boo
   pub sound : Sound n given L
   pub follows : Follows n given (b .states) (namesIn b) L
   pub rest-free : (i : ℕ) → b .len ≤ i → getD (b .names) i 0 ≡ 0
-
--- the ledger accepts a decide exactly where no number refuses it
-pub accepted-code : (n : ℕ) (given : ℕ → Bool) (L : List Decision) (e : ℕ) → accepted n given L e ≡ eqb (decideCode n (standing given L) e) 0
-unfolding accepted
-accepted-code n given L e = go (ltb e n) (eqb (standing given L e) 0)
-  where
-    go : (t u : Bool) → both t u ≡ eqb (pick t (pick u 0 4) 3) 0
-    go true true = refl
-    go true false = refl
-    go false u = refl
 
 module _ (n : ℕ) (given : ℕ → Bool) where
   module _ (L : List Decision) (b : Book) (r : Reached n given L b) where
@@ -59,7 +51,8 @@ module _ (n : ℕ) (given : ℕ → Bool) where
         (le-or-lt n e)
 
     pub record-accepts : (e : ℕ) → accepted n given L e ≡ eqb (decideCode n (stateAt (b .states)) e) 0
-    record-accepts e = accepted-code n given L e ∙ ap (λ x. eqb x 0) (sym (same-code e))
+    unfolding accepted
+    record-accepts e = ap (λ x. eqb x 0) (sym (same-code e))
 
     pub placed-reached : (e : ℕ) (wall : Bool) → accepted n given L e ≡ true → Reached n given (L ++ (record { border = e; wall = wall } ∷ [])) (placed b e wall)
     placed-reached e wall a =
@@ -138,7 +131,7 @@ module _ (n : ℕ) (given : ℕ → Bool) where
   reached-run L b r (c ∷ cs) = reached-run (ledgerAfter n given L c) (bookAfter n b c) (reached-after L b r c) cs
 
   -- THE THEOREM, from a fresh book: its states are those of the given walls
-  module _ (s : List ℕ) (a : n ≤ length s) (m : n ≤ 1984) (f : (e : ℕ) → e < n → getD s e 0 ≡ pick (given e) 2 0) where
+  module _ (s : List ℕ) (a : n ≤ length s) (m : n ≤ mostBorders) (f : (e : ℕ) → e < n → getD s e 0 ≡ pick (given e) 2 0) where
     pub reached-fresh : Reached n given [] (freshBook s)
     unfolding standing stateIn
     reached-fresh =

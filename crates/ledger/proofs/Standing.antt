@@ -6,34 +6,17 @@ use mathlib.Core.Logic.{_⊎_, inl, inr, _≢_, ⊎-elim}
 use mathlib.Core.Bool.{Bool, true, false, not, true≢false}
 use mathlib.Core.List.{List, [], _∷_, _++_}
 use native.Mathlib.Omega.{arith}
-use borrow.Author.Tests.{eqb-true, eq-eqb, ne-eqb, lt-ltb, ltb-true, le-leb}
-use lib.Dec.{eqb, ltb}
+use borrow.Author.Tests.{eqb-true, eq-eqb, ne-eqb}
+use lib.Dec.{eqb}
 use lib.ListN.{length, getD, take, set, length-map, List·getD-map}
 use lib.Seq.{getD-set-same, getD-set-other, take-length, take-suc}
 use Rattle.lists.specs.Choice.{both, pick}
-use Rattle.lists.specs.Lists.{range, In, count, all}
+use Rattle.lists.specs.Lists.{count}
 use Rattle.lists.proofs.Cases.{eq-or-ne, true-or-false}
-use Rattle.lists.proofs.ChoiceLaws.{both-true, true-both}
-use Rattle.lists.proofs.ListLaws.{true-all, in-range}
 use Rattle.lists.proofs.CountLaws.{count-none, count-append, count-take, count-here, count-other, in-count, distinct-le}
-use Rattle.ledger.specs.Ledger.{
-  Decision,
-  Call,
-  decide,
-  undo,
-  ask,
-  stateFor,
-  stateIn,
-  standing,
-  accepted,
-  ledgerAfter,
-  ledgerOf,
-  borders,
-  stateOk,
-  namedOnce,
-  givenWall,
-  holdsOf,
-}
+use Rattle.ledger.specs.Ledger.{Decision, Call, decide, undo, ask, stateFor, stateIn, standing, decideCode, accepted, ledgerAfter, ledgerOf, borders, holdsOf}
+use Rattle.ledger.proofs.Question.{question-holds}
+use Rattle.ledger.proofs.Codes.{undecided}
 
 -- a ledger over n borders names none twice, none that is given, none that does not exist
 pub record Sound (n : ℕ) (given : ℕ → Bool) (l : List Decision) : Type 0 where
@@ -116,9 +99,9 @@ module _ (n : ℕ) (given : ℕ → Bool) where
   pub accepted-facts : (l : List Decision) (e : ℕ) → accepted n given l e ≡ true → (e < n) × (given e ≡ false) × (stateIn l e ≡ 0)
   unfolding accepted
   accepted-facts l e q =
-      let k = both-true (ltb e n) (eqb (standing given l e) 0) q in
-      let f = standing-free l e (eqb-true _ _ (k .1)) in
-      (ltb-true e n (k .0), f .0, f .1)
+      let k = undecided n (standing given l) e (eqb-true (decideCode n (standing given l) e) 0 q) in
+      let f = standing-free l e (k .1) in
+      (k .0, f .0, f .1)
 
   pub sound-decide : (l : List Decision) (d : Decision) → Sound n given l → d .border < n → given (d .border) ≡ false → stateIn l (d .border) ≡ 0 → Sound n given (l ++ (d ∷ []))
   sound-decide l d s b g z =
@@ -260,29 +243,19 @@ module _ (n : ℕ) (given : ℕ → Bool) where
         (named-or-not L e)))
         (true-or-false (given e))
 
-    states-ok : (e : ℕ) → e < n → stateOk s e ≡ true
-    states-ok e h = le-leb (getD s e 0) 2 (rw (f .stands e h) (standing-le e))
-
-    names-inside : (e : ℕ) → In e l → ltb e n ≡ true
-    names-inside e m = lt-ltb e n (sound .inside e (rw (f .names) at (in-count e l m)))
-
-    named-once : (e : ℕ) → e < n → namedOnce given s l e ≡ true
-    named-once e h =
-        let k = counted e h in
-        eq-eqb (count e l) (pick (both (not (given e)) (not (eqb (getD s e 0) 0))) 1 0) (rw (f .names) k)
-
-    given-wall : (e : ℕ) → e < n → givenWall given s e ≡ true
-    given-wall e h =
-        ⊎-elim
-        (λ (g : given e ≡ true). rw (g, f .stands e h, standing-given L e g))
-        (λ (g : given e ≡ false). rw g)
-        (true-or-false (given e))
-
-    over : (p : ℕ → Bool) → ((e : ℕ) → e < n → p e ≡ true) → all p (range n) ≡ true
-    over p q = true-all p (range n) (λ e m. q e (in-range n e m))
-
     pub holds-together : holdsOf n given s l ≡ true
-    unfolding holdsOf
     holds-together =
-        true-both _ _ (over (stateOk s) states-ok)
-        (true-both _ _ (true-both _ _ (true-all _ l names-inside) (over (namedOnce given s l) named-once)) (over (givenWall given s) given-wall))
+        question-holds n given s l
+        record {
+          inside = λ e m. sound .inside e (rw (f .names) at (in-count e l m));
+          kept = λ e h.
+              record {
+                state = rw (f .stands e h) (standing-le e);
+                counted = rw (f .names) (counted e h);
+                wall =
+                    ⊎-elim
+                    (λ (g : given e ≡ true). rw (g, f .stands e h, standing-given L e g))
+                    (λ (g : given e ≡ false). rw g)
+                    (true-or-false (given e));
+              };
+        }

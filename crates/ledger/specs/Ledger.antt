@@ -48,7 +48,7 @@ firstCode code next = pick (eqb code 0) next code
 -- questions 3 and 4, put to the arguments and the ledger
 unfoldable pub accepted : ℕ → (ℕ → Bool) → List Decision → ℕ → Bool
 unfolding standing
-accepted n given l e = both (ltb e n) (eqb (standing given l e) 0)
+accepted n given l e = eqb (decideCode n (standing given l) e) 0
 
 -- an accepted decide stands at the end, an accepted undo drops the last; asks and refused calls change nothing (SPEC 1.5)
 unfoldable pub ledgerAfter : ℕ → (ℕ → Bool) → List Decision → Call → List Decision

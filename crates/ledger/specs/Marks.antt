@@ -43,14 +43,7 @@ pub record Marked (n : ℕ) (m l : List ℕ) (r : Bool) (m' : List ℕ) : Type 0
   pub answer : r ≡ newNames n m l
   pub marks : r ≡ true → m' ≡ markAll m l
 
--- the slices are long enough, and the marks are those of given walls
-pub record Lent (n len : ℕ) (s l m : List ℕ) : Type 0 where
-  pub states-long : n ≤ length s
-  pub names-long : len ≤ length l
-  pub marks-long : n ≤ length m
-  pub marks-given : (e : ℕ) → getD m e 0 ≤ 1
-
--- a whole book and marks of given walls
+-- a book's slices are long enough, and the marks are those of given walls
 pub record LentBook (n : ℕ) (s l m : List ℕ) : Type 0 where
   pub states-long : n ≤ length s
   pub names-long : n ≤ length l

@@ -9,7 +9,7 @@ ghost use Rattle.ledger.specs.Ledger.{stateFor, decideCode, undoCode, ho
 ghost use Rattle.ledger.specs.Books.{book, stateAt, bookHolds};
 ghost use lib.Dec.{eqb};
 ghost use Rattle.lists.specs.Choice.{both, pick};
-ghost use Rattle.ledger.specs.Marks.{fitsOf, Marked, Lent, LentBook, fitAll, givenIn, greaterOf, allBelow};
+ghost use Rattle.ledger.specs.Marks.{fitsOf, Marked, LentBook, fitAll, givenIn, greaterOf, allBelow};
 
 // What a record keeps of its ledger: a state for each border, and the first `len` names of decided borders in order.
 #[repr(C)]
@@ -127,9 +127,10 @@ fn all_fit<'a>(states: &'a [u8], marks: &'a [u8], n: usize) -> bool
     worst < 1
 }
 
-// Question 2 of a ledger over n borders: `marks` comes in with 1 at each given wall and 0 elsewhere.
-pub fn holds<'a>(states: &'a [u8], names: &'a [u16], len: usize, n: usize, marks: &mut [u8]) -> bool
-    requires { ⌜ Lent n len (now states) (now names) (now marks) ⌝ }
+// Whether states and names belong together: `marks` comes in with 1 at each given wall and 0 elsewhere.
+fn holds<'a>(states: &'a [u8], names: &'a [u16], len: usize, n: usize, marks: &mut [u8]) -> bool
+    requires { ⌜ LentBook n (now states) (now names) (now marks) ⌝ }
+    requires { ⌜ len ≤ n ⌝ }
     ensures { λ r. ⌜ r ≡ holdsOf n (givenIn (now (marks .entry))) (now (states .entry)) (take len (now (names .entry))) ⌝ }
 {
     if !mark_names(names, len, n, marks) {

@@ -1,20 +1,20 @@
--- The numbers that bound every record (01, "Board", "Room graph", "Puzzle", question 6), as the code's constants have them.
+-- The numbers that bound every record (SPEC 1.1, 1.7, 1.8, 3.6), as the code's constants have them.
 -- Assumes nothing.
 use Prim.Native.Nat.{ℕ}
 
--- "each 1 to 32", "Up to 1,024 vertices"
+-- SPEC 1.1, 1.8: cells of 32 by 32, and vertices of a room graph
 abbrev pub mostCells : ℕ
 mostCells = 1024
 
--- "1,984 edges": as many as the borders of 32 by 32
+-- SPEC 1.2, 1.8: borders of 32 by 32, and edges of a room graph
 abbrev pub mostBorders : ℕ
 mostBorders = 1984
 
--- "9·h·w entries"
+-- SPEC 3.6: nine entries for each cell
 abbrev pub mostEntries : ℕ
 mostEntries = 9216
 
--- "65535 means no clue"
+-- SPEC 1.7: no clue
 abbrev pub noClue : ℕ
 noClue = 65535
 

@@ -1,11 +1,10 @@
 -- What lies beyond a cell, and where its border lands, as facts; a landing by doubled coordinates is the definition's.
 -- Assumes nothing.
-use Prim.Native.Nat.{ℕ, _<_}
+use Prim.Native.Nat.{ℕ, _≤_, _<_}
 use mathlib.Core.Path.{_≡_, refl, ap, ap₂, sym, _∙_}
 use mathlib.Core.Logic.{_⊎_, ⊎-elim}
 use mathlib.Core.Bool.{Bool, true, false, not}
 use mathlib.Core.List.{List}
-use mathlib.Core.Option.{some}
 use native.Mathlib.Omega.{arith}
 use denote.Enum.Declared.{tagOf}
 use lib.Dec.{eqb}
@@ -15,6 +14,7 @@ use lib.Signed.{mag}
 use mir.Syntax.{w32}
 use mir.Val.{toZ, ofZ}
 use mir.ValLaws.{toZ-ofZ}
+use Rattle.limits.specs.Limits.{mostBorders}
 use Rattle.lists.specs.Choice.{both, either, pick, give, through}
 use Rattle.grid.specs.declared.Direction.{Direction}
 use Rattle.grid.specs.declared.Direction.the-variants.{Up, Down, Left, Right}
@@ -22,16 +22,20 @@ use Rattle.grid.specs.declared.Beyond.{Beyond}
 use Rattle.grid.specs.declared.Beyond.the-variants.{At, End, Refused}
 use Rattle.grid.proofs.Beyond.{the-type}
 use Rattle.grid.specs.declared.Grid.{Grid}
-use Rattle.grid.specs.Grid.{Limits, cells, row, col, goesOn, next, border, borderCount, stepOf}
-use Rattle.grid.proofs.Geometry.{goes-step, border-lt, borderCount-le, cells-le}
+use Rattle.grid.specs.Grid.{Limits, Cell, row, col, goesOn, next, border, borderCount, stepOf}
+use Rattle.grid.proofs.Geometry.{goes-step, border-lt, borderCount-le, row-lt, col-lt}
+use Rattle.borders.specs.Entry.{entryOf}
 use Rattle.borders.specs.Border.{stateAt, stands}
 use Rattle.offsets.specs.declared.reach.Shift.{Shift}
 use Rattle.offsets.specs.declared.places.Place.{Place}
+use Rattle.offsets.specs.declared.places.Landing.{Landing}
 use Rattle.offsets.specs.declared.places.Landing.the-variants.{Border, Outside}
+use Rattle.offsets.specs.declared.landings.Fail.{Fail}
 use Rattle.offsets.specs.declared.landings.Fail.the-variants.{Nowhere, At as Entry}
 use Rattle.offsets.specs.Places.{aheadOf, borderOf, landOf}
-use Rattle.offsets.specs.Reach.{moved}
-use Rattle.offsets.specs.Landings.{failOf, badOf, entryOf, keptOf, landingOf, failAt, Seen, Turning}
+use Rattle.offsets.specs.Table.{rowIn, colIn, unitsIn}
+use Rattle.offsets.specs.Reach.{Small}
+use Rattle.offsets.specs.Landings.{failOf, badOf, keptOf, landingOf, failAt, Turning}
 use Rattle.offsets.proofs.PlaceLaws.{coordinate-moves, place-lands}
 use Rattle.offsets.proofs.ReachLaws.{Fell, fell, fell-cell}
 
@@ -91,12 +95,11 @@ module _ (g : Grid) (states ids : List ℕ) (inner : Bool) (unit c : ℕ) (d : D
     unfolding keptOf stateAt
     kept-shut q = rw (q, b .goes, b .border-is)
 
-    pub seen-at : Seen g states ids c → (n < length ids) × (n < 1024) × (e < length states)
-    seen-at s =
-        let k = goes-step g d c (s .cell) (b .goes) in
-        let i : n < cells g = rw (b .next-is) (k .cell') in
+    pub seen-at : Limits g → Cell g c → borderCount g ≤ length states → Cell g n × (e < length states)
+    seen-at l h long =
+        let k = goes-step g d c h (b .goes) in
         let j : e < borderCount g = rw (b .border-is) (border-lt g d c (next g d c) (border g d c) k) in
-        omega (arith, s .ids-long, s .states-long, cells-le g (s .limits))
+        (rw (b .next-is) (k .cell'), omega arith)
 
 -- ahead of a cell lies one place
 ahead-fits : (d : Direction) → (mag (aheadOf d .y) < 2) × (mag (aheadOf d .x) < 2)
@@ -128,39 +131,73 @@ landing-is g s y x c d l f =
     ∙ ap (λ n. borderOf (stepOf g d n)) (sym (f .number))
 
 -- the four ways to answer a border of c
-module _ (g : Grid) (s : Shift) (states ids : List ℕ) (inner : Bool) (unit c : ℕ) (d : Direction) (z : ℕ) (q : moved g s (row g c) (col g c) ≡ some z) where
-  pub not-kept : keptOf g states ids inner unit c d ≡ false → Nowhere ≡ failOf (failAt g s states ids inner unit c d)
-  unfolding failAt through give
-  not-kept k = rw (q, k)
+module _ {g : Grid} {states table : List ℕ} {s : Shift} {c : ℕ} (t : Turning g states table s c) (inner : Bool) (d : Direction) where
+  abbrev ids : List ℕ
+  ids = unitsIn g table
 
-  pub lands-outside : goesOn g d z ≡ false → Nowhere ≡ failOf (failAt g s states ids inner unit c d)
+  abbrev z : ℕ
+  z = t .falls .0
+
+  abbrev answer : Fail
+  answer = failOf (failAt g s states ids inner c d)
+
+  pub not-kept : keptOf g states ids inner (s .unit) c d ≡ false → Nowhere ≡ answer
+  unfolding failAt through give
+  not-kept k = rw (t .falls .1, k)
+
+  lands-outside : goesOn g d z ≡ false → Nowhere ≡ answer
   unfolding failAt through stands
-  lands-outside k = rw (q, k) (go (keptOf g states ids inner unit c d))
+  lands-outside k = rw (t .falls .1, k) (go (keptOf g states ids inner (s .unit) c d))
     where
-      go : (t : Bool) → Nowhere ≡ failOf (give (both t false) (entryOf inner (border g d z)))
+      go : (b : Bool) → Nowhere ≡ failOf (give (both b false) (entryOf inner (border g d z)))
       go true = unfold give in refl
       go false = unfold give in refl
 
-  module _ (k : keptOf g states ids inner unit c d ≡ true) (e : ℕ) (on : goesOn g d z ≡ true) (r : e ≡ border g d z) where
-    pub lands-badly : badOf inner (getD states e 0) ≡ true → Entry (entryOf inner e) ≡ failOf (failAt g s states ids inner unit c d)
-    unfolding failAt through give stands stateAt
-    lands-badly b = rw (q, k, on, ← r, b)
+  fall : Fell g s (row g c) (col g c) z
+  fall = fell g s (row g c) (col g c) z (t .falls .1)
 
-    pub lands-well : badOf inner (getD states e 0) ≡ false → Nowhere ≡ failOf (failAt g s states ids inner unit c d)
-    unfolding failAt through give stands stateAt
-    lands-well b = rw (q, k, on, ← r, b)
+  module _ {y x : ℕ} (y-is : y ≡ rowIn table c) (x-is : x ≡ colIn table c) where
+    at-row : y ≡ row g c
+    at-row = y-is ∙ t .seen .table-of .row-at c (t .seen .cell)
 
--- what is known of a border that lands
-module _ (g : Grid) (s : Shift) (states ids : List ℕ) (c y x : ℕ) (d : Direction) (t : Turning g s states ids c y x) where
-  fall : Fell g s (row g c) (col g c) (t .falls .0)
-  fall = fell g s (row g c) (col g c) (t .falls .0) (t .falls .1)
+    at-col : x ≡ col g c
+    at-col = x-is ∙ t .seen .table-of .col-at c (t .seen .cell)
 
-  pub turning-landing : landingOf g s y x d ≡ borderOf (stepOf g d (t .falls .0))
-  turning-landing = ap₂ (λ a b. landingOf g s a b d) (t .row-is) (t .col-is) ∙ landing-is g s (row g c) (col g c) (t .falls .0) d (t .seen .limits) fall
+    pub turning-small : Small g s y x
+    turning-small =
+        let m = t .small in
+        record {
+          limits = m .limits;
+          from-row = m .from-row;
+          from-col = m .from-col;
+          to-row = m .to-row;
+          to-col = m .to-col;
+          row-small = omega (arith, at-row, row-lt g c (t .seen .cell), m .limits .height-fits);
+          col-small = omega (arith, at-col, col-lt g c (t .seen .cell), m .limits .width-fits);
+        }
 
-  pub landed-border : (e : ℕ) → goesOn g d (t .falls .0) ≡ true → e ≡ border g d (t .falls .0) → (e < length states) × (e < 1984)
-  landed-border e on q =
-      let z = t .falls .0 in
-      let k = goes-step g d z (fell-cell g s (row g c) (col g c) z fall) on in
-      let j : e < borderCount g = rw q (border-lt g d z (next g d z) (border g d z) k) in
-      omega (arith, t .seen .states-long, borderCount-le g (t .seen .limits))
+    module _ {r : Landing} (told : r ≡ landingOf g s y x d) where
+      lands : r ≡ borderOf (stepOf g d z)
+      lands = told ∙ ap₂ (λ a b. landingOf g s a b d) at-row at-col ∙ landing-is g s (row g c) (col g c) z d (t .seen .limits) fall
+
+      pub outside : r ≡ Outside → Nowhere ≡ answer
+      outside e = lands-outside (lands-off g d z (sym e ∙ lands))
+
+      module _ {e : ℕ} (at : r ≡ Border e) where
+        on : (goesOn g d z ≡ true) × (e ≡ border g d z)
+        on = lands-on g d z e (sym at ∙ lands)
+
+        pub landed-border : (e < length states) × (e < mostBorders)
+        landed-border =
+            let k = goes-step g d z (fell-cell g s (row g c) (col g c) z fall) (on .0) in
+            let j : e < borderCount g = rw (on .1) (border-lt g d z (next g d z) (border g d z) k) in
+            omega (arith, t .seen .states-long, borderCount-le g (t .seen .limits))
+
+        module _ (k : keptOf g states ids inner (s .unit) c d ≡ true) where
+          pub lands-badly : badOf inner (getD states e 0) ≡ true → Entry (entryOf inner e) ≡ answer
+          unfolding failAt through give stands stateAt
+          lands-badly b = rw (t .falls .1, k, on .0, ← on .1, b)
+
+          pub lands-well : badOf inner (getD states e 0) ≡ false → Nowhere ≡ answer
+          unfolding failAt through give stands stateAt
+          lands-well b = rw (t .falls .1, k, on .0, ← on .1, b)

@@ -1,3 +1,4 @@
+pub mod TableLaws
 pub mod Signed
 pub mod PlaceLaws
 pub mod Cases

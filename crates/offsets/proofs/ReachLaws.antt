@@ -1,18 +1,19 @@
 -- Where a cell falls, and one turn and the end of the walk over a unit's cells.
 -- Assumes nothing.
 use Prim.Native.Nat.{ℕ, _+_, _-_, _*_, _<_, _≤_}
-use mathlib.Core.Path.{_≡_, refl, ap₂, sym, _∙_}
+use mathlib.Core.Path.{_≡_, refl, ap, ap₂, sym, _∙_}
 use mathlib.Core.Logic.{_≢_}
-use mathlib.Core.Bool.{Bool, true, false}
+use mathlib.Core.Bool.{Bool, true, false, not}
 use mathlib.Core.List.{List, [], _∷_}
 use mathlib.Core.Option.{Option, none, some, Option·some-injective}
 use native.Mathlib.Omega.{arith}
 use native.Mathlib.Nat.{div-lt-iff-lt-mul}
 use native.Mathlib.Numerals.{add-one}
 use borrow.Author.Tests.{lt-leb, le-leb, lt-ltb, le-ltb, eq-eqb, ne-eqb, ltb-true, leb-true}
-use lib.Dec.{ltb, leb}
-use lib.ListN.{getD, length, drop}
+use lib.Dec.{eqb, ltb, leb}
+use lib.ListN.{getD, length, drop, drop-of-length-le}
 use lib.Seq.{drop-cons}
+use Rattle.limits.specs.Limits.{mostCells}
 use Rattle.lists.specs.Choice.{both, either, holds, through, give}
 use Rattle.lists.specs.Lists.{all, any}
 use Rattle.lists.proofs.ChoiceLaws.{both-true, give-some, through-some}
@@ -24,7 +25,9 @@ use Rattle.shape.specs.Shape.{along}
 use Rattle.offsets.specs.declared.reach.Shift.{Shift}
 use Rattle.offsets.specs.declared.reach.Fall.{Fall}
 use Rattle.offsets.specs.declared.reach.Fall.the-variants.{Off, On}
+use Rattle.offsets.specs.Table.{rowIn, colIn, unitIn, potentialIn, unitsIn, potentialsIn, Listed}
 use Rattle.offsets.specs.Reach.{fallOf, moved, Small, Reaching, fallsOff, fallsMarked, reachesOf}
+use Rattle.offsets.proofs.TableLaws.{unit-at, potential-at, listed}
 
 -- along a row or a column
 pub before-start : (n f t u : ℕ) → u + t < f → along n f t u ≡ none
@@ -39,7 +42,7 @@ pub on-line : (n f t u : ℕ) → f ≤ u + t → u + t - f < n → along n f t 
 unfolding along give
 on-line n f t u h k = rw (le-leb f (u + t) h, lt-ltb (u + t - f) n k)
 
-pub small-cell : (g : Grid) → Limits g → (y x : ℕ) → y < g .height → x < g .width → y * g .width + x < 1024
+pub small-cell : (g : Grid) → Limits g → (y x : ℕ) → y < g .height → x < g .width → y * g .width + x < mostCells
 small-cell g l y x h k =
     let c = y * g .width + x in
     let q = coords (g .width) c y x k refl in
@@ -104,91 +107,131 @@ module _ (g : Grid) (s : Shift) (y x c : ℕ) where
       div-lt-iff-lt-mul (let w : 0 < g .width = omega (arith, f .col-in) in w) .0 (let r : row g c < g .height = omega (arith, f .row-in) in r)
 
 -- THE WALK over the cells: what is left of the test, with what was met so far
-module _ (g : Grid) (s : Shift) (unit : ℕ) (ids pids marks : List ℕ) where
+module _ (g : Grid) (s : Shift) (ids pids marks : List ℕ) where
   unfoldable pub left : Bool → List ℕ → Bool
   unfolding all any
-  left met cs = both (all (fallsOff g s unit ids) cs) (either met (any (fallsMarked g s pids marks) cs))
-
-  pub left-start : (cs : List ℕ) → left false cs ≡ reachesOf g s unit ids pids marks cs
-  unfolding left reachesOf
-  left-start cs = refl
-
-  pub left-end : (met : Bool) → left met [] ≡ met
-  unfolding left all any
-  left-end true = refl
-  left-end false = refl
-
-  turn-out : (met : Bool) (c : ℕ) (cs : List ℕ) → fallsOff g s unit ids c ≡ false → left met (c ∷ cs) ≡ false
-  unfolding left all
-  turn-out met c cs q = rw q
-
-  pub left-off : (met : Bool) (c : ℕ) (cs : List ℕ) → moved g s (row g c) (col g c) ≡ none → left met (c ∷ cs) ≡ false
-  unfolding holds
-  left-off met c cs q = turn-out met c cs (rw q)
-
-  module _ (met : Bool) (c x : ℕ) (cs : List ℕ) (q : moved g s (row g c) (col g c) ≡ some x) where
-    pub left-unit : getD ids x 0 ≡ unit → left met (c ∷ cs) ≡ false
-    unfolding holds
-    left-unit e = turn-out met c cs (rw (q, eq-eqb (getD ids x 0) unit e))
-
-    off-unit : getD ids x 0 ≢ unit → fallsOff g s unit ids c ≡ true
-    unfolding holds
-    off-unit e = rw (q, ne-eqb (getD ids x 0) unit e)
-
-    pub left-met : getD ids x 0 ≢ unit → getD marks (getD pids x 0) 0 ≢ 0 → left met (c ∷ cs) ≡ left true cs
-    unfolding left all any
-    left-met e m = rw (off-unit e, marked m) (by met)
-      where
-        marked : getD marks (getD pids x 0) 0 ≢ 0 → fallsMarked g s pids marks c ≡ true
-        marked k = unfold holds in rw (q, ne-eqb (getD marks (getD pids x 0) 0) 0 k)
-
-        by : (t : Bool) → both (all (fallsOff g s unit ids) cs) (either t (either true (any (fallsMarked g s pids marks) cs))) ≡ both (all (fallsOff g s unit ids) cs) true
-        by true = refl
-        by false = refl
-
-    pub left-not : getD ids x 0 ≢ unit → getD marks (getD pids x 0) 0 ≡ 0 → left met (c ∷ cs) ≡ left met cs
-    unfolding left all any
-    left-not e m = rw (off-unit e, marked m)
-      where
-        marked : getD marks (getD pids x 0) 0 ≡ 0 → fallsMarked g s pids marks c ≡ false
-        marked k = unfold holds in rw (q, eq-eqb (getD marks (getD pids x 0) 0) 0 k)
+  left met cs = both (all (fallsOff g s ids) cs) (either met (any (fallsMarked g s pids marks) cs))
 
   pub record Walk (cs : List ℕ) (met : Bool) (i : ℕ) : Type 0 where
     pub within : i ≤ length cs
-    pub rest : left met (drop i cs) ≡ reachesOf g s unit ids pids marks cs
+    pub rest : left met (drop i cs) ≡ reachesOf g s ids pids marks cs
+
+  pub walk-start : (cs : List ℕ) → Walk cs false 0
+  unfolding left reachesOf
+  walk-start cs = record { within = omega arith; rest = refl }
+
+  pub walk-end : {cs : List ℕ} {met : Bool} {i : ℕ} → Walk cs met i → length cs ≤ i → met ≡ reachesOf g s ids pids marks cs
+  unfolding left all any
+  walk-end {cs} {met} {i} w h = sym (over met) ∙ sym (ap (left met) (drop-of-length-le cs h)) ∙ w .rest
+    where
+      over : (t : Bool) → left t [] ≡ t
+      over true = refl
+      over false = refl
 
 pub next-cell : (cs : List ℕ) (i c : ℕ) → i < length cs → c ≡ getD cs i 0 → drop i cs ≡ c ∷ drop (i + 1) cs
 next-cell cs i c h q = rw (add-one, drop-cons cs i 0 h, q)
 
--- what the walk knows of one cell
-module _ (g : Grid) (s : Shift) (cs rows cols ids pids marks : List ℕ) (r : Reaching g s cs rows cols ids pids marks) where
-  pub cell-of : (i c : ℕ) → i < length cs → c ≡ getD cs i 0 → Cell g c
-  cell-of i c h q = r .on-board c (rw q (getD-in 0 cs i h))
+-- one turn of it, at cell c
+module _ {g : Grid} {table marks cs : List ℕ} {s : Shift} (r : Reaching g table marks cs s) {met : Bool} {i : ℕ}
+    (w : Walk g s (unitsIn g table) (potentialsIn g table) marks cs met i) (h : i < length cs) {c : ℕ} (q : c ≡ getD cs i 0) where
+  abbrev ids : List ℕ
+  ids = unitsIn g table
 
-  pub cell-small : (c : ℕ) → Cell g c → (c < 1024) × (c < length rows) × (c < length cols) × (c < length ids) × (c < length pids)
-  cell-small c k = omega (arith, cells-le g (r .limits), r .tables .rows-long, r .tables .cols-long, r .ids-long, r .pids-long)
+  abbrev pids : List ℕ
+  pids = potentialsIn g table
 
-  pub fall-small : (c : ℕ) → Cell g c → Small g s (getD rows c 0) (getD cols c 0)
-  fall-small c k =
-      record {
-        limits = r .limits;
-        from-row = r .from-row;
-        from-col = r .from-col;
-        to-row = r .to-row;
-        to-col = r .to-col;
-        row-small = omega (arith, r .tables .row-at c k, row-lt g c k, r .limits .height-fits);
-        col-small = omega (arith, r .tables .col-at c k, col-lt g c k, r .limits .width-fits);
-      }
+  abbrev over : List ℕ
+  over = drop (i + 1) cs
 
-  moved-is : (c : ℕ) → Cell g c → moved g s (getD rows c 0) (getD cols c 0) ≡ moved g s (row g c) (col g c)
-  moved-is c k = ap₂ (moved g s) (r .tables .row-at c k) (r .tables .col-at c k)
+  pub on-board : Cell g c
+  on-board = r .on-board c (rw q (getD-in 0 cs i h))
 
-  module _ (c : ℕ) (k : Cell g c) (f : Fall) (q : f ≡ fallOf (moved g s (getD rows c 0) (getD cols c 0))) where
-    pub moved-off : f ≡ Off → moved g s (row g c) (col g c) ≡ none
-    moved-off e = sym (moved-is c k) ∙ fell-off _ (sym q ∙ e)
+  turn : left g s ids pids marks met (c ∷ over) ≡ reachesOf g s ids pids marks cs
+  turn = sym (ap (left g s ids pids marks met) (next-cell cs i c h q)) ∙ w .rest
 
-    pub moved-on : (x : ℕ) → f ≡ On x → moved g s (row g c) (col g c) ≡ some x
-    moved-on x e = sym (moved-is c k) ∙ fell-on _ x (sym q ∙ e)
+  pub cell-listed : Listed table c
+  cell-listed = listed g table (r .small .limits) (r .table-of) c on-board
 
-    pub moved-cell : (x : ℕ) → f ≡ On x → Cell g x
-    moved-cell x e = fell-cell g s (row g c) (col g c) x (fell g s (row g c) (col g c) x (moved-on x e))
+  out : fallsOff g s ids c ≡ false → left g s ids pids marks met (c ∷ over) ≡ false
+  unfolding left all
+  out e = rw e
+
+  module _ {y x : ℕ} (y-is : y ≡ rowIn table c) (x-is : x ≡ colIn table c) where
+    row-is : y ≡ row g c
+    row-is = y-is ∙ r .table-of .row-at c on-board
+
+    col-is : x ≡ col g c
+    col-is = x-is ∙ r .table-of .col-at c on-board
+
+    pub fall-small : Small g s y x
+    fall-small =
+        let m = r .small in
+        record {
+          limits = m .limits;
+          from-row = m .from-row;
+          from-col = m .from-col;
+          to-row = m .to-row;
+          to-col = m .to-col;
+          row-small = omega (arith, row-is, row-lt g c on-board, m .limits .height-fits);
+          col-small = omega (arith, col-is, col-lt g c on-board, m .limits .width-fits);
+        }
+
+    module _ {f : Fall} (fall-is : f ≡ fallOf (moved g s y x)) where
+      moved-is : moved g s y x ≡ moved g s (row g c) (col g c)
+      moved-is = ap₂ (moved g s) row-is col-is
+
+      pub walk-off : f ≡ Off → false ≡ reachesOf g s ids pids marks cs
+      unfolding holds
+      walk-off e = let o : moved g s (row g c) (col g c) ≡ none = sym moved-is ∙ fell-off _ (sym fall-is ∙ e) in sym (out (rw o)) ∙ turn
+
+      module _ {z : ℕ} (e : f ≡ On z) where
+        falls-on : moved g s (row g c) (col g c) ≡ some z
+        falls-on = sym moved-is ∙ fell-on _ z (sym fall-is ∙ e)
+
+        fall-cell : Cell g z
+        fall-cell = fell-cell g s (row g c) (col g c) z (fell g s (row g c) (col g c) z falls-on)
+
+        pub fall-listed : Listed table z
+        fall-listed = listed g table (r .small .limits) (r .table-of) z fall-cell
+
+        module _ {u : ℕ} (u-is : u ≡ unitIn table z) where
+          unit-is : getD ids z 0 ≡ u
+          unit-is = unit-at g table z fall-cell ∙ sym u-is
+
+          pub walk-unit : u ≡ s .unit → false ≡ reachesOf g s ids pids marks cs
+          unfolding holds
+          walk-unit k = sym (out (rw (falls-on, eq-eqb (getD ids z 0) (s .unit) (unit-is ∙ k)))) ∙ turn
+
+          module _ (k : u ≢ s .unit) where
+            off-unit : fallsOff g s ids c ≡ true
+            unfolding holds
+            off-unit = let o : getD ids z 0 ≢ s .unit = rw unit-is k in rw (falls-on, ne-eqb (getD ids z 0) (s .unit) o)
+
+            module _ {p : ℕ} (p-is : p ≡ potentialIn table z) where
+              potential-is : getD pids z 0 ≡ p
+              potential-is = potential-at g table z fall-cell ∙ sym p-is
+
+              pub mark-there : p < length marks
+              mark-there = rw p-is (r .marks-long z fall-cell)
+
+              abbrev test : ℕ → Bool
+              test m = not (eqb m 0)
+
+              meets : fallsMarked g s pids marks c ≡ not (eqb (getD marks p 0) 0)
+              unfolding holds
+              meets = rw (falls-on, potential-is)
+
+              on : (met' : Bool) → either met (either (fallsMarked g s pids marks c) (any (fallsMarked g s pids marks) over)) ≡ either met' (any (fallsMarked g s pids marks) over)
+                  → Walk g s ids pids marks cs met' (i + 1)
+              unfolding left all any
+              on met' o = record { within = omega arith; rest = (sym (ap (both (all (fallsOff g s ids) over)) o) ∙ rw off-unit at turn) }
+
+              pub walk-met : getD marks p 0 ≢ 0 → Walk g s ids pids marks cs true (i + 1)
+              walk-met m = on true (rw (meets ∙ ap not (ne-eqb (getD marks p 0) 0 m)) (by met))
+                where
+                  by : (t : Bool) → either t true ≡ true
+                  by true = refl
+                  by false = refl
+
+              pub walk-not : getD marks p 0 ≡ 0 → Walk g s ids pids marks cs met (i + 1)
+              walk-not m = on met (rw (meets ∙ ap not (eq-eqb (getD marks p 0) 0 m)))

@@ -1,4 +1,4 @@
--- Border places in doubled coordinates (01: "Border places are doubled coordinates, which run from −1 and stay signed").
+-- Border places in doubled coordinates, which run from −1 and stay signed (SPEC 4.10).
 -- Assumes nothing.
 use Prim.Native.Nat.{ℕ, _+_, _-_, _*_, _/_, _%_}
 use lib.Dec.{eqb, ltb}
@@ -37,7 +37,7 @@ borderAt g y x =
     (borderOf (stepOf g (pick (eqb (y % 2) 1) Down Right) (y / 2 * g .width + x / 2)))
     Outside
 
--- "those outside the board being skipped"
+-- where a place lands: those outside the board are skipped (SPEC 4.10)
 unfoldable pub landOf : Grid → ℤ → ℤ → Landing
 unfolding borderAt
 landOf g (pos y) (pos x) = borderAt g y x

@@ -1,7 +1,6 @@
 -- Where the cells of a unit fall, and whether the offset is passed over.
 -- Assumes nothing.
-use Prim.Native.Nat.{ℕ, _+_, _-_, _*_, _<_, _≤_}
-use mathlib.Core.Path.{_≡_}
+use Prim.Native.Nat.{ℕ, _+_, _-_, _*_, _<_}
 use mathlib.Core.Bool.{Bool, not}
 use mathlib.Core.List.{List}
 use mathlib.Core.Option.{Option, none, some}
@@ -10,11 +9,12 @@ use lib.ListN.{getD, length}
 use Rattle.lists.specs.Choice.{both, holds, through}
 use Rattle.lists.specs.Lists.{In, all, any}
 use Rattle.grid.specs.declared.Grid.{Grid}
-use Rattle.grid.specs.Grid.{Limits, cells, Cell, row, col}
+use Rattle.grid.specs.Grid.{Limits, Cell, row, col}
 use Rattle.shape.specs.Shape.{along}
 use Rattle.offsets.specs.declared.reach.Shift.{Shift}
 use Rattle.offsets.specs.declared.reach.Fall.{Fall}
 use Rattle.offsets.specs.declared.reach.Fall.the-variants.{Off, On}
+use Rattle.offsets.specs.Table.{Table, potentialIn}
 
 abbrev pub fallOf : Option ℕ → Fall
 fallOf none = Off
@@ -35,33 +35,21 @@ pub record Small (g : Grid) (s : Shift) (y x : ℕ) : Type 0 where
   pub row-small : y < 32
   pub col-small : x < 32
 
--- the tables have each cell's row and column
-pub record Tables (g : Grid) (rows cols : List ℕ) : Type 0 where
-  pub rows-long : cells g ≤ length rows
-  pub cols-long : cells g ≤ length cols
-  pub row-at : (c : ℕ) → Cell g c → getD rows c 0 ≡ row g c
-  pub col-at : (c : ℕ) → Cell g c → getD cols c 0 ≡ col g c
-
-pub record Reaching (g : Grid) (s : Shift) (cs rows cols ids pids marks : List ℕ) : Type 0 where
-  pub limits : Limits g
-  pub from-row : s .«from_row» < 32
-  pub from-col : s .«from_col» < 32
-  pub to-row : s .«to_row» < 32
-  pub to-col : s .«to_col» < 32
-  pub tables : Tables g rows cols
+-- the unit's cells are on the board, the table is filled, and each potential unit in it has a mark
+pub record Reaching (g : Grid) (table marks cs : List ℕ) (s : Shift) : Type 0 where
+  pub small : Small g s 0 0
+  pub table-of : Table g table
   pub on-board : (c : ℕ) → In c cs → Cell g c
-  pub ids-long : cells g ≤ length ids
-  pub pids-long : cells g ≤ length pids
-  pub pids-small : (c : ℕ) → Cell g c → getD pids c 0 < length marks
+  pub marks-long : (c : ℕ) → Cell g c → potentialIn table c < length marks
 
 -- c falls on the board and off the unit
-abbrev pub fallsOff : Grid → Shift → ℕ → List ℕ → ℕ → Bool
-fallsOff g s unit ids c = holds (moved g s (row g c) (col g c)) (λ x. not (eqb (getD ids x 0) unit))
+abbrev pub fallsOff : Grid → Shift → List ℕ → ℕ → Bool
+fallsOff g s ids c = holds (moved g s (row g c) (col g c)) (λ x. not (eqb (getD ids x 0) (s .unit)))
 
 -- c falls in a marked potential unit
 abbrev pub fallsMarked : Grid → Shift → List ℕ → List ℕ → ℕ → Bool
 fallsMarked g s pids marks c = holds (moved g s (row g c) (col g c)) (λ x. not (eqb (getD marks (getD pids x 0) 0) 0))
 
-unfoldable pub reachesOf : Grid → Shift → ℕ → List ℕ → List ℕ → List ℕ → List ℕ → Bool
+unfoldable pub reachesOf : Grid → Shift → List ℕ → List ℕ → List ℕ → List ℕ → Bool
 unfolding all any
-reachesOf g s unit ids pids marks cs = both (all (fallsOff g s unit ids) cs) (any (fallsMarked g s pids marks) cs)
+reachesOf g s ids pids marks cs = both (all (fallsOff g s ids) cs) (any (fallsMarked g s pids marks) cs)

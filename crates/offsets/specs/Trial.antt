@@ -1,4 +1,4 @@
--- What one trial of a unit asks, and the answer for each case of crate shape's `Try`.
+-- What one trial of a unit asks and answers. The unit is told by its cells: the first of them has its number in the table.
 -- Assumes nothing.
 use Prim.Native.Nat.{ℕ, _<_, _≤_}
 use mathlib.Core.Path.{_≡_}
@@ -7,30 +7,30 @@ use mathlib.Core.List.{List}
 use lib.Dec.{eqb}
 use lib.ListN.{getD, length}
 use Rattle.grid.specs.declared.Grid.{Grid}
-use Rattle.grid.specs.Grid.{Limits, cells, Cell, borderCount}
+use Rattle.grid.specs.Grid.{Limits, Cell, borderCount}
 use Rattle.groups.specs.Groups.{cellsOf}
-use Rattle.shape.specs.Shape.{Try, adjacent, headOr0}
-use Rattle.shape.specs.Shape.Try.{passed, good, failed}
-use Rattle.offsets.specs.declared.Try.{Try as Answer}
-use Rattle.offsets.specs.declared.Try.the-variants.{Passed, Good, Failed}
-use Rattle.offsets.specs.Reach.{Tables}
+use Rattle.shape.specs.declared.Try.{Try}
+use Rattle.shape.specs.Shape.{adjacent, headOr0, UnitInfo, unitOf, tryAt}
+use Rattle.offsets.specs.Table.{Table, unitIn, potentialIn, unitsIn, potentialsIn}
 
-abbrev pub tryOf : Try → Answer
-tryOf passed = Passed
-tryOf good = Good
-tryOf (failed e) = Failed e
+-- the unit of these cells
+abbrev pub unitAt : Grid → List ℕ → List ℕ → UnitInfo
+unitAt g table cs = unitOf g (unitsIn g table) (potentialsIn g table) (unitIn table (headOr0 cs))
 
--- the unit's cells, of which `first` is the first, the tables of rows and columns, and marks that are set exactly for the potential
--- units adjacent to the unit's own
-pub record Trial (g : Grid) (states ids pids : List ℕ) (unit first to : ℕ) (cs rows cols marks : List ℕ) : Type 0 where
+-- what comes of the offset that puts its first cell on `to`
+abbrev pub triedAt : Grid → List ℕ → List ℕ → List ℕ → ℕ → Try
+triedAt g states table cs to = tryAt g states (unitsIn g table) (potentialsIn g table) (unitAt g table cs) to
+
+-- the cells of a unit, and marks that are set exactly for the potential units adjacent to the unit's own
+pub record Placed (g : Grid) (states table marks cs : List ℕ) : Type 0 where
   pub limits : Limits g
   pub states-long : borderCount g ≤ length states
-  pub ids-long : cells g ≤ length ids
-  pub pids-long : cells g ≤ length pids
-  pub tables : Tables g rows cols
-  pub pids-small : (c : ℕ) → Cell g c → getD pids c 0 < length marks
-  pub marked : (q : ℕ) → q < length marks → not (eqb (getD marks q 0) 0) ≡ adjacent g states pids (getD pids first 0) q
-  pub cells-are : cs ≡ cellsOf g ids unit
-  pub first-is : first ≡ headOr0 cs
-  pub first-cell : Cell g first
+  pub table-of : Table g table
+  pub some : 0 < length cs
+  pub cells-are : cs ≡ cellsOf g (unitsIn g table) (unitIn table (headOr0 cs))
+  pub marks-long : (c : ℕ) → Cell g c → potentialIn table c < length marks
+  pub marked : (q : ℕ) → q < length marks → not (eqb (getD marks q 0) 0) ≡ adjacent g states (potentialsIn g table) (potentialIn table (headOr0 cs)) q
+
+pub record Trial (g : Grid) (states table marks cs : List ℕ) (to : ℕ) : Type 0 where
+  pub placed : Placed g states table marks cs
   pub to-cell : Cell g to

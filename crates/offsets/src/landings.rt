@@ -1,17 +1,19 @@
 // Where a unit's borders land: its inner borders must not land on a Wall, its Walls and board edges not on a Connected border.
 ghost use mathlib.Core.Path.{_≡_};
-ghost use Prim.Native.Nat.{_<_};
-ghost use Rattle.offsets.specs.Reach.{Small};
-ghost use Rattle.offsets.specs.Landings.{Seen, Turning, Falling, keptOf, entryOf, badOf, landingOf, failOf, failAt, failCell, firstFail};
-ghost use Rattle.grid.specs.Orders.{forward, around};
-ghost use Rattle.lists.specs.Lists.{first};
 ghost use mathlib.Core.Bool.{true, false};
+ghost use Rattle.lists.specs.Lists.{first};
+ghost use Rattle.grid.specs.Orders.{forward, around};
+ghost use Rattle.offsets.specs.Table.{unitsIn};
+ghost use Rattle.offsets.specs.Reach.{Small};
+ghost use Rattle.offsets.specs.Landings.{Seen, Turning, Falling, keptOf, badOf, landingOf, failOf, failAt, failCell, firstFail};
 use crate::places;
 use crate::places::Landing;
 use crate::reach::Shift;
+use crate::table;
 use grid::Beyond;
 use grid::Direction;
 use grid::Grid;
+use lists::wide;
 
 // The entry of a landing that fails.
 pub enum Fail {
@@ -19,41 +21,24 @@ pub enum Fail {
     At(u16),
 }
 
-fn wide(x: u16) -> usize
-    ensures { λ r. ⌜ r ≡ x ⌝ }
-{
-    x as usize
-}
-
-// The entry on which an inner border, or another, must not land.
-fn entry(border: usize, inner: bool) -> u16
-    requires { ⌜ border < 1984 ⌝ }
-    ensures { λ r. ⌜ r ≡ entryOf inner border ⌝ }
-{
-    if inner {
-        return (2 * border + 1) as u16;
-    }
-    (2 * border) as u16
-}
-
 // Whether the border of a cell must land well: an inner border of the unit, or else a Wall or the board's edge.
 fn kept<'a>(
     g: Grid,
-    inner: bool,
+    states: &'a [u8],
+    table: &'a [u16],
     unit: u16,
+    inner: bool,
     c: usize,
     direction: Direction,
-    states: &'a [u8],
-    ids: &'a [u16],
 ) -> bool
-    requires { ⌜ Seen g (now states) (now ids) c ⌝ }
-    ensures { λ r. ⌜ r ≡ keptOf g (now (states .entry)) (now (ids .entry)) inner unit c direction ⌝ }
+    requires { ⌜ Seen g (now states) (now table) c ⌝ }
+    ensures { λ r. ⌜ r ≡ keptOf g (now (states .entry)) (unitsIn g (now (table .entry))) inner unit c direction ⌝ }
 {
     let Beyond::At(n, border) = grid::step(g, c, direction) else {
         return !inner;
     };
     if inner {
-        return ids[n] == unit;
+        return table::unit(table, n) == unit;
     }
     states[border] == 2
 }
@@ -72,27 +57,26 @@ fn landing_of(g: Grid, s: Shift, row: usize, col: usize, direction: Direction) -
 // The entry of a cell's border in a direction, where it lands badly.
 fn fails<'a>(
     g: Grid,
-    inner: bool,
-    s: Shift,
-    unit: u16,
-    c: usize,
-    row: usize,
-    col: usize,
-    direction: Direction,
     states: &'a [u8],
-    ids: &'a [u16],
+    table: &'a [u16],
+    s: Shift,
+    inner: bool,
+    c: usize,
+    direction: Direction,
 ) -> Fail
-    requires { ⌜ Turning g s (now states) (now ids) c row col ⌝ }
-    ensures { λ r. ⌜ r ≡ failOf (failAt g s (now (states .entry)) (now (ids .entry)) inner unit c direction) ⌝ }
+    requires { ⌜ Turning g (now states) (now table) s c ⌝ }
+    ensures { λ r. ⌜ r ≡ failOf (failAt g s (now (states .entry)) (unitsIn g (now (table .entry))) inner c direction) ⌝ }
 {
-    if !kept(g, inner, unit, c, direction, states, ids) {
+    if !kept(g, states, table, s.unit, inner, c, direction) {
         return Fail::Nowhere;
     }
+    let row = table::row(table, c);
+    let col = table::col(table, c);
     let Landing::Border(border) = landing_of(g, s, row, col, direction) else {
         return Fail::Nowhere;
     };
     if bad(states[border], inner) {
-        return Fail::At(entry(border, inner));
+        return Fail::At(borders::entry(border, inner));
     }
     Fail::Nowhere
 }
@@ -108,109 +92,73 @@ fn bad(state: u8, inner: bool) -> bool
 }
 
 // An inner border of a cell that lands badly: down, then right.
-fn fail_forward<'a>(
-    g: Grid,
-    s: Shift,
-    unit: u16,
-    c: usize,
-    row: usize,
-    col: usize,
-    states: &'a [u8],
-    ids: &'a [u16],
-) -> Fail
-    requires { ⌜ Turning g s (now states) (now ids) c row col ⌝ }
-    ensures { λ r. ⌜ r ≡ failOf (first (failAt g s (now (states .entry)) (now (ids .entry)) true unit c) forward) ⌝ }
+fn fail_forward<'a>(g: Grid, states: &'a [u8], table: &'a [u16], s: Shift, c: usize) -> Fail
+    requires { ⌜ Turning g (now states) (now table) s c ⌝ }
+    ensures { λ r. ⌜ r ≡ failOf (first (failAt g s (now (states .entry)) (unitsIn g (now (table .entry))) true c) forward) ⌝ }
 {
-    let down = fails(g, true, s, unit, c, row, col, Direction::Down, states, ids);
+    let down = fails(g, states, table, s, true, c, Direction::Down);
     if let Fail::At(e) = down {
         return Fail::At(e);
     }
-    fails(g, true, s, unit, c, row, col, Direction::Right, states, ids)
+    fails(g, states, table, s, true, c, Direction::Right)
 }
 
 // A Wall or board edge of a cell that lands badly: up, down, left, right.
-fn fail_around<'a>(
-    g: Grid,
-    s: Shift,
-    unit: u16,
-    c: usize,
-    row: usize,
-    col: usize,
-    states: &'a [u8],
-    ids: &'a [u16],
-) -> Fail
-    requires { ⌜ Turning g s (now states) (now ids) c row col ⌝ }
-    ensures { λ r. ⌜ r ≡ failOf (first (failAt g s (now (states .entry)) (now (ids .entry)) false unit c) around) ⌝ }
+fn fail_around<'a>(g: Grid, states: &'a [u8], table: &'a [u16], s: Shift, c: usize) -> Fail
+    requires { ⌜ Turning g (now states) (now table) s c ⌝ }
+    ensures { λ r. ⌜ r ≡ failOf (first (failAt g s (now (states .entry)) (unitsIn g (now (table .entry))) false c) around) ⌝ }
 {
-    let up = fails(g, false, s, unit, c, row, col, Direction::Up, states, ids);
+    let up = fails(g, states, table, s, false, c, Direction::Up);
     if let Fail::At(e) = up {
         return Fail::At(e);
     }
-    let down = fails(g, false, s, unit, c, row, col, Direction::Down, states, ids);
+    let down = fails(g, states, table, s, false, c, Direction::Down);
     if let Fail::At(e) = down {
         return Fail::At(e);
     }
-    let left = fails(g, false, s, unit, c, row, col, Direction::Left, states, ids);
+    let left = fails(g, states, table, s, false, c, Direction::Left);
     if let Fail::At(e) = left {
         return Fail::At(e);
     }
-    fails(
-        g,
-        false,
-        s,
-        unit,
-        c,
-        row,
-        col,
-        Direction::Right,
-        states,
-        ids,
-    )
+    fails(g, states, table, s, false, c, Direction::Right)
+}
+
+fn fail_cell<'a>(
+    g: Grid,
+    states: &'a [u8],
+    table: &'a [u16],
+    s: Shift,
+    inner: bool,
+    c: usize,
+) -> Fail
+    requires { ⌜ Turning g (now states) (now table) s c ⌝ }
+    ensures { λ r. ⌜ r ≡ failOf (failCell g s (now (states .entry)) (unitsIn g (now (table .entry))) inner c) ⌝ }
+{
+    if inner {
+        return fail_forward(g, states, table, s, c);
+    }
+    fail_around(g, states, table, s, c)
 }
 
 // The first border of a unit's cells that lands badly, of its inner borders or of its Walls and board edges.
 pub fn first_fail<'a>(
     g: Grid,
-    inner: bool,
-    s: Shift,
-    unit: u16,
-    cells: &'a [u16],
-    rows: &'a [usize],
-    cols: &'a [usize],
     states: &'a [u8],
-    ids: &'a [u16],
+    table: &'a [u16],
+    cells: &'a [u16],
+    s: Shift,
+    inner: bool,
 ) -> Fail
-    requires { ⌜ Falling g s (now states) (now ids) (now rows) (now cols) (now cells) ⌝ }
-    ensures { λ r. ⌜ r ≡ failOf (firstFail g s (now (states .entry)) (now (ids .entry)) inner unit (now (cells .entry))) ⌝ }
+    requires { ⌜ Falling g (now states) (now table) (now cells) s ⌝ }
+    ensures { λ r. ⌜ r ≡ failOf (firstFail g s (now (states .entry)) (unitsIn g (now (table .entry))) inner (now (cells .entry))) ⌝ }
 {
     let mut i = 0;
     while i < cells.len() {
-        let c = wide(cells[i]);
-        let f = fail_cell(g, inner, s, unit, c, rows[c], cols[c], states, ids);
+        let f = fail_cell(g, states, table, s, inner, wide(cells[i]));
         if let Fail::At(e) = f {
             return Fail::At(e);
         }
         i += 1;
     }
     Fail::Nowhere
-}
-
-fn fail_cell<'a>(
-    g: Grid,
-    inner: bool,
-    s: Shift,
-    unit: u16,
-    c: usize,
-    row: usize,
-    col: usize,
-    states: &'a [u8],
-    ids: &'a [u16],
-) -> Fail
-    requires { ⌜ Turning g s (now states) (now ids) c row col ⌝ }
-    ensures { λ r. ⌜ r ≡ failOf (failCell g s (now (states .entry)) (now (ids .entry)) inner unit c) ⌝ }
-{
-    if inner {
-        return fail_forward(g, s, unit, c, row, col, states, ids);
-    }
-    fail_around(g, s, unit, c, row, col, states, ids)
 }

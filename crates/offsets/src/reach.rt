@@ -1,9 +1,14 @@
-// Whether a unit is passed over: all its cells must fall on the board and off the unit, and one in an adjacent potential unit.
+// An offset that is not passed over: all cells of the unit fall on the board and off the unit, and one in an adjacent potential unit.
 ghost use mathlib.Core.Path.{_≡_};
+ghost use Rattle.offsets.specs.Table.{unitsIn, potentialsIn};
 ghost use Rattle.offsets.specs.Reach.{Small, fallOf, moved, Reaching, reachesOf};
+use crate::table;
 use grid::Grid;
-// The unit's first cell goes from one row and column to another.
+use lists::wide;
+
+// A unit's number, and the rows and columns from which and to which its first cell goes.
 pub struct Shift {
+    pub unit: u16,
     pub from_row: usize,
     pub from_col: usize,
     pub to_row: usize,
@@ -13,12 +18,6 @@ pub struct Shift {
 pub enum Fall {
     Off,
     On(usize),
-}
-
-fn wide(x: u16) -> usize
-    ensures { λ r. ⌜ r ≡ x ⌝ }
-{
-    x as usize
 }
 
 // The cell on which the cell at a row and column falls.
@@ -46,32 +45,21 @@ fn fall_of(g: Grid, s: Shift, row: usize, col: usize) -> Fall
 }
 
 // All cells fall on the board and off the unit, and one falls in a marked potential unit.
-pub fn reaches<'a>(
-    g: Grid,
-    s: Shift,
-    unit: u16,
-    cells: &'a [u16],
-    rows: &'a [usize],
-    cols: &'a [usize],
-    ids: &'a [u16],
-    pids: &'a [u16],
-    marks: &'a [u8],
-) -> bool
-    requires { ⌜ Reaching g s (now cells) (now rows) (now cols) (now ids) (now pids) (now marks) ⌝ }
-    ensures { λ r. ⌜ r ≡ reachesOf g s unit (now (ids .entry)) (now (pids .entry)) (now (marks .entry)) (now (cells .entry)) ⌝ }
+pub fn reaches<'a>(g: Grid, table: &'a [u16], marks: &'a [u8], cells: &'a [u16], s: Shift) -> bool
+    requires { ⌜ Reaching g (now table) (now marks) (now cells) s ⌝ }
+    ensures { λ r. ⌜ r ≡ reachesOf g s (unitsIn g (now (table .entry))) (potentialsIn g (now (table .entry))) (now (marks .entry)) (now (cells .entry)) ⌝ }
 {
     let mut met = false;
     let mut i = 0;
     while i < cells.len() {
         let c = wide(cells[i]);
-        let Fall::On(x) = fall_of(g, s, rows[c], cols[c]) else {
+        let Fall::On(x) = fall_of(g, s, table::row(table, c), table::col(table, c)) else {
             return false;
         };
-        if ids[x] == unit {
+        if table::unit(table, x) == s.unit {
             return false;
         }
-        let p = wide(pids[x]);
-        if marks[p] != 0 {
+        if marks[table::potential(table, x)] != 0 {
             met = true;
         }
         i += 1;

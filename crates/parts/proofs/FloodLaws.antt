@@ -15,7 +15,7 @@ use lib.Dec.{eqb}
 use Rattle.lists.proofs.Cases.{le-or-lt, eq-or-ne, true-or-false}
 use Rattle.lists.proofs.ChoiceLaws.{both-true, true-both}
 use Rattle.parts.specs.Parts.{Edge, Joined, same, over, back, then, root, begun, part, Within}
-use Rattle.parts.specs.Flood.{Marked, Link, blank, Grown, Flooded, Swept, Numbered, Flow, enters, Tried, Moved}
+use Rattle.parts.specs.Flood.{HasMark, Link, blank, Grown, Flooded, Swept, Numbered, Flow, enters, Tried, Moved}
 use Rattle.parts.proofs.PartLaws.{root-le, to-root, joined-root, joined-part, part-first, begun-first, begun-later, joined-keeps}
 use Rattle.parts.proofs.PartLists.{within-ends}
 
@@ -32,13 +32,13 @@ link-back E c d (inr m) = inl m
 -- MARKS
 
 module _ (free : ℕ) (marks : List ℕ) (d k : ℕ) where
-  pub marked-here : d < length marks → k ≢ free → Marked free (set marks d k) d
+  pub marked-here : d < length marks → k ≢ free → HasMark free (set marks d k) d
   marked-here h z q = z (sym (getD-set-same marks d k 0 h) ∙ q)
 
-  pub marked-other : (c : ℕ) → c ≢ d → Marked free (set marks d k) c → Marked free marks c
+  pub marked-other : (c : ℕ) → c ≢ d → HasMark free (set marks d k) c → HasMark free marks c
   marked-other c z m q = m (getD-set-other marks d c k 0 z ∙ q)
 
-  pub marked-keeps : (c : ℕ) → d < length marks → k ≢ free → Marked free marks c → Marked free (set marks d k) c
+  pub marked-keeps : (c : ℕ) → d < length marks → k ≢ free → HasMark free marks c → HasMark free (set marks d k) c
   marked-keeps c h z m =
       ⊎-elim
       (λ (e : c ≡ d). rw e (marked-here h z))
@@ -55,7 +55,7 @@ blank-le free (suc n) marks =
     (eq-or-ne (getD marks n 0) free)
 
 -- where no mark is lost, no more are missing
-pub blank-keeps : (free n : ℕ) (marks marks' : List ℕ) → ((c : ℕ) → Marked free marks c → Marked free marks' c) → blank free n marks' ≤ blank free n marks
+pub blank-keeps : (free n : ℕ) (marks marks' : List ℕ) → ((c : ℕ) → HasMark free marks c → HasMark free marks' c) → blank free n marks' ≤ blank free n marks
 unfolding blank
 blank-keeps free zero marks marks' f = omega arith
 blank-keeps free (suc n) marks marks' f =
@@ -90,7 +90,7 @@ blank-set free (suc n) marks d k h l q z =
 -- A FLOOD GROWS
 
 pub grown-keeps : {E : List Edge} {free n s k : ℕ} {Open : ℕ → Type 0} {marks marks' : List ℕ} → Grown E free n s k Open marks marks'
-    → (c : ℕ) → Marked free marks c → Marked free marks' c
+    → (c : ℕ) → HasMark free marks c → HasMark free marks' c
 grown-keeps g c m = rw (g .keeps c m) m
 
 module _ {E : List Edge} {free n s k : ℕ} {Open : ℕ → Type 0} {marks marks' : List ℕ} (g : Grown E free n s k Open marks marks') where
@@ -127,7 +127,7 @@ module _ {E : List Edge} {free n s k : ℕ} {Open : ℕ → Type 0} {marks marks
       }
 
   -- an open vertex whose neighbours are all marked is open no more
-  pub grow-shut : {Open' : ℕ → Type 0} → ((c : ℕ) → Open c → Open' c ⊎ ((d : ℕ) → Link E c d → Marked free marks' d)) → Grown E free n s k Open' marks marks'
+  pub grow-shut : {Open' : ℕ → Type 0} → ((c : ℕ) → Open c → Open' c ⊎ ((d : ℕ) → Link E c d → HasMark free marks' d)) → Grown E free n s k Open' marks marks'
   grow-shut f =
       record {
         keeps = g .keeps;
@@ -150,12 +150,12 @@ module _ {E : List Edge} {free n s k : ℕ} {Open : ℕ → Type 0} {marks marks
         keeps = λ c m. f .keeps c (grown-keeps g c m) ∙ g .keeps c m;
         new = λ c cn m.
             ⊎-elim
-            (λ (y : Marked free marks' c). ⊎-elim (λ w. inl w) (λ w. inr (f .keeps c y ∙ w .0, w .1)) (g .new c cn y))
+            (λ (y : HasMark free marks' c). ⊎-elim (λ w. inl w) (λ w. inr (f .keeps c y ∙ w .0, w .1)) (g .new c cn y))
             (λ y. inr (y .0, then j (y .1)))
             (f .new c cn m);
         shut = λ c b i m.
             ⊎-elim
-            (λ (y : Marked free marks' c).
+            (λ (y : HasMark free marks' c).
             ⊎-elim (λ w. inl w) (λ w. inr (⊎-elim (λ v. inl (grown-keeps f b v)) (λ v. inr v) w)) (g .shut c b i y))
             (λ y. inr (⊎-elim (λ w. inl w) (λ w. absurd w) y))
             (f .shut c b i m);
@@ -234,12 +234,12 @@ module _ {E : List Edge} {free n s k : ℕ} {marks : List ℕ} {x : ℕ} {marks�
   -- A TRY OF d
   pub step : (go : Bool) (d : ℕ) → k ≢ free → (go ≡ true → (d < n) × Joined E s d) → {marks₂ stack₂ : List ℕ} {top₂ : ℕ}
       → Tried free k go d marks₁ stack₁ top₁ marks₂ stack₂ top₂
-      → Moved E free n s k marks x marks₁ stack₁ top₁ marks₂ stack₂ top₂ × (go ≡ true → Marked free marks₂ d)
+      → Moved E free n s k marks x marks₁ stack₁ top₁ marks₂ stack₂ top₂ × (go ≡ true → HasMark free marks₂ d)
   step go d z ok t = cases (true-or-false (enters free go d marks₁)) t
     where
       cases : (enters free go d marks₁ ≡ true) ⊎ (enters free go d marks₁ ≡ false) → {marks₂ stack₂ : List ℕ} {top₂ : ℕ}
           → Tried free k go d marks₁ stack₁ top₁ marks₂ stack₂ top₂
-          → Moved E free n s k marks x marks₁ stack₁ top₁ marks₂ stack₂ top₂ × (go ≡ true → Marked free marks₂ d)
+          → Moved E free n s k marks x marks₁ stack₁ top₁ marks₂ stack₂ top₂ × (go ≡ true → HasMark free marks₂ d)
       cases (inl y) t =
           let b = both-true go (eqb (getD marks₁ d 0) free) y in
           let o : (d < n) × Joined E s d = ok (b .0) in
@@ -285,7 +285,7 @@ pop {E} {n = n} {stack = stack} top inside f =
 
 -- all of x's neighbours are marked
 pub visited : {E : List Edge} {free n s k : ℕ} {marks : List ℕ} {x : ℕ} {marks₁ stack₁ : List ℕ} {top₁ : ℕ} {marks₂ stack₂ : List ℕ} {top₂ : ℕ}
-    → Moved E free n s k marks x marks₁ stack₁ top₁ marks₂ stack₂ top₂ → ((d : ℕ) → Link E x d → Marked free marks₂ d)
+    → Moved E free n s k marks x marks₁ stack₁ top₁ marks₂ stack₂ top₂ → ((d : ℕ) → Link E x d → HasMark free marks₂ d)
     → Moved E free n s k marks n marks₁ stack₁ top₁ marks₂ stack₂ top₂
 visited {E} {free} {x = x} {marks₂ = marks₂} m all =
     record {
@@ -334,7 +334,7 @@ module _ {E : List Edge} {free n s k : ℕ} {marks : List ℕ} (w : Swept E free
       ⊎-elim
       (λ (h : s ≤ root E s). omega (arith, root-le E s))
       (λ (h : root E s < s).
-      absurd (joined-keeps (Marked free marks) (λ c d m. (w .shut c d (inl m), w .shut d c (inr m))) (to-root E s) .1 (w .all (root E s) h) q))
+      absurd (joined-keeps (HasMark free marks) (λ c d m. (w .shut c d (inl m), w .shut d c (inr m))) (to-root E s) .1 (w .all (root E s) h) q))
       (le-or-lt s (root E s))
 
   -- the part of a seed without a mark is flooded
@@ -354,7 +354,7 @@ module _ {E : List Edge} {free n s k : ℕ} {marks : List ℕ} (w : Swept E free
       }
 
   -- a seed that has a mark is passed over
-  pub sweep-skip : s < n → Marked free marks s → Swept E free n (s + 1) k marks
+  pub sweep-skip : s < n → HasMark free marks s → Swept E free n (s + 1) k marks
   sweep-skip sn m =
       record {
         seen = λ c h y. omega (arith, w .seen c h y);

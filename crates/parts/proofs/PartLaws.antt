@@ -105,9 +105,6 @@ to-root (e ∷ E) c =
 pub root-joined : (E : List Edge) (c d : ℕ) → root E c ≡ root E d → Joined E c d
 root-joined E c d q = then (to-root E c) (then (same q) (back (to-root E d)))
 
-pub root-iff : (E : List Edge) (c d : ℕ) → (root E c ≡ root E d) ↔ Joined E c d
-root-iff E c d = (root-joined E c d, joined-root)
-
 -- it is its own root
 pub root-root : (E : List Edge) (c : ℕ) → root E (root E c) ≡ root E c
 root-root E c = sym (joined-root (to-root E c))

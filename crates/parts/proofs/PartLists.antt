@@ -5,8 +5,7 @@ use mathlib.Core.Path.{_≡_, refl, ap, sym, _∙_}
 use mathlib.Core.Logic.{inl, inr, ⊎-elim}
 use mathlib.Core.List.{List, [], _∷_, map}
 use native.Mathlib.Omega.{arith}
-use lib.ListN.{getD, length, take, length-map, List·getD-map}
-use lib.Seq.{ext-getD, getD-take, length-take-le}
+use lib.ListN.{getD, length, length-map, List·getD-map}
 use Rattle.lists.proofs.ListLaws.{range-length, range-at}
 use Rattle.parts.specs.Parts.{Edge, Has, merge, root, begun, part, join, roots, Within, begunIn, parts}
 use Rattle.parts.proofs.PartLaws.{merge-cases, root-le}
@@ -47,12 +46,6 @@ unfolding parts part begunIn
 parts-at n E c k h =
     let l : List ℕ = roots n E in
     List·getD-map (begunIn l) l c 0 ∙ ap (begunIn l) (roots-at n E c k h) ∙ begun-at n E (root E c) k (omega (arith, root-le E c))
-
--- numbers that hold each vertex's part are the list of all parts
-pub take-parts : (n : ℕ) (E : List Edge) (ids : List ℕ) → Within n E → n ≤ length ids → ((c : ℕ) → c < n → getD ids c 0 ≡ part E c) → take n ids ≡ parts n E
-take-parts n E ids k l h =
-    ext-getD 0 (take n ids) (parts n E) (length-take-le n ids l ∙ sym (parts-length n E))
-    (λ i m. let b : i < n = omega (arith, length-take-le n ids l) in getD-take n ids i 0 b ∙ h i b ∙ sym (parts-at n E i k b))
 
 -- where every edge has its ends below n, so has the list, and back
 pub within : (n : ℕ) (E : List Edge) → ((c d : ℕ) → Has E c d → (c < n) × (d < n)) → Within n E

@@ -1,13 +1,13 @@
 -- How many parts there are: without edges as many as vertices; an edge more joins two parts into one where they were two; more edges leave fewer parts.
 -- Assumes nothing.
 use Prim.Native.Nat.{ℕ, zero, suc, _+_, _≤_, _<_, max}
-use mathlib.Core.Path.{_≡_, refl, ap, sym, _∙_}
+use mathlib.Core.Path.{_≡_, refl, ap, sym}
 use mathlib.Core.Logic.{inr, _≢_, ⊎-elim}
 use mathlib.Core.List.{List, [], _∷_}
 use native.Mathlib.Omega.{arith}
 use Rattle.lists.proofs.Cases.{le-or-lt, eq-or-ne}
-use Rattle.parts.specs.Parts.{Edge, Has, Joined, same, over, back, then, root, begun, part}
-use Rattle.parts.proofs.PartLaws.{merge-cases, root-le, root-root, root-least, to-root, root-same, begun-first, begun-later, joined-more}
+use Rattle.parts.specs.Parts.{Edge, Has, Joined, same, over, back, then, root, begun}
+use Rattle.parts.proofs.PartLaws.{merge-cases, root-le, root-root, root-least, to-root, begun-first, begun-later, joined-more}
 
 pub begun-none : (n : ℕ) → begun [] n ≡ n
 begun-none zero = unfold begun in refl
@@ -35,10 +35,6 @@ begun-more E F f n =
 -- edges that join the same vertices give the same parts, with the same numbers
 pub begun-same : (E F : List Edge) → ((c d : ℕ) → Has E c d → Joined F c d) → ((c d : ℕ) → Has F c d → Joined E c d) → (n : ℕ) → begun E n ≡ begun F n
 begun-same E F f g n = omega (arith, begun-more E F f n, begun-more F E g n)
-
-pub part-same : (E F : List Edge) → ((c d : ℕ) → Has E c d → Joined F c d) → ((c d : ℕ) → Has F c d → Joined E c d) → (c : ℕ) → part E c ≡ part F c
-unfolding part
-part-same E F f g c = ap (begun E) (root-same E F f g c) ∙ begun-same E F f g (root F c)
 
 -- an edge within a part joins nothing new
 pub begun-within : (e : Edge) (E : List Edge) (n : ℕ) → root E (e .one) ≡ root E (e .other) → begun (e ∷ E) n ≡ begun E n

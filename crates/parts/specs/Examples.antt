@@ -8,24 +8,24 @@ use lib.ListN.{replicate}
 use Rattle.lists.specs.Lists.{range, countFrom}
 use Rattle.parts.specs.Parts.{Edge, edge, Joined, over, back, then, merge, root, begun, part, join, roots, begunIn, parts}
 
--- six vertices in three parts: a loop, a way round, and a vertex alone
-abbrev five : List Edge
-five = edge 0 3 ∷ edge 3 5 ∷ edge 1 2 ∷ edge 5 0 ∷ edge 2 2 ∷ []
+-- six vertices in three parts: a loop, a repeat, a way round, and a vertex alone
+abbrev six : List Edge
+six = edge 0 3 ∷ edge 3 5 ∷ edge 1 2 ∷ edge 5 0 ∷ edge 2 2 ∷ edge 2 1 ∷ []
 
-five-joined : Joined five 5 0
-five-joined = back (then (over (inl refl)) (over (inr (inl refl))))
+six-joined : Joined six 5 0
+six-joined = back (then (over (inl refl)) (over (inr (inl refl))))
 
-five-roots : map (root five) (range 6) ≡ 0 ∷ 1 ∷ 1 ∷ 0 ∷ 4 ∷ 0 ∷ []
+six-roots : map (root six) (range 6) ≡ 0 ∷ 1 ∷ 1 ∷ 0 ∷ 4 ∷ 0 ∷ []
 unfolding root merge range countFrom
-five-roots = refl
+six-roots = refl
 
-five-parts : map (part five) (range 6) ≡ 0 ∷ 1 ∷ 1 ∷ 0 ∷ 2 ∷ 0 ∷ []
+six-parts : map (part six) (range 6) ≡ 0 ∷ 1 ∷ 1 ∷ 0 ∷ 2 ∷ 0 ∷ []
 unfolding part begun root merge range countFrom
-five-parts = refl
+six-parts = refl
 
-five-lists : parts 6 five ≡ 0 ∷ 1 ∷ 1 ∷ 0 ∷ 2 ∷ 0 ∷ []
+six-lists : parts 6 six ≡ 0 ∷ 1 ∷ 1 ∷ 0 ∷ 2 ∷ 0 ∷ []
 unfolding parts begunIn roots join merge range countFrom
-five-lists = refl
+six-lists = refl
 
 -- parts are numbered by first vertex, whatever the order of the edges
 late-first : parts 5 (edge 4 1 ∷ edge 3 2 ∷ edge 2 0 ∷ []) ≡ 0 ∷ 1 ∷ 0 ∷ 0 ∷ 1 ∷ []

@@ -11,8 +11,8 @@ use lib.Dec.{eqb}
 use Rattle.lists.specs.Choice.{both, pick}
 use Rattle.parts.specs.Parts.{Edge, Has, Joined, root, begun, part}
 
-abbrev pub Marked : ℕ → List ℕ → ℕ → Type 0
-Marked free marks c = getD marks c 0 ≢ free
+abbrev pub HasMark : ℕ → List ℕ → ℕ → Type 0
+HasMark free marks c = getD marks c 0 ≢ free
 
 -- an edge, either way
 abbrev pub Link : List Edge → ℕ → ℕ → Type 0
@@ -25,10 +25,10 @@ blank free (suc n) marks = blank free n marks + pick (eqb (getD marks n 0) free)
 
 -- A flood from s has come from `marks` to `marks'`: what it marked is joined to s, and all neighbours of that are marked too, but for open vertices
 pub record Grown (E : List Edge) (free n s k : ℕ) (Open : ℕ → Type 0) (marks marks' : List ℕ) : Type 0 where
-  pub keeps : (c : ℕ) → Marked free marks c → getD marks' c 0 ≡ getD marks c 0
-  pub new : (c : ℕ) → c < n → Marked free marks' c → Marked free marks c ⊎ ((getD marks' c 0 ≡ k) × Joined E s c)
-  pub shut : (c d : ℕ) → Link E c d → Marked free marks' c → Marked free marks c ⊎ (Marked free marks' d ⊎ Open c)
-  pub here : Marked free marks' s
+  pub keeps : (c : ℕ) → HasMark free marks c → getD marks' c 0 ≡ getD marks c 0
+  pub new : (c : ℕ) → c < n → HasMark free marks' c → HasMark free marks c ⊎ ((getD marks' c 0 ≡ k) × Joined E s c)
+  pub shut : (c d : ℕ) → Link E c d → HasMark free marks' c → HasMark free marks c ⊎ (HasMark free marks' d ⊎ Open c)
+  pub here : HasMark free marks' s
   pub rest : (c : ℕ) → n ≤ c → getD marks' c 0 ≡ getD marks c 0
   pub size : length marks' ≡ length marks
   pub long : n ≤ length marks'
@@ -39,22 +39,22 @@ Flooded E free n s k marks marks' = Grown E free n s k (λ (c : ℕ). ⊥) marks
 
 -- All vertices below s have been seeds of floods: the parts that begin there, k of them, are marked, and nothing else
 pub record Swept (E : List Edge) (free n s k : ℕ) (marks : List ℕ) : Type 0 where
-  pub seen : (c : ℕ) → c < n → Marked free marks c → root E c < s
-  pub all : (c : ℕ) → c < s → Marked free marks c
-  pub shut : (c d : ℕ) → Link E c d → Marked free marks c → Marked free marks d
+  pub seen : (c : ℕ) → c < n → HasMark free marks c → root E c < s
+  pub all : (c : ℕ) → c < s → HasMark free marks c
+  pub shut : (c d : ℕ) → Link E c d → HasMark free marks c → HasMark free marks d
   pub count : k ≡ begun E s
   pub long : n ≤ length marks
 
 -- The marks are the parts' numbers
 abbrev pub Numbered : List Edge → ℕ → ℕ → List ℕ → Type 0
-Numbered E free n marks = (c : ℕ) → c < n → Marked free marks c → getD marks c 0 ≡ part E c
+Numbered E free n marks = (c : ℕ) → c < n → HasMark free marks c → getD marks c 0 ≡ part E c
 
 -- c is one of the first `top` of the stack
-abbrev pub On : List ℕ → ℕ → ℕ → Type 0
-On stack top c = (i : ℕ) × (i < top) × (getD stack i 0 ≡ c)
+abbrev pub OnStack : List ℕ → ℕ → ℕ → Type 0
+OnStack stack top c = (i : ℕ) × (i < top) × (getD stack i 0 ≡ c)
 
 abbrev pub Waits : ℕ → List ℕ → ℕ → ℕ → Type 0
-Waits x stack top c = (c ≡ x) ⊎ On stack top c
+Waits x stack top c = (c ≡ x) ⊎ OnStack stack top c
 
 -- A flood with a stack: the vertices on it are marked and joined to s, and their neighbours have yet to be tried, as have x's (x is n where there is no such vertex)
 pub record Flow (E : List Edge) (free n s k : ℕ) (marks : List ℕ) (x : ℕ) (marks' stack : List ℕ) (top : ℕ) : Type 0 where
@@ -79,5 +79,5 @@ work free n marks top = blank free n marks + (blank free n marks + top)
 -- What some tries did in a flood that began at `marks`
 pub record Moved (E : List Edge) (free n s k : ℕ) (marks : List ℕ) (x : ℕ) (marks₁ stack₁ : List ℕ) (top₁ : ℕ) (marks₂ stack₂ : List ℕ) (top₂ : ℕ) : Type 0 where
   pub flow : Flow E free n s k marks x marks₂ stack₂ top₂
-  pub keeps : (c : ℕ) → Marked free marks₁ c → Marked free marks₂ c
+  pub keeps : (c : ℕ) → HasMark free marks₁ c → HasMark free marks₂ c
   pub less : work free n marks₂ top₂ ≤ work free n marks₁ top₁

@@ -14,7 +14,8 @@ use Rattle.grid.specs.Grid.{cells, Cell, next, border}
 use Rattle.borders.specs.Entry.{connectedEntry}
 use Rattle.grid.specs.Orders.{around}
 use Rattle.borders.proofs.Agreement.{Agree, stands-reads}
-use Rattle.path.specs.Path.{Lists, Search, isNew, listOf, mark, finds, look, looks, lookAll, lookRound, searchFrom, search, pathOf, pathList}
+use Rattle.answers.specs.Answers.{listOf}
+use Rattle.path.specs.Path.{Lists, Search, isNew, mark, finds, look, looks, lookAll, lookRound, searchFrom, search, pathOf, pathList}
 use Rattle.path.proofs.Search.{Searching, taken, starts}
 
 module _ (g : Grid) (a b : List ℕ) (agree : Agree g a b) where

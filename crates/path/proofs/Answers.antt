@@ -9,30 +9,31 @@ use native.Mathlib.Omega.{arith}
 use borrow.Author.Tests.{eq-eqb, ne-eqb, lt-ltb, le-ltb, le-leb, lt-leb}
 use lib.ListN.{getD, length, replicate, length-replicate, getD-replicate, List·getD-eq-default}
 use lib.Seq.{sets}
+use Rattle.limits.specs.Limits.{mostCells}
 use Rattle.lists.proofs.Cases.{le-or-lt}
 use Rattle.grid.specs.declared.Grid.{Grid}
 use Rattle.grid.specs.Grid.{cells, Cell}
 use Rattle.grid.proofs.Geometry.{cells-le}
 use Rattle.board.specs.declared.Board.{Board}
 use Rattle.board.specs.Board.{sizeOf, boardCode}
-use Rattle.path.specs.declared.PathAnswer.{PathAnswer}
-use Rattle.path.specs.declared.PathAnswer.the-variants.{Listed, Refused}
-use Rattle.path.specs.Path.{Lists, listOf, search, pathOf}
+use Rattle.answers.specs.declared.Listed.{Listed}
+use Rattle.answers.specs.declared.Listed.the-variants as case
+use Rattle.path.specs.Path.{Lists, search, pathOf}
 use Rattle.path.specs.Trace.{Traced, Asks, Fresh, Back, Walks}
-use Rattle.path.specs.Answer.{answerOf, joined, pathOutcome}
-use Rattle.board.specs.Outcome.{Outcome, refused, listed, written}
+use Rattle.path.specs.Answer.{joined, pathOutcome}
+use Rattle.answers.specs.Answers.{Outcome, refused, listed, listOf, listedOf, written}
 use Rattle.path.proofs.Found.{new-none, old-some}
 use Rattle.path.proofs.PathLaws.{ended, leads-nowhere, path-short}
 
 -- THE SEARCH'S ARRAYS
 
-pub fresh : Fresh (replicate 1024 1024) (replicate 1024 0) (replicate 1024 0)
+pub fresh : Fresh (replicate mostCells mostCells) (replicate mostCells 0) (replicate mostCells 0)
 fresh =
     record {
-      finders-long = length-replicate {A = ℕ} 1024 1024;
-      entries-long = length-replicate {A = ℕ} 1024 0;
-      queue-long = length-replicate {A = ℕ} 1024 0;
-      new = λ x h. getD-replicate 1024 x 1024 0 h;
+      finders-long = length-replicate {A = ℕ} mostCells mostCells;
+      entries-long = length-replicate {A = ℕ} mostCells 0;
+      queue-long = length-replicate {A = ℕ} mostCells 0;
+      new = λ x h. getD-replicate mostCells x mostCells 0 h;
     }
 
 module _ {g : Grid} {states : List ℕ} {start target : ℕ} (a : Asks g states start target) {f e : List ℕ} (t : Traced g (search g states start target) f e) where
@@ -62,14 +63,14 @@ module _ {g : Grid} {states : List ℕ} {start target : ℕ} (a : Asks g states 
         traced-back (getD f x 0) p (o .1),
       )
 
-  pub not-found : getD f target 0 ≡ 1024 → pathOf g states start target ≡ none
+  pub not-found : getD f target 0 ≡ mostCells → pathOf g states start target ≡ none
   unfolding pathOf
-  not-found z = new-none _ (t .new target (a .target-cell) ∙ eq-eqb (getD f target 0) 1024 z)
+  not-found z = new-none _ (t .new target (a .target-cell) ∙ eq-eqb (getD f target 0) mostCells z)
 
-  module _ (z : getD f target 0 ≢ 1024) where
+  module _ (z : getD f target 0 ≢ mostCells) where
     pub found : (p : List ℕ) × (pathOf g states start target ≡ some p)
     unfolding pathOf
-    found = old-some _ (t .new target (a .target-cell) ∙ ne-eqb (getD f target 0) 1024 z)
+    found = old-some _ (t .new target (a .target-cell) ∙ ne-eqb (getD f target 0) mostCells z)
 
     pub found-back : Back start f e target (found .0)
     unfolding pathOf xs
@@ -88,24 +89,22 @@ module _ {g : Grid} {states : List ℕ} {start target : ℕ} (a : Asks g states 
 -- THE ANSWER
 
 -- this answer, with this in the buffer, is what comes of o
-abbrev pub Gives : Outcome → List ℕ → PathAnswer → List ℕ → Type 0
-Gives o buffer r buffer' = (r ≡ answerOf o) × (buffer' ≡ written o buffer)
+abbrev pub Gives : Outcome → List ℕ → Listed → List ℕ → Type 0
+Gives o buffer r buffer' = (r ≡ listedOf o) × (buffer' ≡ written o buffer)
 
-pub gives-number : (o : Outcome) (n : ℕ) (buffer : List ℕ) → o ≡ refused n → Gives o buffer (Refused n) buffer
+pub gives-number : (o : Outcome) (n : ℕ) (buffer : List ℕ) → o ≡ refused n → Gives o buffer (case.Refused n) buffer
 gives-number o n buffer q = rw q (refl, refl)
 
-pub gives-list : (o : Outcome) (p : List ℕ) (n : ℕ) (buffer buffer' : List ℕ) → o ≡ listed p → (n ≡ length p) × (buffer' ≡ sets buffer 0 p) → Gives o buffer (Listed n) buffer'
-gives-list o p n buffer buffer' q k = rw q (ap Listed (k .0), k .1)
+pub gives-list : (o : Outcome) (p : List ℕ) (n : ℕ) (buffer buffer' : List ℕ) → o ≡ listed p → (n ≡ length p) × (buffer' ≡ sets buffer 0 p) → Gives o buffer (case.List n) buffer'
+gives-list o p n buffer buffer' q k = rw q (ap case.List (k .0), k .1)
 
 -- the same as a list and its length, of which there is none where nothing was found
-module _ (buffer buffer' : List ℕ) (r : PathAnswer) where
-  pub length-told : (o : Option (List ℕ)) (n : ℕ) → Gives (joined o) buffer r buffer' → r ≡ Listed n → (n ≡ length (listOf o)) × (buffer' ≡ sets buffer 0 (listOf o))
-  unfolding listOf
+module _ (buffer buffer' : List ℕ) (r : Listed) where
+  pub length-told : (o : Option (List ℕ)) (n : ℕ) → Gives (joined o) buffer r buffer' → r ≡ case.List n → (n ≡ length (listOf o)) × (buffer' ≡ sets buffer 0 (listOf o))
   length-told none n k q = absurd (let z : _≡_ {A = ℕ} 0 1 = cc in omega arith)
   length-told (some p) n k q = (cc, k .1)
 
-  pub nothing-told : (o : Option (List ℕ)) (n : ℕ) → Gives (joined o) buffer r buffer' → r ≡ Refused n → (0 ≡ length (listOf o)) × (buffer' ≡ sets buffer 0 (listOf o))
-  unfolding listOf
+  pub nothing-told : (o : Option (List ℕ)) (n : ℕ) → Gives (joined o) buffer r buffer' → r ≡ case.Refused n → (0 ≡ length (listOf o)) × (buffer' ≡ sets buffer 0 (listOf o))
   nothing-told none n k q = (refl, k .1)
   nothing-told (some p) n k q = absurd (let z : _≡_ {A = ℕ} 0 1 = cc in omega arith)
 

@@ -1,3 +1,4 @@
+pub mod Leads
 pub mod Found
 pub mod Search
 pub mod PathLaws

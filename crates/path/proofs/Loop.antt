@@ -11,12 +11,13 @@ use native.Mathlib.Numerals.{add-one}
 use borrow.Author.Tests.{eq-eqb, ne-eqb}
 use lib.ListN.{getD, length, set, replicate, length-set, length-replicate}
 use lib.Seq.{slice, slice-cons, slice-empty, getD-set-same, getD-set-other}
+use Rattle.limits.specs.Limits.{mostCells}
 use Rattle.lists.proofs.Cases.{eq-or-ne}
 use Rattle.grid.specs.declared.Grid.{Grid}
 use Rattle.grid.specs.Grid.{cells, Cell}
 use Rattle.grid.proofs.Geometry.{cells-le}
-use Rattle.path.specs.Path.{Lists, Search, isNew, listOf, lookAll, lookRound, searchFrom, search}
-use Rattle.path.specs.Trace.{Traced, Kept, Looking, Looks, Follows, Asks, Fresh}
+use Rattle.path.specs.Path.{Lists, Search, isNew, lookAll, lookRound, searchFrom, search}
+use Rattle.path.specs.Trace.{Traced, Kept, Looking, LooksFrom, Follows, Asks, Fresh}
 use Rattle.path.proofs.Found.{Found, blank-set, blank-all, none-at, marked-cases}
 use Rattle.path.proofs.Search.{Searching, taken, starts}
 use Rattle.path.proofs.Trace.{slice-more}
@@ -30,7 +31,7 @@ pub record Going (g : Grid) (states : List ℕ) (start target : ℕ) (f e q : Li
 -- BEFORE THE FIRST TURN
 
 module _ {g : Grid} {states : List ℕ} {start target : ℕ} (a : Asks g states start target) {f e q : List ℕ} (fresh : Fresh f e q) where
-  small : cells g ≤ 1024
+  small : cells g ≤ mostCells
   small = cells-le g (a .limits)
 
   first : Lists
@@ -53,7 +54,7 @@ module _ {g : Grid} {states : List ℕ} {start target : ℕ} (a : Asks g states 
             ⊎-elim
             (λ (i : y ≡ start).
             rw (i, getD-set-same (replicate (cells g) none) start (some []) none start-in, getD-set-same f start start 0 (omega (arith, small, fresh .finders-long, a .start-cell)))
-            (sym (ne-eqb start 1024 (λ (j : start ≡ 1024). omega (arith, small, a .start-cell)))))
+            (sym (ne-eqb start mostCells (λ (j : start ≡ mostCells). omega (arith, small, a .start-cell)))))
             (λ (i : y ≢ start).
             rw (getD-set-other {A = Option (List ℕ)} (replicate (cells g) none) start y (some []) none i, none-at (cells g) y, getD-set-other f start y start 0 i, fresh .new y (omega (arith, small))))
             (eq-or-ne y start);
@@ -89,7 +90,7 @@ nothing-waits g states target zero xs = refl
 nothing-waits g states target (suc fuel) xs = refl
 
 round-all : (g : Grid) (states : List ℕ) (c : ℕ) (p : List ℕ) (s : Search) → getD (s .found) c none ≡ some p → lookRound g states c s ≡ lookAll g states c p s
-unfolding lookRound listOf
+unfolding lookRound
 round-all g states c p s here = rw here
 
 -- c, whose list is p and which is not the target, is taken out and looks round
@@ -116,10 +117,10 @@ module _ {g : Grid} {states : List ℕ} {start target : ℕ} (a : Asks g states 
       let same : xs ≡ search g states start target = sym (nothing-waits g states target (cells g - head) xs) ∙ ap (λ l. searchFrom g states target (cells g - head) l xs) (sym none-left) ∙ k .left in
       rw same at (k .kept .traced)
 
-  tail-fits : tail ≤ 1024
+  tail-fits : tail ≤ mostCells
   tail-fits = omega (arith, k .kept .room, cells-le g (a .limits))
 
-  pub head-fits : head < tail → head < 1024
+  pub head-fits : head < tail → head < mostCells
   head-fits h = omega (arith, tail-fits)
 
   module _ (h : head < tail) where
@@ -172,7 +173,7 @@ module _ {g : Grid} {states : List ℕ} {start target : ℕ} (a : Asks g states 
           here = known .1 .1;
         }
 
-    pub going-look : Looks g states (getD q head 0) f e q tail
+    pub going-look : LooksFrom g states (getD q head 0) f e q tail
     unfolding c
     going-look =
         record {

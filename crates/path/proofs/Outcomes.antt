@@ -14,7 +14,7 @@ use Rattle.board.specs.Board.{sizeOf, boardCode}
 use Rattle.borders.specs.Border.{stateOf}
 use Rattle.path.specs.Path.{pathOf}
 use Rattle.path.specs.Answer.{joined, pathOutcome}
-use Rattle.board.specs.Outcome.{refused}
+use Rattle.answers.specs.Answers.{refused}
 use Rattle.path.proofs.PathLaws.{path-none}
 use Rattle.path.proofs.Answers.{answered}
 
@@ -26,7 +26,7 @@ module _ (b : Board) (start target room : ℕ) (ready : boardCode b ≡ 0) (s : 
   outcome : pathOutcome b start target room ≡ joined (pathOf (sizeOf b) (b .book .states) start target)
   outcome = answered b start target room (boardCode b) refl ready s t long
 
-  -- "Path: are the cells joined by Connected borders? No: 10."
+  -- question 10 (SPEC 3.10)
   pub refused-ten : (pathOutcome b start target room ≡ refused 10) ↔ (SameUnit (Neighbours (sizeOf b)) (stateOf (b .book .states)) start target → ⊥)
   refused-ten = (
     λ q. path-none (sizeOf b) (b .book .states) start target s .0 (ten-none _ (sym outcome ∙ q)),

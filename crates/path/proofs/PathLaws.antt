@@ -17,8 +17,9 @@ use Rattle.grid.specs.Steps.{Neighbours}
 use Rattle.borders.specs.Entry.{connectedEntry, Standing}
 use Rattle.borders.specs.Border.{stateOf}
 use Rattle.borders.proofs.EntryLaws.{stands-connected}
-use Rattle.path.specs.Path.{listOf, search, pathOf, pathList}
-use Rattle.path.specs.Leads.{Leads, arrived, over}
+use Rattle.answers.specs.Answers.{listOf}
+use Rattle.path.specs.Path.{search, pathOf, pathList}
+use Rattle.path.proofs.Leads.{Leads, arrived, over}
 use Rattle.path.proofs.Search.{Ended, starts, search-ends, reaches}
 
 module _ (g : Grid) (start : ℕ) where
@@ -37,7 +38,7 @@ module _ (g : Grid) (states : List ℕ) (start target : ℕ) (cell : Cell g star
   ended = search-ends g states start target (cells g) (start ∷ []) (set (replicate (cells g) none) start (some [])) (starts g states start cell)
 
   module _ (p : List ℕ) (q : pathOf g states start target ≡ some p) where
-    -- "Entries run from target back to start"
+    -- the list leads from the target back to the start (SPEC 4.3)
     pub path-leads : Leads g start target p
     unfolding pathOf
     path-leads = ended .way target p q .0
@@ -64,7 +65,7 @@ module _ (g : Grid) (states : List ℕ) (start target : ℕ) (cell : Cell g star
   unfolding pathOf
   path-found j = ⊎-elim (λ z. z) (λ z. reaches g states start (search g states start target) z ([], ended .begun) j) (ended .ends)
 
-  -- "are the cells joined by Connected borders?" No: nothing is found
+  -- cells that are not joined (SPEC 3.10): nothing is found
   pub path-none : (pathOf g states start target ≡ none) ↔ (SameUnit (Neighbours g) (stateOf states) start target → ⊥)
   path-none = (
     λ q j. let o = path-found j in Option·none-ne-some (o .0) (sym q ∙ o .1),
@@ -73,12 +74,12 @@ module _ (g : Grid) (states : List ℕ) (start target : ℕ) (cell : Cell g star
 
   -- the list of joined cells is the one found
   pub path-list : SameUnit (Neighbours g) (stateOf states) start target → pathOf g states start target ≡ some (pathList g states start target)
-  unfolding pathList listOf
+  unfolding pathList
   path-list j = let o = path-found j in o .1 ∙ ap some (sym (ap listOf (o .1)))
 
 -- lists of cells that are not joined are empty, so this one needs no premise
 pub path-list-short : (g : Grid) (states : List ℕ) (start target : ℕ) → Cell g start → length (pathList g states start target) < cells g
-unfolding pathList listOf
+unfolding pathList
 path-list-short g states start target cell =
     ⊎-elim
     (λ (z : pathOf g states start target ≡ none). omega (arith, ap length (ap listOf z)))

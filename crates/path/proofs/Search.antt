@@ -7,7 +7,7 @@ use mathlib.Core.Bool.{Bool, true, false, true≢false}
 use mathlib.Core.List.{List, [], _∷_}
 use mathlib.Core.Option.{Option, none, some, Option·some-injective, Option·none-ne-some}
 use native.Mathlib.Omega.{arith}
-use borrow.Author.Tests.{eqb-true, eq-eqb, ne-eqb}
+use borrow.Author.Tests.{eqb-true, ne-eqb}
 use lib.Dec.{eqb}
 use lib.ListN.{getD, length, set, replicate, length-set, length-append, length-replicate}
 use lib.Seq.{getD-set-same, getD-set-other}
@@ -29,9 +29,10 @@ use Rattle.borders.proofs.EntryLaws.{connected-stands}
 use Rattle.borders.proofs.BorderLaws.{stands-state, stands-step, step-stands}
 use Rattle.grid.specs.Orders.{around}
 use Rattle.borders.proofs.Directions.{in-around}
-use Rattle.path.specs.Path.{Lists, Search, isNew, listOf, mark, finds, look, looks, lookAll, lookRound, searchFrom}
+use Rattle.answers.specs.Answers.{listOf}
+use Rattle.path.specs.Path.{Lists, Search, isNew, mark, finds, look, looks, lookAll, lookRound, searchFrom}
 use Rattle.path.specs.Trace.{blank}
-use Rattle.path.specs.Leads.{Leads, arrived, over}
+use Rattle.path.proofs.Leads.{Leads, arrived, over}
 use Rattle.path.proofs.Found.{Found, blank-set, blank-all, none-at, new-none, old-some, marked-cases, marked-here, found-still}
 
 module _ (g : Grid) (states : List ℕ) (start : ℕ) where
@@ -163,7 +164,7 @@ module _ (g : Grid) (states : List ℕ) (start : ℕ) where
   -- c is taken out and looks round
   pub taken : (c fuel : ℕ) (queue : List ℕ) (xs : Lists) → Searching (λ x. ⊥) (suc fuel) (c ∷ queue) xs
       → Searching (λ x. ⊥) fuel (lookRound g states c (record { queue = queue; found = xs }) .queue) (lookRound g states c (record { queue = queue; found = xs }) .found)
-  unfolding lookRound lookAll listOf
+  unfolding lookRound lookAll
   taken c fuel queue xs k =
       let o = k .queued c (inl refl) in
       let f = o .1 in
@@ -201,16 +202,6 @@ module _ (g : Grid) (states : List ℕ) (start : ℕ) where
     pub short : (x : ℕ) (p : List ℕ) → getD xs x none ≡ some p → length p < cells g
     pub begun : getD xs start none ≡ some []
     pub ends : Found xs target ⊎ ((x : ℕ) → Found xs x → Closed xs x)
-
-  -- one turn of the search
-  pub search-empty : (target fuel : ℕ) (xs : Lists) → searchFrom g states target fuel [] xs ≡ xs
-  unfolding searchFrom
-  search-empty target zero xs = refl
-  search-empty target (suc fuel) xs = refl
-
-  pub search-stop : (target fuel c : ℕ) (queue : List ℕ) (xs : Lists) → c ≡ target → searchFrom g states target (suc fuel) (c ∷ queue) xs ≡ xs
-  unfolding searchFrom
-  search-stop target fuel c queue xs q = rw (eq-eqb c target q)
 
   pub search-on : (target fuel c : ℕ) (queue : List ℕ) (xs : Lists) → c ≢ target
       → searchFrom g states target (suc fuel) (c ∷ queue) xs

@@ -12,6 +12,7 @@ use borrow.Author.Tests.{eq-eqb, ne-eqb}
 use lib.Dec.{eqb}
 use lib.ListN.{getD, length, set, take, length-set}
 use lib.Seq.{slice, take-all, take-suc, take-suc-set, drop-append-le, length-take-le, getD-set-same, getD-set-other}
+use Rattle.limits.specs.Limits.{mostCells, mostBorders}
 use Rattle.lists.proofs.Cases.{eq-or-ne}
 use Rattle.grid.specs.declared.Direction.{Direction}
 use Rattle.grid.specs.declared.Direction.the-variants.{Up}
@@ -21,9 +22,10 @@ use Rattle.grid.specs.declared.Grid.{Grid}
 use Rattle.grid.specs.Grid.{cells, Cell, Limits, goesOn, next, border, stepOf}
 use Rattle.grid.specs.Steps.{Step}
 use Rattle.grid.proofs.Geometry.{goes-step, border-lt, borderCount-le, cells-le}
+use Rattle.borders.specs.Entry.{entryOf}
 use Rattle.borders.specs.Border.{stateOf, stateAt, stands}
 use Rattle.path.specs.Path.{Search, isNew, mark, finds, look, looks}
-use Rattle.path.specs.Trace.{blank, Traced, Looking, Looks, Follows}
+use Rattle.path.specs.Trace.{blank, Traced, Looking, LooksFrom, Follows}
 use Rattle.path.proofs.Found.{blank-set, new-none, marked-cases}
 use Rattle.grid.proofs.Told.{at-told}
 
@@ -36,7 +38,7 @@ cons-parts : (e e' : ℕ) (p p' : List ℕ) → _≡_ {A = Option (List ℕ)} (s
 cons-parts e e' p p' q = (cc, cc)
 
 module _ (g : Grid) (limits : Limits g) (c : ℕ) (cell : Cell g c) (p : List ℕ) (head : ℕ) (s : Search) (f e q : List ℕ) (t : ℕ) (k : Looking g c p head s f e q t) where
-  small : cells g ≤ 1024
+  small : cells g ≤ mostCells
   small = cells-le g limits
 
   module _ (x r : ℕ) (xcell : Cell g x) (z : getD (s .found) x none ≡ none) where
@@ -69,7 +71,7 @@ module _ (g : Grid) (limits : Limits g) (c : ℕ) (cell : Cell g c) (p : List �
               ⊎-elim
               (λ (i : y ≡ x).
               rw (i, getD-set-same (s .found) x (some (r ∷ p)) none x-in, getD-set-same f x c 0 (omega (arith, small, o .finders-long)))
-              (sym (ne-eqb c 1024 (λ (j : c ≡ 1024). omega (arith, small)))))
+              (sym (ne-eqb c mostCells (λ (j : c ≡ mostCells). omega (arith, small)))))
               (λ (i : y ≢ x). rw (getD-set-other (s .found) x y (some (r ∷ p)) none i, getD-set-other f x y c 0 i) (o .new y l))
               (eq-or-ne y x);
           back = λ y e' p' w.
@@ -100,7 +102,7 @@ module _ (g : Grid) (limits : Limits g) (c : ℕ) (cell : Cell g c) (p : List �
 
 -- A LOOK IN ONE DIRECTION
 
-module _ {g : Grid} {states : List ℕ} {c : ℕ} {f e q : List ℕ} {t : ℕ} (v : Looks g states c f e q t) (d : Direction) where
+module _ {g : Grid} {states : List ℕ} {c : ℕ} {f e q : List ℕ} {t : ℕ} (v : LooksFrom g states c f e q t) (d : Direction) where
   -- what the look leaves in the arrays
   abbrev pub Looked : List ℕ → List ℕ → List ℕ → ℕ → Type 0
   Looked f' e' q' t' = Follows g c (λ p s. look g states c p d s) f e q t f' e' q' t'
@@ -124,10 +126,10 @@ module _ {g : Grid} {states : List ℕ} {c : ℕ} {f e q : List ℕ} {t : ℕ} (
     pub border-fits : b < length states
     border-fits = omega (arith, border-lt g d c x b there, v .states-long)
 
-    pub entry-fits : 2 * b < 65536
+    pub entry-fits : b < mostBorders
     entry-fits = omega (arith, border-lt g d c x b there, borderCount-le g (v .limits))
 
-    pub cell-small : x < 1024
+    pub cell-small : x < mostCells
     cell-small = omega (arith, there .cell', cells-le g (v .limits))
 
     pub cell-fits : (x < length f) × (x < length e)
@@ -139,7 +141,7 @@ module _ {g : Grid} {states : List ℕ} {c : ℕ} {f e q : List ℕ} {t : ℕ} (
     look-apart z = nothing (λ p head s k. rw (told .0, ne-eqb (stateOf states (border g d c)) 1 (rw (told .2) at z)))
 
     -- what the finder says of x in every search that the arrays keep
-    is-new : (p : List ℕ) (head : ℕ) (s : Search) → Looking g c p head s f e q t → isNew (getD (s .found) (next g d c) none) ≡ eqb (getD f x 0) 1024
+    is-new : (p : List ℕ) (head : ℕ) (s : Search) → Looking g c p head s f e q t → isNew (getD (s .found) (next g d c) none) ≡ eqb (getD f x 0) mostCells
     is-new p head s k = rw (← told .1) (k .kept .traced .new x (there .cell'))
 
     module _ (connected : stateOf states b ≡ 1) where
@@ -147,33 +149,33 @@ module _ {g : Grid} {states : List ℕ} {c : ℕ} {f e q : List ℕ} {t : ℕ} (
       unfolding stands stateAt
       stands-connected = rw (told .0) (eq-eqb (stateOf states (border g d c)) 1 (rw (told .2) at connected))
 
-      pub look-old : getD f x 0 ≢ 1024 → Looked f e q t
+      pub look-old : getD f x 0 ≢ mostCells → Looked f e q t
       unfolding finds
-      look-old z = nothing (λ p head s k. rw (stands-connected, is-new p head s k, ne-eqb (getD f x 0) 1024 z))
+      look-old z = nothing (λ p head s k. rw (stands-connected, is-new p head s k, ne-eqb (getD f x 0) mostCells z))
 
-      module _ (new : getD f x 0 ≡ 1024) where
+      module _ (new : getD f x 0 ≡ mostCells) where
         x-none : (p : List ℕ) (head : ℕ) (s : Search) → Looking g c p head s f e q t → getD (s .found) x none ≡ none
-        x-none p head s k = new-none _ (k .kept .traced .new x (there .cell') ∙ eq-eqb (getD f x 0) 1024 new)
+        x-none p head s k = new-none _ (k .kept .traced .new x (there .cell') ∙ eq-eqb (getD f x 0) mostCells new)
 
         pub queue-fits : t < length q
         queue-fits =
             let k = v .looking in
             omega (arith, cells-le g (v .limits), k .kept .queue-long, place g (v .limits) c (v .cell) (v .p) (v .head) (v .s) f e q t k x b (there .cell') (x-none (v .p) (v .head) (v .s) k))
 
-        pub look-new : Looked (set f x c) (set e x (2 * b)) (set q t x) (t + 1)
+        pub look-new : {l : ℕ} → l ≡ entryOf false b → Looked (set f x c) (set e x l) (set q t x) (t + 1)
         unfolding look finds
-        look-new p head s k =
-            rw (stands-connected, is-new p head s k, eq-eqb (getD f x 0) 1024 new, ← told .1, ← told .2)
+        look-new q' p head s k =
+            rw (stands-connected, is-new p head s k, eq-eqb (getD f x 0) mostCells new, ← told .1, ← told .2, q')
             (looking-mark g (v .limits) c (v .cell) p head s f e q t k x (2 * b) (there .cell') (x-none p head s k))
 
 -- A LOOK ROUND
 
-module _ {g : Grid} {states : List ℕ} {c : ℕ} {f e q : List ℕ} {t : ℕ} (v : Looks g states c f e q t) where
-  pub tail-small : t ≤ 1024
+module _ {g : Grid} {states : List ℕ} {c : ℕ} {f e q : List ℕ} {t : ℕ} (v : LooksFrom g states c f e q t) where
+  pub tail-small : t ≤ mostCells
   tail-small = omega (arith, v .looking .kept .room, cells-le g (v .limits))
 
   -- after a look there can be another
-  pub looks-on : {after : List ℕ → Search → Search} {f' e' q' : List ℕ} {t' : ℕ} → Follows g c after f e q t f' e' q' t' → Looks g states c f' e' q' t'
+  pub looks-on : {after : List ℕ → Search → Search} {f' e' q' : List ℕ} {t' : ℕ} → Follows g c after f e q t f' e' q' t' → LooksFrom g states c f' e' q' t'
   looks-on {after} w =
       record {
         limits = v .limits;

@@ -8,6 +8,7 @@ use native.Mathlib.Omega.{arith}
 use native.Mathlib.Numerals.{add-one}
 use lib.ListN.{getD, length, set, length-set}
 use lib.Seq.{sets}
+use Rattle.limits.specs.Limits.{mostCells}
 use Rattle.path.specs.Trace.{Back, Walks}
 
 module _ (start : ℕ) (f e : List ℕ) where
@@ -23,7 +24,7 @@ module _ (start : ℕ) (f e : List ℕ) where
   at-start x (b ∷ p) k i = absurd (k .0 i)
 
   -- from a cell that is not the start
-  further : (x : ℕ) (p : List ℕ) → Back start f e x p → x ≢ start → (x < 1024) × ((r : List ℕ) × (p ≡ getD e x 0 ∷ r) × Back start f e (getD f x 0) r)
+  further : (x : ℕ) (p : List ℕ) → Back start f e x p → x ≢ start → (x < mostCells) × ((r : List ℕ) × (p ≡ getD e x 0 ∷ r) × Back start f e (getD f x 0) r)
   further x [] k i = absurd (i k)
   further x (b ∷ p) k i = (k .1, (p, ap (λ n. n ∷ p) (sym (k .2)), k .3))
 
@@ -44,7 +45,7 @@ module _ {start target : ℕ} {f e buf₀ : List ℕ} where
       record { whole = w .p; from-target = w .back; p = w .p; back = w .back; count = omega arith; fits = w .fits; long = refl; left = refl }
 
   module _ {buf : List ℕ} {n x : ℕ} (k : Walking start target f e buf₀ buf n x) where
-    pub walking-fits : x ≢ start → (x < 1024) × (n < length buf)
+    pub walking-fits : x ≢ start → (x < mostCells) × (n < length buf)
     walking-fits i =
         let o = further start f e x (k .p) (k .back) i in
         (o .0, omega (arith, ap length (o .1 .1), k .count, k .fits, k .long))

@@ -1,25 +1,17 @@
--- What a path call answers and writes (01, questions 1, 2, 3, 6 and 10).
+-- What a path call answers and writes (SPEC 4.3, with questions 1, 2, 3, 6 and 10).
 -- Assumes nothing.
 use Prim.Native.Nat.{ℕ, _*_}
 use mathlib.Core.List.{List}
 use mathlib.Core.Option.{Option, none, some}
 use lib.Dec.{eqb, ltb, leb}
-use lib.ListN.{length}
 use Rattle.lists.specs.Choice.{both, pick}
 use Rattle.grid.specs.Grid.{cells}
 use Rattle.board.specs.declared.Board.{Board}
 use Rattle.board.specs.Board.{sizeOf, boardCode}
-use Rattle.board.specs.Outcome.{Outcome, refused, listed}
-use Rattle.path.specs.declared.PathAnswer.{PathAnswer}
-use Rattle.path.specs.declared.PathAnswer.the-variants.{Listed, Refused}
+use Rattle.answers.specs.Answers.{Outcome, refused, listed}
 use Rattle.path.specs.Path.{pathOf}
 
--- the case of the answer: 01's number, or the list's length
-abbrev pub answerOf : Outcome → PathAnswer
-answerOf (refused n) = Refused n
-answerOf (listed p) = Listed (length p)
-
--- "Path: are the cells joined by Connected borders? No: 10"
+-- question 10: nothing is found where the cells are not joined (SPEC 3.10)
 abbrev pub joined : Option (List ℕ) → Outcome
 joined none = refused 10
 joined (some p) = listed p

@@ -6,7 +6,7 @@ use mathlib.Core.Option.{none, some}
 use Rattle.grid.specs.Grid.{grid}
 use Rattle.path.specs.Path.{pathOf}
 
--- 01's 2 by 2 with borders 0, 1, 2 Connected and 3 a Wall: round the Wall below cell 1, from cell 3 back to cell 1
+-- SPEC 7.4's 2 by 2, with borders 0, 1, 2 Connected and 3 a Wall: round the Wall below cell 1, from cell 3 back to cell 1
 round-the-wall : pathOf (grid 2 2) (1 ∷ 1 ∷ 1 ∷ 2 ∷ []) 1 3 ≡ some (2 ∷ 4 ∷ 0 ∷ [])
 unfolding pathOf
 round-the-wall = refl

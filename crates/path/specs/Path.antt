@@ -1,4 +1,4 @@
--- The first-in first-out search (01, "Path"). A found cell is kept with its list: the entries from it back to the start.
+-- The first-in first-out search (SPEC 4.3). A found cell is kept with its list: the entries from it back to the start.
 -- Assumes nothing.
 use Prim.Native.Nat.{ℕ, zero, suc}
 use mathlib.Core.Bool.{Bool, true, false}
@@ -7,10 +7,11 @@ use mathlib.Core.Option.{Option, none, some}
 use lib.Dec.{eqb}
 use lib.ListN.{getD, set, replicate}
 use Rattle.lists.specs.Choice.{both, pick}
+use Rattle.answers.specs.Answers.{listOf}
 use Rattle.grid.specs.declared.Direction.{Direction}
-use Rattle.grid.specs.declared.Direction.the-variants.{Up, Down, Left, Right}
 use Rattle.grid.specs.declared.Grid.{Grid}
 use Rattle.grid.specs.Grid.{cells, next, border}
+use Rattle.grid.specs.Orders.{around}
 use Rattle.borders.specs.Entry.{connectedEntry}
 use Rattle.borders.specs.Border.{stands}
 
@@ -27,10 +28,6 @@ unfoldable pub isNew : Option (List ℕ) → Bool
 isNew none = true
 isNew (some p) = false
 
-unfoldable pub listOf : Option (List ℕ) → List ℕ
-listOf none = []
-listOf (some p) = p
-
 -- x is marked with its list and put at the queue's end
 unfoldable pub mark : ℕ → List ℕ → Search → Search
 mark x p s = record { queue = s .queue ++ (x ∷ []); found = set (s .found) x (some p) }
@@ -40,7 +37,7 @@ unfoldable pub finds : Grid → List ℕ → ℕ → Direction → Search → Bo
 unfolding stands next isNew
 finds g states c d s = both (stands g states 1 d c) (isNew (getD (s .found) (next g d c) none))
 
--- c, whose list is p, looks in one direction; "each marked by its first finder"
+-- c, whose list is p, looks in one direction: it finds what no one has found (SPEC 4.3)
 unfoldable pub look : Grid → List ℕ → ℕ → List ℕ → Direction → Search → Search
 unfolding finds mark border next
 look g states c p d s = pick (finds g states c d s) (mark (next g d c) (connectedEntry (border g d c) ∷ p) s) s
@@ -51,17 +48,17 @@ unfolding look
 looks g states c p [] s = s
 looks g states c p (d ∷ ds) s = looks g states c p ds (look g states c p d s)
 
--- "neighbours up, down, left, right"
+-- up, down, left, right
 unfoldable pub lookAll : Grid → List ℕ → ℕ → List ℕ → Search → Search
 unfolding looks
-lookAll g states c p s = looks g states c p (Up ∷ Down ∷ Left ∷ Right ∷ []) s
+lookAll g states c p s = looks g states c p around s
 
 -- c looks round, with the list that it was found with
 unfoldable pub lookRound : Grid → List ℕ → ℕ → Search → Search
-unfolding lookAll listOf
+unfolding lookAll
 lookRound g states c s = lookAll g states c (listOf (getD (s .found) c none)) s
 
--- at most `fuel` cells are taken out; "it stops when the target is taken out"
+-- at most `fuel` cells are taken out, up to the target
 unfoldable pub searchFrom : Grid → List ℕ → ℕ → ℕ → List ℕ → Lists → Lists
 unfolding lookRound
 searchFrom g states target zero queue found = found
@@ -74,11 +71,11 @@ unfoldable pub search : Grid → List ℕ → ℕ → ℕ → Lists
 unfolding searchFrom
 search g states start target = searchFrom g states target (cells g) (start ∷ []) (set (replicate (cells g) none) start (some []))
 
--- the target's list, "from target back to start"; nothing where the search does not find it
+-- the target's list, from the target back to the start; nothing where the search does not find it
 unfoldable pub pathOf : Grid → List ℕ → ℕ → ℕ → Option (List ℕ)
 unfolding search
 pathOf g states start target = getD (search g states start target) target none
 
 unfoldable pub pathList : Grid → List ℕ → ℕ → ℕ → List ℕ
-unfolding pathOf listOf
+unfolding pathOf
 pathList g states start target = listOf (pathOf g states start target)

@@ -9,6 +9,7 @@ use mathlib.Core.Option.{none, some}
 use lib.Dec.{eqb}
 use lib.ListN.{getD, length}
 use lib.Seq.{slice}
+use Rattle.limits.specs.Limits.{mostCells}
 use Rattle.grid.specs.declared.Grid.{Grid}
 use Rattle.grid.specs.Grid.{Limits, cells, Cell, borderCount}
 use Rattle.path.specs.Path.{Lists, Search, isNew}
@@ -22,15 +23,15 @@ blank (some p ∷ xs) = blank xs
 -- A cell that is not found has the finder 1024, which is no cell. A found cell's list is its entry and then its finder's list.
 pub record Traced (g : Grid) (xs : Lists) (finders entries : List ℕ) : Type 0 where
   pub size : length xs ≡ cells g
-  pub finders-long : length finders ≡ 1024
-  pub entries-long : length entries ≡ 1024
-  pub new : (x : ℕ) → Cell g x → isNew (getD xs x none) ≡ eqb (getD finders x 0) 1024
+  pub finders-long : length finders ≡ mostCells
+  pub entries-long : length entries ≡ mostCells
+  pub new : (x : ℕ) → Cell g x → isNew (getD xs x none) ≡ eqb (getD finders x 0) mostCells
   pub back : (x e : ℕ) (p : List ℕ) → getD xs x none ≡ some (e ∷ p) → (getD entries x 0 ≡ e) × (getD xs (getD finders x 0) none ≡ some p)
 
 -- every found cell has its place in the queue, so that there is one for each cell that is not
 pub record Kept (g : Grid) (head : ℕ) (s : Search) (finders entries queue : List ℕ) (tail : ℕ) : Type 0 where
   pub traced : Traced g (s .found) finders entries
-  pub queue-long : length queue ≡ 1024
+  pub queue-long : length queue ≡ mostCells
   pub order : head ≤ tail
   pub waits : s .queue ≡ slice head tail queue
   pub room : tail + blank (s .found) ≡ cells g
@@ -41,7 +42,7 @@ pub record Looking (g : Grid) (c : ℕ) (p : List ℕ) (head : ℕ) (s : Search)
   pub here : getD (s .found) c none ≡ some p
 
 -- what a look of the cell c needs
-pub record Looks (g : Grid) (states : List ℕ) (c : ℕ) (finders entries queue : List ℕ) (tail : ℕ) : Type 0 where
+pub record LooksFrom (g : Grid) (states : List ℕ) (c : ℕ) (finders entries queue : List ℕ) (tail : ℕ) : Type 0 where
   pub limits : Limits g
   pub cell : Cell g c
   pub states-long : borderCount g ≤ length states
@@ -64,20 +65,20 @@ pub record Asks (g : Grid) (states : List ℕ) (start target : ℕ) : Type 0 whe
 
 -- no cell is found
 pub record Fresh (finders entries queue : List ℕ) : Type 0 where
-  pub finders-long : length finders ≡ 1024
-  pub entries-long : length entries ≡ 1024
-  pub queue-long : length queue ≡ 1024
-  pub new : (x : ℕ) → x < 1024 → getD finders x 0 ≡ 1024
+  pub finders-long : length finders ≡ mostCells
+  pub entries-long : length entries ≡ mostCells
+  pub queue-long : length queue ≡ mostCells
+  pub new : (x : ℕ) → x < mostCells → getD finders x 0 ≡ mostCells
 
 -- finders and entries lead from x over this list to the start
 abbrev pub Back : ℕ → List ℕ → List ℕ → ℕ → List ℕ → Type 0
 Back start finders entries x [] = x ≡ start
-Back start finders entries x (e ∷ p) = (x ≢ start) × (x < 1024) × (getD entries x 0 ≡ e) × Back start finders entries (getD finders x 0) p
+Back start finders entries x (e ∷ p) = (x ≢ start) × (x < mostCells) × (getD entries x 0 ≡ e) × Back start finders entries (getD finders x 0) p
 
 -- the walk from the target ends, and the buffer has a place for each entry
 pub record Walks (start target : ℕ) (finders entries buffer : List ℕ) : Type 0 where
-  pub finders-long : length finders ≡ 1024
-  pub entries-long : length entries ≡ 1024
+  pub finders-long : length finders ≡ mostCells
+  pub entries-long : length entries ≡ mostCells
   pub p : List ℕ
   pub back : Back start finders entries target p
   pub fits : length p ≤ length buffer

@@ -1,4 +1,4 @@
--- SPEC 5.4, a call's line before the next call: where a line can't be written the run ends there.
+-- SPEC 5.6: a call's line before the next call; where a line can't be written the run ends there.
 -- Assumes nothing.
 use Prim.Native.Nat.{ℕ, _≤_}
 use mathlib.Core.Path.{_≡_}

@@ -3,46 +3,43 @@
 use Prim.Native.Nat.{ℕ, zero, suc, _*_, _≤_, _<_}
 use mathlib.Core.Path.{_≡_, refl}
 use mathlib.Core.Logic.{_≢_}
-use mathlib.Core.Bool.{Bool}
 use mathlib.Core.List.{List}
 use mathlib.Core.Option.{Option}
-use borrow.Author.Tests.{ne-eqb, lt-ltb, le-ltb, le-leb, lt-leb}
-use lib.ListN.{length, getD}
+use borrow.Author.Tests.{ne-eqb, le-leb, lt-leb}
+use lib.ListN.{length}
 use Rattle.grid.specs.Grid.{cells}
-use Rattle.board.specs.Board.{bordersOf, placed, taken}
+use Rattle.ledger.specs.declared.Book.{Book}
+use Rattle.ledger.specs.Ledger.{undoCode, firstCode}
 use Rattle.puzzle.specs.declared.Puzzle.{Puzzle}
-use Rattle.puzzle.specs.declared.Made.{Made}
 use Rattle.puzzle.specs.declared.Answer.{Answer}
 use Rattle.puzzle.specs.declared.Answer.the-variants.{Refused}
 use Rattle.puzzle.specs.Fault.{Found}
-use Rattle.puzzle.specs.Puzzle.{answer, gridOf, puzzleCode, asked, onto, decideOf, undoOf, askCode, Asked, says, writes, faultIn, askOf}
+use Rattle.puzzle.specs.Puzzle.{answer, gridOf, bookOf, puzzleCode, onto, answered, undoOf, askCode, Asked, says, writes, faultIn, askOf}
 
+-- a decide or an undo: refused by question 1 or 2, refused by the ledger's number n, or done
 module _ (p : Puzzle) (code : ℕ) (q : code ≡ puzzleCode p) where
-  pub refused : (d : Made) → code ≢ 0 → answer code p ≡ asked p d
-  refused d z = rw (← q, ne-eqb code 0 z)
+  module _ (n : ℕ) (b : Book) where
+    pub refused : code ≢ 0 → answer code p ≡ answered p (firstCode (puzzleCode p) n) b
+    refused z = rw (← q, ne-eqb code 0 z, ne-eqb code 0 z)
+
+    pub not-now : code ≡ 0 → n ≢ 0 → answer n p ≡ answered p (firstCode (puzzleCode p) n) b
+    not-now z k = rw (← q, z, ne-eqb n 0 k)
+
+    pub done : code ≡ 0 → n ≡ 0 → answer 0 (onto p b) ≡ answered p (firstCode (puzzleCode p) n) b
+    done z k = rw (← q, z, k)
+
+  pub nothing-left : code ≡ 0 → bookOf p .len ≡ 0 → answer 5 p ≡ undoOf p
+  nothing-left z h = rw (← q, z, h)
 
   module _ (z : code ≡ 0) where
-    pub no-border : (e : ℕ) (wall : Bool) → bordersOf (p .board) ≤ e → answer 3 p ≡ decideOf p e wall
-    no-border e wall h = rw (← q, z, le-ltb e (bordersOf (p .board)) h)
-
-    pub not-free : (e : ℕ) (wall : Bool) → e < bordersOf (p .board) → getD (p .board .book .states) e 0 ≢ 0 → answer 4 p ≡ decideOf p e wall
-    not-free e wall h k = rw (← q, z, lt-ltb e (bordersOf (p .board)) h, ne-eqb (getD (p .board .book .states) e 0) 0 k)
-
-    pub decided : (e : ℕ) (wall : Bool) → e < bordersOf (p .board) → getD (p .board .book .states) e 0 ≡ 0
-        → answer 0 (onto p (placed (p .board) e wall)) ≡ decideOf p e wall
-    decided e wall h k = rw (← q, z, lt-ltb e (bordersOf (p .board)) h, k)
-
-    pub nothing-left : p .board .book .len ≡ 0 → answer 5 p ≡ undoOf p
-    nothing-left h = rw (← q, z, h)
-
-    pub undone : p .board .book .len ≢ 0 → answer 0 (onto p (taken (p .board))) ≡ undoOf p
-    undone h = rw (← q, z, ne-eqb (p .board .book .len) 0 h)
-
     pub short-buffer : (buf : List ℕ) → length buf < 9 * cells (gridOf p) → askCode p buf ≡ 6
     short-buffer buf h = rw (← q, z, lt-leb (9 * cells (gridOf p)) (length buf) h)
 
     pub long-buffer : (buf : List ℕ) → 9 * cells (gridOf p) ≤ length buf → askCode p buf ≡ 0
     long-buffer buf h = rw (← q, z, le-leb (9 * cells (gridOf p)) (length buf) h)
+
+pub some-left : (p : Puzzle) → bookOf p .len ≢ 0 → undoCode (bookOf p .len) ≡ 0
+some-left p h = rw (ne-eqb (bookOf p .len) 0 h)
 
 -- an ask by its number and what it finds
 asked-by : (n m : ℕ) (f : Option Found) (buf : List ℕ) → n ≡ m → _≡_ {A = Asked} (record { answer = says n f; buffer = writes n f buf }) (record { answer = says m f; buffer = writes m f buf })

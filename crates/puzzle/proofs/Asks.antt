@@ -14,20 +14,20 @@ use Rattle.grid.specs.Grid.{grid, cells, borderCount}
 use Rattle.ledger.specs.Ledger.{Decision, standing}
 use Rattle.ledger.proofs.Standing.{Sound, named-or-not, standing-named, standing-given}
 use Rattle.borders.specs.Border.{stateOf, StatesOk}
-use Rattle.board.specs.declared.Board.{Board}
-use Rattle.board.specs.Board.{sizeOf}
+use Rattle.ledger.specs.declared.Book.{Book}
+use Rattle.ledger.proofs.Reached as book
 use Rattle.puzzle.specs.declared.Puzzle.{Puzzle}
 use Rattle.puzzle.specs.declared.Answer.{Answer}
 use Rattle.puzzle.specs.declared.Answer.the-variants.{Clear, Fault, Refused}
 use Rattle.rooms.specs.Rooms.{isGiven}
 use Rattle.puzzle.specs.Fault.{Found, faultOf}
-use Rattle.puzzle.specs.Puzzle.{statesOf, freshPuzzle, onto, puzzleCode, faultIn, askCode, says, writes, Asked, askOf}
+use Rattle.puzzle.specs.Puzzle.{statesOf, freshPuzzle, bookOf, onto, puzzleCode, faultIn, askCode, says, writes, Asked, askOf}
 use Rattle.puzzle.specs.Demand3.{Long, lengthOf, listIn, Gives, IsFault}
 use Rattle.puzzle.proofs.Basics.{states-length, states-at}
 use Rattle.puzzle.proofs.Making.{Accepted, given-kept, clues-kept, given-inside}
 use Rattle.puzzle.proofs.Answers.{long-buffer, accepted-ask}
 use Rattle.puzzle.proofs.FaultLaws.{fault-agrees, fault-most}
-use Rattle.puzzle.proofs.Reached.{Stood, Reached, reached-code}
+use Rattle.puzzle.proofs.Reached.{Reached, reached-code}
 
 -- ANSWERS
 abbrev isFault : Answer → Bool
@@ -102,21 +102,17 @@ module _ (h w : ℕ) (given clues : List ℕ) (a : Accepted h w given clues) (L 
       go none q = omega arith
       go (some x) q = fault-most (grid h w) given clues (statesOf n s) states-ok x q
 
-  module _ (b : Board) (r : Stood h w given L b) where
-    board-fault : faultIn (onto (freshPuzzle h w given clues) b) ≡ fault
-    board-fault =
-        cc (
-          let q : sizeOf b ≡ grid h w = rw (r .height-is, r .width-is) in q,
-          given-kept h w given clues a,
-          clues-kept h w given clues a,
-        )
-        ∙ fault-agrees (grid h w) given clues (b .book .states) (statesOf n s) (λ e l. r .follows .stands e l ∙ sym (states-at n s e l))
+  module _ (b : Book) (r : book.Reached (borderCount (grid h w)) (isGiven given) L b) where
+    book-fault : faultIn (onto (freshPuzzle (grid h w) given clues) b) ≡ fault
+    book-fault =
+        cc (given-kept h w given clues a, clues-kept h w given clues a)
+        ∙ fault-agrees (grid h w) given clues (b .states) (statesOf n s) (λ e l. r .follows .stands e l ∙ sym (states-at n s e l))
 
-    board-asked : puzzleCode (onto (freshPuzzle h w given clues) b) ≡ 0 → (buf : List ℕ) → Long h w buf → Gives (askOf (onto (freshPuzzle h w given clues) b) buf) fault
-    board-asked code buf long =
-        let p : Puzzle = onto (freshPuzzle h w given clues) b in
-        let c : askCode p buf ≡ 0 = long-buffer p 0 (sym code) refl buf (rw (r .height-is, r .width-is) long) in
-        gives (faultIn p) fault board-fault (askOf p buf) buf (accepted-ask p buf c) (omega (arith, list-short))
+    book-asked : puzzleCode (onto (freshPuzzle (grid h w) given clues) b) ≡ 0 → (buf : List ℕ) → Long h w buf → Gives (askOf (onto (freshPuzzle (grid h w) given clues) b) buf) fault
+    book-asked code buf long =
+        let p : Puzzle = onto (freshPuzzle (grid h w) given clues) b in
+        let c : askCode p buf ≡ 0 = long-buffer p 0 (sym code) refl buf long in
+        gives (faultIn p) fault book-fault (askOf p buf) buf (accepted-ask p buf c) (omega (arith, list-short))
       where
         gives : (f f' : Option Found) → f ≡ f' → (x : Asked) (buf : List ℕ) → x ≡ record { answer = says 0 f; buffer = writes 0 f buf } → length (listIn f') ≤ length buf → Gives x f'
         gives f f' q x buf e l = rw (e, q) (record { answer = refl; list = written f' buf l })
@@ -125,5 +121,5 @@ module _ (h w : ℕ) (given clues : List ℕ) (a : Accepted h w given clues) (L 
   pub asked-gives : (p : Puzzle) → Reached h w given clues L p → (buf : List ℕ) → Long h w buf
       → Gives (askOf p buf) (faultOf (grid h w) given clues (statesOf (borderCount (grid h w)) (standing (isGiven given) L)))
   asked-gives p r buf long =
-      let code : puzzleCode (onto (freshPuzzle h w given clues) (p .board)) ≡ 0 = rw (r .constants) at (reached-code h w given clues a L p r) in
-      rw (r .constants) (board-asked (p .board) (r .stood) code buf long)
+      let code : puzzleCode (onto (freshPuzzle (grid h w) given clues) (bookOf p)) ≡ 0 = sym (ap puzzleCode (r .constants)) ∙ reached-code h w given clues a L p r in
+      rw (r .constants) (book-asked (bookOf p) (r .stood) code buf long)

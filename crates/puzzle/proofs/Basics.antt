@@ -16,12 +16,6 @@ use Rattle.lists.proofs.ListLaws.{range-length, range-at}
 use Rattle.rooms.proofs.Places.{map-at}
 use Rattle.puzzle.specs.Puzzle.{rises, statesOf}
 
--- RISING LISTS
-rises-tail : (x : ℕ) (l : List ℕ) → rises (x ∷ l) ≡ true → rises l ≡ true
-unfolding rises
-rises-tail x [] q = refl
-rises-tail x (y ∷ l) q = both-true (ltb x y) (rises (y ∷ l)) q .1
-
 -- a rising list of numbers below n, from x on
 rises-from : (n x : ℕ) (l : List ℕ) → rises (x ∷ l) ≡ true → ((e : ℕ) → In e (x ∷ l) → e < n) → x + length (x ∷ l) ≤ n
 unfolding rises

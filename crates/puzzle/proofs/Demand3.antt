@@ -36,7 +36,7 @@ module _ (h w : ℕ) (given clues : List ℕ) (made : makeOf h w given clues .co
   accepted : Accepted h w given clues
   accepted = made-accepted h w given clues made
 
-  fresh-is : freshOf h w given clues ≡ freshPuzzle h w given clues
+  fresh-is : freshOf h w given clues ≡ freshPuzzle (grid h w) given clues
   fresh-is = ap (λ (m : Made). m .puzzle) (made-fresh h w given clues made)
 
   reached-calls : (calls : List Call) → Reached h w given clues (ledgerAfter h w given calls) (after h w given clues calls)
@@ -124,7 +124,7 @@ module _ (h w : ℕ) (given clues : List ℕ) (made : makeOf h w given clues .co
       again : ((r : Reply) → In r (replies (freshOf h w given clues) (map decideAs order)) → r ≡ coded 0)
           × ((buf' : List ℕ) → Long h w buf' → IsFault (askOf (after h w given clues (map decideAs order)) buf' .answer))
       again = (
-        rw fresh-is (all-accepted h w given clues accepted [] (freshPuzzle h w given clues) (fresh-reached h w given clues accepted) order free apart),
+        rw fresh-is (all-accepted h w given clues accepted [] (freshPuzzle (grid h w) given clues) (fresh-reached h w given clues accepted) order free apart),
         wherever (map decideAs order) decided,
       )
 

@@ -23,7 +23,7 @@ use Rattle.shape.specs.Shape.{shapeFault}
 use Rattle.shape.specs.Laws.{FullBoard}
 use Rattle.shape.proofs.Agreement.{shape-agrees}
 use Rattle.shape.proofs.Theorems as shape
-use Rattle.rooms.specs.Rooms.{isGiven, roomIds, roomCount, roomCells, clued, clueOf}
+use Rattle.rooms.specs.Rooms.{isGiven, roomCount, roomCells, clued, clueOf}
 use Rattle.rooms.specs.RoomGraph.{roomList}
 use Rattle.rooms.specs.Units.{GivenWalls}
 use Rattle.rooms.proofs.Theorems.{list-agrees, list-stands, list-again, list-decides, list-short}
@@ -51,14 +51,14 @@ picked false o f z = absurd (Option·none-ne-some f z)
 module _ (g : Grid) (given clues : List ℕ) where
   -- what a clued room's count lists, where border e has the state s e
   abbrev list : ℕ → States → Option (List ℕ)
-  list r s = roomList g (isGiven given) (roomIds g given) r (clueOf clues r) s
+  list r s = roomList g (isGiven given) (roomCells g given r) (clueOf clues r) s
 
   -- a fault is the shape check's, or a clued room's
   pub record RoomFault (s : States) (L : List ℕ) : Type 0 where
     pub room : ℕ
     pub exists : room < roomCount g given
     pub has-clue : clued clues room ≡ true
-    pub listed : roomList g (isGiven given) (roomIds g given) room (clueOf clues room) s ≡ some L
+    pub listed : roomList g (isGiven given) (roomCells g given room) (clueOf clues room) s ≡ some L
 
   fault-kinds : (states : List ℕ) (f : Found) → faultOf g given clues states ≡ some f → (shapeFault g states ≡ some (f .list)) ⊎ RoomFault (stateOf states) (f .list)
   unfolding faultOf roomCheck
@@ -66,18 +66,18 @@ module _ (g : Grid) (given clues : List ℕ) where
       ⊎-elim
       (λ k. inl (found-some Shape (shapeFault g states) f k .0))
       (λ k.
-      let o = first-some (roomCheck g given clues states (roomIds g given)) (range (roomCount g given)) f k in
+      let o = first-some (roomCheck g given clues states) (range (roomCount g given)) f k in
       let c = picked (clued clues (o .0)) (foundBy (Room (o .0)) (list (o .0) (stateOf states))) f (o .2) in
       inr (record { room = o .0; exists = in-range _ (o .0) (o .1); has-clue = c .0; listed = found-some (Room (o .0)) (list (o .0) (stateOf states)) f (c .1) .0 }))
-      (orElse-some (foundBy Shape (shapeFault g states)) (first (roomCheck g given clues states (roomIds g given)) (range (roomCount g given))) f q)
+      (orElse-some (foundBy Shape (shapeFault g states)) (first (roomCheck g given clues states) (range (roomCount g given))) f q)
 
   no-fault : (states : List ℕ) → faultOf g given clues states ≡ none
       → (shapeFault g states ≡ none) × ((r : ℕ) → r < roomCount g given → clued clues r ≡ true → list r (stateOf states) ≡ none)
   unfolding faultOf roomCheck
   no-fault states q =
-      let o = orElse-none (foundBy Shape (shapeFault g states)) (first (roomCheck g given clues states (roomIds g given)) (range (roomCount g given))) q in (
+      let o = orElse-none (foundBy Shape (shapeFault g states)) (first (roomCheck g given clues states) (range (roomCount g given))) q in (
         found-none Shape (shapeFault g states) (o .0),
-        λ r l c. found-none (Room r) (list r (stateOf states)) (rw c at (first-none (roomCheck g given clues states (roomIds g given)) (range (roomCount g given)) (o .1) r (range-in _ r l))),
+        λ r l c. found-none (Room r) (list r (stateOf states)) (rw c at (first-none (roomCheck g given clues states) (range (roomCount g given)) (o .1) r (range-in _ r l))),
       )
 
   -- (0) the answer depends on the board's borders alone
@@ -85,7 +85,7 @@ module _ (g : Grid) (given clues : List ℕ) where
   unfolding faultOf roomCheck
   fault-agrees a b agree =
       ap₂ (λ (o : Option (List ℕ)) (r : Option Found). orElse (foundBy Shape o) r) (shape-agrees g a b agree)
-      (first-same (roomCheck g given clues a (roomIds g given)) (roomCheck g given clues b (roomIds g given)) (range (roomCount g given))
+      (first-same (roomCheck g given clues a) (roomCheck g given clues b) (range (roomCount g given))
       (λ r m. ap (λ (o : Option (List ℕ)). pick (clued clues r) (foundBy (Room r) o) none) (list-agrees g given r (clueOf clues r) (stateOf a) (stateOf b) agree)))
 
   -- (1) each listed entry stands as listed

@@ -1,26 +1,25 @@
 -- The shape check and then the rooms: a law for each way through.
 -- Assumes nothing.
-use Prim.Native.Nat.{ℕ, _-_, _*_, _≤_, _<_}
+use Prim.Native.Nat.{ℕ, _-_, _<_}
 use mathlib.Core.Path.{_≡_, refl, ap, sym, _∙_}
 use mathlib.Core.Bool.{Bool, true, false, not}
 use mathlib.Core.List.{List}
 use mathlib.Core.Option.{Option, none, some}
 use native.Mathlib.Omega.{arith}
-use native.Mathlib.Nat.{mul-le-mul-left, mul-le-mul-right}
 use lib.Dec.{eqb}
-use lib.ListN.{length}
+use lib.ListN.{length, getD}
+use Rattle.limits.specs.Limits.{noClue}
 use Rattle.lists.specs.Choice.{pick, orElse}
 use Rattle.lists.specs.Lists.{range, first}
 use Rattle.lists.proofs.ListLaws.{in-range}
 use Rattle.grid.specs.declared.Grid.{Grid}
-use Rattle.grid.specs.Grid.{cells, borderCount}
 use Rattle.borders.specs.Border.{stateOf}
 use Rattle.borders.proofs.Congruence.{first-same}
 use Rattle.shape.specs.Shape.{shapeFault}
-use Rattle.inner_walls.specs.declared.Found.the-variants as found
-use Rattle.inner_walls.specs.declared.Found as stage
-use Rattle.inner_walls.specs.Found.{Told, foundOf, filled}
-use Rattle.rooms.specs.Rooms.{isGiven, roomIds, roomCount, clueOf}
+use Rattle.answers.specs.declared.Found.the-variants as found
+use Rattle.answers.specs.declared.Found as stage
+use Rattle.answers.specs.Answers.{Told, foundOf, written, found as outcome}
+use Rattle.rooms.specs.Rooms.{isGiven, roomCount, roomCells, clueOf}
 use Rattle.rooms.specs.RoomGraph.{roomList}
 use Rattle.puzzle.specs.declared.Check.the-variants.{Shape, Room}
 use Rattle.puzzle.specs.declared.Answer.{Answer}
@@ -32,30 +31,24 @@ use Rattle.puzzle.proofs.RoomChecks.{is-fault}
 use Rattle.puzzle.proofs.ListsCode.{other-default}
 use Rattle.puzzle.proofs.Housed.{same-answer}
 
--- there are fewer borders than an ask's buffer has places
-pub borders-fit : (g : Grid) → borderCount g ≤ 9 * cells g
-borders-fit g =
-    let a : g .height * (g .width - 1) ≤ g .height * g .width = mul-le-mul-left (g .height) (let k : g .width - 1 ≤ g .width = omega arith in k) in
-    let b : (g .height - 1) * g .width ≤ g .height * g .width = mul-le-mul-right (g .width) (let k : g .height - 1 ≤ g .height = omega arith in k) in
-    omega arith
-
 module _ (g : Grid) (given clues states : List ℕ) (one-each : length clues ≡ roomCount g given) where
   -- where every room has a clue, the counts by the clues' places are the rooms' checks
-  same-check : (r : ℕ) → r < roomCount g given → foundBy (Room r) (clueList g (isGiven given) (roomIds g given) clues r (stateOf states)) ≡ roomCheck g given clues states (roomIds g given) r
+  same-check : (r : ℕ) → r < roomCount g given → foundBy (Room r) (clueList g (isGiven given) (roomCells g given r) (getD clues r 0) (stateOf states)) ≡ roomCheck g given clues states r
   unfolding clueList roomCheck
   same-check r h =
-      ap (λ c. foundBy (Room r) (pick (eqb c 65535) none (roomList g (isGiven given) (roomIds g given) r c (stateOf states)))) (other-default clues r 0 65535 (omega arith))
-      ∙ go (eqb (clueOf clues r) 65535) (roomList g (isGiven given) (roomIds g given) r (clueOf clues r) (stateOf states))
+      ap (λ c. foundBy (Room r) (pick (eqb c noClue) none (roomList g (isGiven given) (roomCells g given r) c (stateOf states)))) (other-default clues r 0 noClue (omega arith))
+      ∙ go (eqb (clueOf clues r) noClue) (roomList g (isGiven given) (roomCells g given r) (clueOf clues r) (stateOf states))
     where
       go : (t : Bool) (l : Option (List ℕ)) → foundBy (Room r) (pick t none l) ≡ pick (not t) (foundBy (Room r) l) none
       go true l = unfold foundBy in refl
       go false l = refl
 
-  pub rooms-check : roomsIn g given clues states ≡ first (roomCheck g given clues states (roomIds g given)) (range (roomCount g given))
+  pub rooms-check : roomsIn g given clues states ≡ first (roomCheck g given clues states) (range (roomCount g given))
   unfolding roomsFault
   rooms-check =
-      first-same (λ r. foundBy (Room r) (clueList g (isGiven given) (roomIds g given) clues r (stateOf states))) (roomCheck g given clues states (roomIds g given)) (range (roomCount g given))
-      (λ r m. same-check r (in-range (roomCount g given) r m))
+      rw one-each
+      (first-same (λ r. foundBy (Room r) (clueList g (isGiven given) (roomCells g given r) (getD clues r 0) (stateOf states))) (roomCheck g given clues states) (range (roomCount g given))
+      (λ r m. same-check r (in-range (roomCount g given) r m)))
 
   -- the shape check decides, or else the rooms
   fault-shape : (L : List ℕ) → shapeFault g states ≡ some L → faultOf g given clues states ≡ some (record { check = Shape; list = L })
@@ -72,19 +65,19 @@ module _ (g : Grid) (given clues states : List ℕ) (one-each : length clues ≡
     told-fault none n q = absurd (let z : _≡_ {A = ℕ} 0 1 = cc in omega arith)
     told-fault (some L) n q = (L, refl, cc)
 
-    told-clear : (o : Option (List ℕ)) → found.Clear ≡ foundOf o → o ≡ none
+    told-clear : (o : Option (List ℕ)) → found.Nothing ≡ foundOf o → o ≡ none
     told-clear none q = refl
     told-clear (some L) q = absurd (let z : _≡_ {A = ℕ} 0 1 = cc in omega arith)
 
     pub shape-fault : (n : ℕ) → r ≡ found.Fault n → (Fault Shape n ≡ says 0 (faultOf g given clues states)) × (buf' ≡ writes 0 (faultOf g given clues states) buf)
     shape-fault n q =
         let o = told-fault (shapeFault g states) n (sym q ∙ t .answer) in
-        is-fault (faultOf g given clues states) (record { check = Shape; list = o .0 }) n buf buf' (fault-shape (o .0) (o .1)) (o .2) (t .stored ∙ ap (λ f. filled f buf) (o .1))
+        is-fault (faultOf g given clues states) (record { check = Shape; list = o .0 }) n buf buf' (fault-shape (o .0) (o .1)) (o .2) (t .stored ∙ ap (λ f. written (outcome f) buf) (o .1))
 
-    pub shape-clear : r ≡ found.Clear → buf' ≡ buf
-    shape-clear q = t .stored ∙ ap (λ f. filled f buf) (told-clear (shapeFault g states) (sym q ∙ t .answer))
+    pub shape-clear : r ≡ found.Nothing → buf' ≡ buf
+    shape-clear q = t .stored ∙ ap (λ f. written (outcome f) buf) (told-clear (shapeFault g states) (sym q ∙ t .answer))
 
-    pub rooms-answer : r ≡ found.Clear → (x : Answer) (buf'' : List ℕ) → (x ≡ says 0 (roomsIn g given clues states)) × (buf'' ≡ writes 0 (roomsIn g given clues states) buf')
+    pub rooms-answer : r ≡ found.Nothing → (x : Answer) (buf'' : List ℕ) → (x ≡ says 0 (roomsIn g given clues states)) × (buf'' ≡ writes 0 (roomsIn g given clues states) buf')
         → (x ≡ says 0 (faultOf g given clues states)) × (buf'' ≡ writes 0 (faultOf g given clues states) buf)
     rooms-answer q x buf'' e =
         let same = fault-rooms (told-clear (shapeFault g states) (sym q ∙ t .answer)) in

@@ -1,92 +1,99 @@
 -- What the rooms' arrays hold once they are filled, and that the counts over them are the counts of the board's own rooms.
 -- Assumes nothing.
-use Prim.Native.Nat.{ℕ, _≤_}
-use mathlib.Core.Path.{_≡_, refl, ap, _∙_, fun-ext}
+use Prim.Native.Nat.{ℕ, _*_, _≤_, _<_}
+use mathlib.Core.Path.{_≡_, refl, ap, sym, _∙_, fun-ext, subst}
 use mathlib.Core.Bool.{Bool, true, false, not}
 use mathlib.Core.List.{List}
 use mathlib.Core.Option.{Option}
 use native.Mathlib.Omega.{arith}
 use lib.Dec.{eqb}
-use lib.ListN.{length, take}
-use lib.Seq.{length-sets, length-take-le}
+use lib.ListN.{length, getD}
+use lib.Seq.{sets}
+use Rattle.limits.specs.Limits.{mostCells}
 use Rattle.lists.specs.Choice.{pick}
+use Rattle.lists.specs.Lists.{range}
+use Rattle.lists.proofs.ListLaws.{in-range}
 use Rattle.grid.specs.declared.Grid.{Grid}
-use Rattle.grid.specs.Grid.{cells}
 use Rattle.grid.proofs.Geometry.{cells-le, borderCount-le}
 use Rattle.borders.specs.Border.{stateOf}
-use Rattle.parts.proofs.PartLists.{parts-length}
-use Rattle.groups.specs.Turn.{Keys, inTurn, startsOf}
-use Rattle.rooms.specs.Rooms.{isGiven, roomEdges, roomIds, roomCount}
-use Rattle.rooms.specs.Lent.{unmarked, puts, Given, Roomed, Vertices, markedIn}
-use Rattle.rooms.proofs.RoomLaws.{room-labels}
-use Rattle.rooms.proofs.PutLaws.{puts-length, unmarked-length, marks-at, room-between}
+use Rattle.borders.proofs.Congruence.{first-same}
+use Rattle.rooms.specs.Rooms.{isGiven, roomIds, roomCells}
+use Rattle.rooms.specs.RoomGraph.{roomEntries}
+use Rattle.rooms.specs.Lent.{unmarked, puts, Roomed, markedIn, Housed}
+use Rattle.rooms.proofs.PutLaws.{marks-at, puts-length, unmarked-length}
+use Rattle.rooms.proofs.HouseLaws.{few-cells}
+use Rattle.puzzle.specs.declared.Check.the-variants.{Room}
+use Rattle.puzzle.specs.declared.Checked.{Checked}
+use Rattle.puzzle.specs.declared.Checked.the-variants.{Nothing, At}
 use Rattle.puzzle.specs.declared.Answer.{Answer}
-use Rattle.puzzle.specs.Fault.{Found}
-use Rattle.puzzle.specs.Lists.{roomsFault, roomsIn, Housing}
+use Rattle.puzzle.specs.declared.Answer.the-variants.{Clear, Fault}
+use Rattle.puzzle.specs.Fault.{Found, foundBy}
+use Rattle.puzzle.specs.Lists.{partAt, clueList, roomsFault, roomsIn, foundAt, Among, Checks, Housing, Finding}
 use Rattle.puzzle.specs.Puzzle.{noClues, says, writes}
-use Rattle.lists.proofs.SetsLaws.{front}
 use Rattle.puzzle.proofs.Making.{rooms-few}
-use Rattle.puzzle.proofs.ListsCode.{no-clues-length, rooms-lent}
+use Rattle.puzzle.proofs.ListsCode.{rooms-lent, rooms-at, flat-long, starts-long}
+use Rattle.puzzle.proofs.RoomChecks.{is-fault, is-clear}
 
-module _ (g : Grid) (given : List ℕ) (len : ℕ) (w : Given g given len) (ids starts flat : List ℕ) (count : ℕ) (o : Roomed g (take len given) noClues noClues noClues ids starts flat count) where
-  abbrev G : List ℕ
-  G = take len given
+-- a room of a board
+pub room-housed : (g : Grid) (marks states starts flat : List ℕ) (count : ℕ) (w : Housing g marks states starts flat count) (r : ℕ) → r < count → (cs : List ℕ) → cs ≡ partAt g starts flat count r
+    → Housed g marks states cs
+room-housed g marks states starts flat count w r h cs q =
+    record { limits = w .limits; marks-long = w .marks-long; states-long = w .states-long; ids = w .ids; room = r; cells-are = q ∙ w .between r h .are }
 
-  ids-length : length (roomIds g G) ≡ cells g
-  unfolding roomIds
-  ids-length = parts-length (cells g) (roomEdges g G)
-
-  few : cells g ≤ 1024
-  few = cells-le g (w .limits)
-
-  array-length : length ids ≡ 1024
-  array-length = rw (o .ids-are) (length-sets noClues 0 (roomIds g G) ∙ no-clues-length)
-
-  pub front-length : length (take (cells g) ids) ≡ cells g
-  front-length = length-take-le (cells g) ids (omega (arith, few, array-length))
-
-  -- each cell's room stands in front
-  pub ids-front : take (cells g) ids ≡ roomIds g G
-  ids-front = rw (o .ids-are, ← ids-length) (front noClues (roomIds g G) (omega (arith, few, ids-length, no-clues-length)))
-
-  pub ids-keys : (next : List ℕ) → length next ≡ 1024 → Keys (cells g) (take (cells g) ids) (length next)
-  ids-keys next l =
-      record {
-        few = few;
-        long = omega (arith, front-length);
-        small = λ c h. rw ids-front (omega (arith, room-labels g G .small c h, rooms-few g G G, few));
-      }
-
-  marks-given : markedIn (puts G 1 unmarked) ≡ isGiven G
-  marks-given = fun-ext (λ e. ap (λ x. not (eqb x 0)) (marks-at g given len w 1 e) ∙ go (isGiven G e))
+module _ (g : Grid) (given states clues starts flat buffer : List ℕ) (w : Finding g given states clues buffer) (o : Roomed g given noClues noClues starts flat (length clues)) where
+  marks-given : markedIn (puts given 1 unmarked) ≡ isGiven given
+  marks-given = fun-ext (λ e. ap (λ x. not (eqb x 0)) (marks-at g given (w .walls) 1 e) ∙ go (isGiven given e))
     where
       go : (t : Bool) → not (eqb (pick t 1 0) 0) ≡ t
       go true = refl
       go false = refl
 
-  module _ (marks : List ℕ) (q : marks ≡ puts G 1 unmarked) where
-    pub housing : (vertex : List ℕ) → Vertices (cells g) (take (cells g) ids) vertex → Housing g marks (take (cells g) ids) vertex starts flat count
-    housing vertex v =
+  pub few-rooms : length clues ≤ mostCells
+  few-rooms = omega (arith, w .one-each, rooms-few g given clues, cells-le g (w .walls .limits))
+
+  module _ (marks : List ℕ) (q : marks ≡ puts given 1 unmarked) where
+    pub housing : Housing g marks states starts flat (length clues)
+    housing =
+        let l = w .walls .limits in
         record {
-          housed = record {
-            limits = w .limits;
-            marks-long = rw q (omega (arith, puts-length G 1 unmarked, unmarked-length, borderCount-le g (w .limits)));
-            ids-long = omega (arith, front-length);
-            vertices = v;
-          };
-          starts-long = rw (o .starts-are)
-              (omega (arith, length-sets noClues 0 (startsOf (cells g) (roomIds g G) (roomCount g G)), no-clues-length, o .count-is, rooms-few g G G, few));
-          between = λ r h. rw ids-front (room-between g given len w noClues noClues noClues ids starts flat count (rooms-lent g (w .limits)) o r h);
-          flat-long = rw (o .flat-is) (omega (arith, length-sets noClues 0 (inTurn (cells g) (roomIds g G) (roomCount g G)), no-clues-length, few));
+          limits = l;
+          marks-long = rw q (omega (arith, puts-length given 1 unmarked, unmarked-length, borderCount-le g l));
+          states-long = w .states-long;
+          starts-long = starts-long g given (w .walls) noClues noClues starts flat (rooms-lent g l) clues o;
+          flat-long = flat-long g given (w .walls) noClues noClues starts flat (rooms-lent g l) clues o;
+          ids = roomIds g given;
+          between = rooms-at g given (w .walls) noClues noClues starts flat (rooms-lent g l) clues o;
         }
 
+    abbrev cs : ℕ → List ℕ
+    cs = partAt g starts flat (length clues)
+
     -- the counts are those of the board's rooms
-    pub rooms-same : (states clues : List ℕ) → roomsFault g (markedIn marks) (take (cells g) ids) clues count (stateOf states) ≡ roomsIn g G clues states
-    rooms-same states clues =
-        let m : markedIn marks ≡ isGiven G = ap markedIn q ∙ marks-given in
-        ap (λ (f : ℕ → Bool). roomsFault g f (take (cells g) ids) clues count (stateOf states)) m
-        ∙ ap (λ (l : List ℕ). roomsFault g (isGiven G) l clues count (stateOf states)) ids-front
-        ∙ ap (λ (k : ℕ). roomsFault g (isGiven G) (roomIds g G) clues k (stateOf states)) (o .count-is)
+    rooms-same : roomsFault g (markedIn marks) cs clues (stateOf states) ≡ roomsIn g given clues states
+    unfolding roomsFault
+    rooms-same =
+        first-same (λ r. foundBy (Room r) (clueList g (markedIn marks) (cs r) (getD clues r 0) (stateOf states))) (λ r. foundBy (Room r) (clueList g (isGiven given) (roomCells g given r) (getD clues r 0) (stateOf states))) (range (length clues))
+        (λ r m.
+        ap (λ (f : ℕ → Bool). foundBy (Room r) (clueList g f (cs r) (getD clues r 0) (stateOf states))) (ap markedIn q ∙ marks-given)
+        ∙ ap (λ (l : List ℕ). foundBy (Room r) (clueList g (isGiven given) l (getD clues r 0) (stateOf states))) (rooms-at g given (w .walls) noClues noClues starts flat (rooms-lent g (w .walls .limits)) clues o r (in-range (length clues) r m) .are))
+
+    -- a room's list has its place
+    pub room-space : (r : ℕ) → r < length clues → (l : List ℕ) → l ≡ partAt g starts flat (length clues) r → 2 * length l ≤ length buffer
+    room-space r h l e = omega (arith, few-cells g marks states l (room-housed g marks states starts flat (length clues) housing r h l e), w .buffer-long)
+
+    module _ (x : Checked) (c : Checks g (markedIn marks) (partAt g starts flat (length clues)) clues (stateOf states) x) where
+      pub all-clear : x ≡ Nothing → (Clear ≡ says 0 (roomsIn g given clues states)) × (buffer ≡ writes 0 (roomsIn g given clues states) buffer)
+      all-clear k = is-clear (roomsIn g given clues states) buffer (sym (ap (foundAt g (markedIn marks) cs (stateOf states)) (sym k) ∙ c .told ∙ rooms-same))
+
+      module _ (r : ℕ) (wall : Bool) (e : x ≡ At r wall) where
+        pub room-there : r < length clues
+        room-there = subst (Among (length clues)) e (c .among)
+
+        pub room-fault : (k : ℕ) (buffer' l : List ℕ) → l ≡ partAt g starts flat (length clues) r → k ≡ length (roomEntries g (markedIn marks) l wall (stateOf states)) → buffer' ≡ sets buffer 0 (roomEntries g (markedIn marks) l wall (stateOf states))
+            → (Fault (Room r) k ≡ says 0 (roomsIn g given clues states)) × (buffer' ≡ writes 0 (roomsIn g given clues states) buffer)
+        room-fault k buffer' l p a b =
+            is-fault (roomsIn g given clues states) (record { check = Room r; list = roomEntries g (markedIn marks) l wall (stateOf states) }) k buffer buffer'
+            (sym (rw p (ap (foundAt g (markedIn marks) cs (stateOf states)) (sym e) ∙ c .told ∙ rooms-same))) a b
 
 -- the same answer and buffer
 pub same-answer : (f h : Option Found) (x : Answer) (buf buf' : List ℕ) → f ≡ h → (x ≡ says 0 f) × (buf' ≡ writes 0 f buf) → (x ≡ says 0 h) × (buf' ≡ writes 0 h buf)

@@ -7,8 +7,8 @@ use mathlib.Core.List.{List}
 use native.Mathlib.Omega.{arith}
 use borrow.Author.Tests.{ne-eqb, eqb-true, leb-true, ltb-true, not-true}
 use lib.Dec.{eqb, ltb, leb}
-use lib.ListN.{length, take, length-replicate}
-use lib.Seq.{sets, take-length}
+use lib.ListN.{length, length-replicate}
+use lib.Seq.{sets}
 use Rattle.lists.specs.Choice.{pick}
 use Rattle.lists.specs.Lists.{range, In}
 use Rattle.lists.proofs.Cases.{not-both}
@@ -22,9 +22,10 @@ use Rattle.grid.proofs.Geometry.{limits, cells-le, borderCount-le}
 use Rattle.parts.proofs.PartLaws.{begun-small}
 use Rattle.parts.proofs.PartLists.{begun-at}
 use Rattle.groups.proofs.GroupLaws.{edges-within}
-use Rattle.board.specs.declared.Board.{Board}
-use Rattle.ledger.specs.Books.{zeros}
+use Rattle.limits.specs.Limits.{mostBorders, mostCells, noClue}
+use Rattle.ledger.specs.Books.{zeros, book}
 use Rattle.ledger.proofs.BookLaws.{zeros-length}
+use Rattle.board.specs.declared.Board.{Board}
 use Rattle.puzzle.specs.declared.Puzzle.{Puzzle}
 use Rattle.puzzle.specs.declared.Made.{Made}
 use Rattle.rooms.specs.Rooms.{isGiven, roomEdges, roomCount, roomCells, clued, clueOf}
@@ -46,9 +47,9 @@ module _ (g : Grid) (given clues : List ℕ) where
   unfolding cluesFit
   clue-small q r l c =
       ⊎-elim
-      (λ k. absurd (not-both (eqb (clueOf clues r) 65535) k (not-true _ c)))
+      (λ k. absurd (not-both (eqb (clueOf clues r) noClue) k (not-true _ c)))
       (λ k. leb-true _ _ k)
-      (either-true (eqb (clueOf clues r) 65535) (leb (clueOf clues r) (length (roomCells g given r))) (all-true (fitsRoom g given clues) (range (roomCount g given)) q r (range-in _ r l)))
+      (either-true (eqb (clueOf clues r) noClue) (leb (clueOf clues r) (length (roomCells g given r))) (all-true (fitsRoom g given clues) (range (roomCount g given)) q r (range-in _ r l)))
 
   pub lists-fit : listsCode g given clues ≡ 0 → Fit g given clues
   unfolding listsCode
@@ -75,6 +76,10 @@ module _ (g : Grid) (given clues : List ℕ) where
       let E = roomEdges g given in
       omega (arith, begun-at (cells g) E (cells g) (edges-within g (λ e. not (isGiven given e))) (omega arith), begun-small E (cells g))
 
+pub no-clues-length : length noClues ≡ mostCells
+unfolding noClues
+no-clues-length = length-replicate {A = ℕ} mostCells 0
+
 -- what an accepted making is given
 pub record Accepted (h w : ℕ) (given clues : List ℕ) : Type 0 where
   pub limits : Limits (grid h w)
@@ -95,30 +100,26 @@ module _ (h w : ℕ) (given clues : List ℕ) where
 
   pub made-accepted : makeOf h w given clues .code ≡ 0 → Accepted h w given clues
   made-accepted z =
-      code-accepted (code-zero (makeCode h w given clues) (freshPuzzle h w given clues) zeroPuzzle (eqb (makeCode h w given clues) 0) refl z)
+      code-accepted (code-zero (makeCode h w given clues) (freshPuzzle (grid h w) given clues) zeroPuzzle (eqb (makeCode h w given clues) 0) refl z)
 
-  pub made-fresh : makeOf h w given clues .code ≡ 0 → makeOf h w given clues ≡ answer 0 (freshPuzzle h w given clues)
-  made-fresh z = go (makeCode h w given clues) (code-zero (makeCode h w given clues) (freshPuzzle h w given clues) zeroPuzzle (eqb (makeCode h w given clues) 0) refl z)
+  pub made-fresh : makeOf h w given clues .code ≡ 0 → makeOf h w given clues ≡ answer 0 (freshPuzzle (grid h w) given clues)
+  made-fresh z = go (makeCode h w given clues) (code-zero (makeCode h w given clues) (freshPuzzle (grid h w) given clues) zeroPuzzle (eqb (makeCode h w given clues) 0) refl z)
     where
-      go : (n : ℕ) → n ≡ 0 → pick (eqb n 0) (answer 0 (freshPuzzle h w given clues)) (answer n zeroPuzzle) ≡ answer 0 (freshPuzzle h w given clues)
+      go : (n : ℕ) → n ≡ 0 → pick (eqb n 0) (answer 0 (freshPuzzle (grid h w) given clues)) (answer n zeroPuzzle) ≡ answer 0 (freshPuzzle (grid h w) given clues)
       go n q = rw q
 
   -- the lists of a fresh puzzle are the making's
   module _ (a : Accepted h w given clues) where
-    pub given-short : length given ≤ 1984
+    pub given-short : length given ≤ mostBorders
     given-short = omega (arith, rises-length (borderCount (grid h w)) given (a .fit .rising) (a .fit .inside), borderCount-le (grid h w) (a .limits))
 
-    pub clues-short : length clues ≤ 1024
+    pub clues-short : length clues ≤ mostCells
     clues-short = omega (arith, a .fit .one-each, rooms-few (grid h w) given clues, cells-le (grid h w) (a .limits))
 
-    pub given-kept : givenOf (freshPuzzle h w given clues) ≡ given
+    pub given-kept : givenOf (freshPuzzle (grid h w) given clues) ≡ given
     given-kept = front zeros given (omega (arith, given-short, zeros-length))
 
-    no-clues-length : length noClues ≡ 1024
-    unfolding noClues
-    no-clues-length = length-replicate {A = ℕ} 1024 0
-
-    pub clues-kept : cluesOf (freshPuzzle h w given clues) ≡ clues
+    pub clues-kept : cluesOf (freshPuzzle (grid h w) given clues) ≡ clues
     clues-kept = front noClues clues (omega (arith, clues-short, no-clues-length))
 
     -- no number behind the board's borders is a given wall
@@ -126,27 +127,25 @@ module _ (h w : ℕ) (given clues : List ℕ) where
     given-inside e q = a .fit .inside e (given-in given e q)
 
 -- 2 at each given wall of zeros: the states of a fresh board
-pub fresh-states : (given : List ℕ) → Below 1984 given (length given) → puts (take (length given) given) 2 unmarked ≡ statesOf 1984 (freshState given)
+fresh-states : (given : List ℕ) → Below mostBorders given → puts given 2 unmarked ≡ statesOf mostBorders (freshState given)
 fresh-states given w =
-    rw (take-length given)
-    (states-are 1984 (freshState given) (puts given 2 unmarked) (puts-length given 2 unmarked ∙ unmarked-length)
-    (λ e h.
-    puts-at given 2 unmarked (λ x m. rw unmarked-length (w .small x (rw (take-length given) m))) e ∙ ap (pick (isGiven given e) 2) (unmarked-at e)))
+    states-are mostBorders (freshState given) (puts given 2 unmarked) (puts-length given 2 unmarked ∙ unmarked-length)
+    (λ e h. puts-at given 2 unmarked (λ x m. rw unmarked-length (w x m)) e ∙ ap (pick (isGiven given e) 2) (unmarked-at e))
 
 -- WHAT MAKING ANSWERS
-pub board-is : (h w : ℕ) (given s : List ℕ) → s ≡ statesOf 1984 (freshState given) → _≡_ {A = Board} (record { grid = grid h w; book = record { states = s; names = zeros; len = 0 } }) (freshBoard h w given)
-board-is h w given s q = rw q
+pub board-is : (g : Grid) (given s : List ℕ) → Below mostBorders given → s ≡ puts given 2 unmarked → _≡_ {A = Board} (record { grid = g; book = book s zeros 0 }) (freshBoard g given)
+board-is g given s w q = rw (q, fresh-states given w)
 
-pub puzzle-is : (h w : ℕ) (given clues walls counts : List ℕ) (b : Board) → b ≡ freshBoard h w given → walls ≡ sets zeros 0 given → counts ≡ sets noClues 0 clues
-    → _≡_ {A = Puzzle} (record { board = b; given = walls; «given_len» = length given; clues = counts; «clues_len» = length clues }) (freshPuzzle h w given clues)
-puzzle-is h w given clues walls counts b p q r = rw (p, q, r)
+pub puzzle-is : (g : Grid) (given clues walls counts : List ℕ) (b : Board) → b ≡ freshBoard g given → walls ≡ sets zeros 0 given → counts ≡ sets noClues 0 clues
+    → _≡_ {A = Puzzle} (record { board = b; given = walls; «given_len» = length given; clues = counts; «clues_len» = length clues }) (freshPuzzle g given clues)
+puzzle-is g given clues walls counts b p q r = rw (p, q, r)
 
 module _ (h w : ℕ) (given clues : List ℕ) where
   pub no-size : (m : Made) → sizesOk (grid h w) ≡ false → m ≡ answer 1 zeroPuzzle → m ≡ makeOf h w given clues
   no-size m q e = e ∙ rw q
 
-  by-code : (n : ℕ) → makeCode h w given clues ≡ n → (m : Made) → m ≡ pick (eqb n 0) (answer 0 (freshPuzzle h w given clues)) (answer n zeroPuzzle) → m ≡ makeOf h w given clues
-  by-code n q m e = e ∙ ap (λ k. pick (eqb k 0) (answer 0 (freshPuzzle h w given clues)) (answer k zeroPuzzle)) (sym q)
+  by-code : (n : ℕ) → makeCode h w given clues ≡ n → (m : Made) → m ≡ pick (eqb n 0) (answer 0 (freshPuzzle (grid h w) given clues)) (answer n zeroPuzzle) → m ≡ makeOf h w given clues
+  by-code n q m e = e ∙ ap (λ k. pick (eqb k 0) (answer 0 (freshPuzzle (grid h w) given clues)) (answer k zeroPuzzle)) (sym q)
 
   module _ (ok : sizesOk (grid h w) ≡ true) (code : ℕ) (q : code ≡ listsCode (grid h w) given clues) where
     code-is : makeCode h w given clues ≡ code
@@ -155,17 +154,12 @@ module _ (h w : ℕ) (given clues : List ℕ) where
     pub not-made : (m : Made) → code ≢ 0 → m ≡ answer code zeroPuzzle → m ≡ makeOf h w given clues
     not-made m z e = by-code code code-is m (e ∙ rw (ne-eqb code 0 z))
 
-    pub newly-made : (m : Made) → code ≡ 0 → m ≡ answer 0 (freshPuzzle h w given clues) → m ≡ makeOf h w given clues
+    pub newly-made : (m : Made) → code ≡ 0 → m ≡ answer 0 (freshPuzzle (grid h w) given clues) → m ≡ makeOf h w given clues
     newly-made m z e = by-code code code-is m (e ∙ rw z)
 
     pub code-accepted-by : code ≡ 0 → Accepted h w given clues
     code-accepted-by z = record { limits = limits (grid h w) ok; lists = sym q ∙ z; fit = lists-fit (grid h w) given clues (sym q ∙ z) }
 
--- an accepted making's lists have their places
-pub walls-below : (h w : ℕ) (given clues : List ℕ) → Accepted h w given clues → Below 1984 given (length given)
-walls-below h w given clues a =
-    record { long = omega arith; small = λ e m. omega (arith, a .fit .inside e (rw (take-length given) at m), borderCount-le (grid h w) (a .limits)) }
-
--- the code of whole slices
-pub whole-lists : (h w : ℕ) (given clues : List ℕ) (code : ℕ) → code ≡ listsCode (grid h w) (take (length given) given) (take (length clues) clues) → code ≡ listsCode (grid h w) given clues
-whole-lists h w given clues code q = rw (take-length given, take-length clues) at q
+-- an accepted making's walls have their places
+pub walls-below : (h w : ℕ) (given clues : List ℕ) → Accepted h w given clues → Below mostBorders given
+walls-below h w given clues a e m = omega (arith, a .fit .inside e m, borderCount-le (grid h w) (a .limits))

@@ -7,20 +7,19 @@ use mathlib.Core.Bool.{Bool, true, false}
 use mathlib.Core.List.{List, [], _∷_, _++_, map, append-assoc, append-nil}
 use native.Mathlib.Omega.{arith}
 use borrow.Author.Tests.{eq-eqb, ne-eqb, lt-ltb}
-use lib.Dec.{eqb, ltb}
+use lib.Dec.{eqb}
 use Rattle.lists.specs.Choice.{pick}
 use Rattle.lists.specs.Lists.{In, count}
 use Rattle.lists.proofs.Cases.{eq-or-ne}
-use Rattle.lists.proofs.ChoiceLaws.{true-both}
 use Rattle.lists.proofs.CountLaws.{count-here, count-other, in-count}
 use Rattle.grid.specs.Grid.{grid, borderCount}
 use Rattle.ledger.specs.Ledger as ledger
-use Rattle.ledger.specs.Ledger.{Decision, stateFor, stateIn, standing, accepted, ledgerOf}
+use Rattle.ledger.specs.Ledger.{Decision, stateFor, stateIn, accepted, ledgerOf}
 use Rattle.ledger.proofs.Standing.{standing-named}
 use Rattle.borders.specs.Entry.{Standing}
 use Rattle.puzzle.specs.declared.Puzzle.{Puzzle}
-use Rattle.puzzle.specs.declared.Made.{Made}
 use Rattle.rooms.specs.Rooms.{isGiven}
+use Rattle.puzzle.specs.Puzzle.{bookOf, decideOf}
 use Rattle.puzzle.specs.Run.{puzzleAfter, Reply, coded, replyTo, replies, onLedger}
 use Rattle.puzzle.specs.Demand3.{decideAs}
 use Rattle.puzzle.proofs.Making.{Accepted}
@@ -51,7 +50,7 @@ Apart (l ∷ ls) = ((m : ℕ) → In m ls → m / 2 ≢ l / 2) × Apart ls
 free-accepted : (n : ℕ) (given : ℕ → Bool) (L : List Decision) (l : ℕ) → Free n given L l → accepted n given L (l / 2) ≡ true
 unfolding accepted
 free-accepted n given L l f =
-    true-both (ltb (l / 2) n) (eqb (standing given L (l / 2)) 0) (lt-ltb (l / 2) n (f .inside)) (eq-eqb (standing given L (l / 2)) 0 (standing-named n given L (l / 2) (f .not-given) ∙ f .unnamed))
+    rw (lt-ltb (l / 2) n (f .inside), standing-named n given L (l / 2) (f .not-given), f .unnamed)
 
 -- a decision for another border names no other
 unnamed-after : (L : List Decision) (d : Decision) (e : ℕ) → stateIn L e ≡ 0 → d .border ≢ e → stateIn (L ++ (d ∷ [])) e ≡ 0
@@ -107,8 +106,8 @@ module _ (h w : ℕ) (given clues : List ℕ) (a : Accepted h w given clues) whe
   reply-zero : (L : List Decision) (p : Puzzle) → Reached h w given clues L p → (l : ℕ) → Free (borderCount (grid h w)) (isGiven given) L l → replyTo p (decideAs l) ≡ coded 0
   unfolding replyTo
   reply-zero L p r l f =
-      let q = decide-accepted h w given clues a L (p .board) (r .stood) (l / 2) (eqb (l % 2) 1) (free-accepted (borderCount (grid h w)) (isGiven given) L l f) in
-      rw (r .constants) (ap (λ (m : Made). coded (m .code)) q)
+      ap (λ x. coded (decideOf x (l / 2) (eqb (l % 2) 1) .code)) (r .constants)
+      ∙ ap coded (decide-accepted h w given clues a L (bookOf p) (r .stood) (l / 2) (eqb (l % 2) 1) (free-accepted (borderCount (grid h w)) (isGiven given) L l f))
 
   pub all-accepted : (L : List Decision) (p : Puzzle) → Reached h w given clues L p → (ls : List ℕ)
       → ((l : ℕ) → In l ls → Free (borderCount (grid h w)) (isGiven given) L l) → Apart ls

@@ -1,4 +1,4 @@
--- Demand 3, sentence by sentence: one claim about lists of decide, undo and ask calls, refused ones included, from a fresh puzzle.
+-- Demand 3 (SPEC 6.4 to 6.10), sentence by sentence: one claim about lists of decide, undo and ask calls, refused ones included, from a fresh puzzle.
 -- Assumes nothing.
 use Prim.Native.Nat.{ℕ, _*_, _/_, _%_, _≤_, _<_}
 use mathlib.Core.Path.{_≡_}
@@ -23,7 +23,7 @@ use Rattle.puzzle.specs.Laws.{RightBoard}
 use Rattle.puzzle.specs.Puzzle.{statesOf, makeOf, says, Asked, askOf}
 use Rattle.puzzle.specs.Run.{Call, decide, run, Reply, coded, replies, stateAfter}
 
--- "a long enough buffer"
+-- the buffer is long enough (SPEC 3.6)
 abbrev pub Long : ℕ → ℕ → List ℕ → Type 0
 Long h w buf = 9 * cells (grid h w) ≤ length buf
 
@@ -36,7 +36,7 @@ lengthOf (Refused n) = 0
 abbrev pub listOf : Asked → List ℕ
 listOf a = take (lengthOf (a .answer)) (a .buffer)
 
--- "Two asks answer alike when all of this is equal, and the listed entries too, in order."
+-- two asks answer alike (SPEC 4.16)
 pub record Alike (x y : Asked) : Type 0 where
   pub answers : x .answer ≡ y .answer
   pub lists : listOf x ≡ listOf y
@@ -53,7 +53,7 @@ pub record Gives (x : Asked) (f : Option Found) : Type 0 where
 abbrev pub IsFault : Answer → Type 0
 IsFault a = (k : Check) × (n : ℕ) × (a ≡ Fault k n)
 
--- "the listed borders other than given walls [..], each once and with its listed value", in some order: its entries
+-- the listed borders other than given walls, each once, in some order (SPEC 6.9): their entries
 pub record OrderOf (given L order : List ℕ) : Type 0 where
   pub once : (l : ℕ) → count l order ≤ 1
   pub listed : (l : ℕ) → In l order → In l L × (isGiven given (l / 2) ≡ false)
@@ -63,7 +63,7 @@ pub record OrderOf (given L order : List ℕ) : Type 0 where
 abbrev pub decideAs : ℕ → Call
 decideAs l = decide (l / 2) (eqb (l % 2) 1)
 
--- "each run from a fresh puzzle": the puzzle after a list of calls
+-- the fresh puzzle, and the puzzle after a list of calls (SPEC 6.4)
 abbrev pub freshOf : ℕ → ℕ → List ℕ → List ℕ → Puzzle
 freshOf h w given clues = makeOf h w given clues .puzzle
 
@@ -72,24 +72,24 @@ after h w given clues calls = run (freshOf h w given clues) calls
 
 -- THE DEMAND, for a puzzle of that size with these given walls and clues
 pub record Demand3 (h w : ℕ) (given clues : List ℕ) : Type 0 where
-  -- "Take every two lists [..]. If by 01's ledger the same borders stand after both lists, the next ask with a long enough buffer answers both alike."
+  -- SPEC 6.5: after two lists that leave the same borders standing, the next ask answers alike.
   pub same : (a b : List Call) → ((e : ℕ) → e < borderCount (grid h w) → stateAfter h w given a e ≡ stateAfter h w given b e)
       → (bufA bufB : List ℕ) → Long h w bufA → Long h w bufB → Alike (askOf (after h w given clues a) bufA) (askOf (after h w given clues b) bufB)
-  -- "That answer, list included, is exactly what 01's shape check and room counts give on the standing borders."
+  -- SPEC 6.6: its answer and list are exactly what the shape check and the room counts give on the standing borders.
   pub exact : (calls : List Call) (buf : List ℕ) → Long h w buf
       → Gives (askOf (after h w given clues calls) buf) (faultOf (grid h w) given clues (statesOf (borderCount (grid h w)) (stateAfter h w given calls)))
-  -- "Suppose it is a fault. Then each listed border stands as listed."
+  -- SPEC 6.7: each border of a fault's list stands as listed.
   pub listed : (calls : List Call) (buf : List ℕ) → Long h w buf → IsFault (askOf (after h w given clues calls) buf .answer)
       → Standing (stateAfter h w given calls) (listOf (askOf (after h w given clues calls) buf))
-  -- "Every full board with the given walls and the listed borders as listed breaks the puzzle's laws." (That given walls are Wall is one of them.)
+  -- SPEC 6.8: no full board on which the list stands is right. (That given walls are Wall is one of the laws.)
   pub excludes : (calls : List Call) (buf : List ℕ) → Long h w buf → IsFault (askOf (after h w given clues calls) buf .answer)
       → (s : States) → FullBoard (grid h w) s → Standing s (listOf (askOf (after h w given clues calls) buf)) → RightBoard (grid h w) given clues s → ⊥
-  -- "And in whatever order the listed borders other than given walls are decided, each once and with its listed value, on a fresh such puzzle,
-  -- the next ask there with a long enough buffer answers a fault again." Each of these decides is accepted.
+  -- SPEC 6.9: decided on a fresh puzzle, each once, in any order, the listed borders other than given walls make the next ask a fault.
+  -- Each of these decides is accepted.
   pub again : (calls : List Call) (buf : List ℕ) → Long h w buf → IsFault (askOf (after h w given clues calls) buf .answer)
       → (order : List ℕ) → OrderOf given (listOf (askOf (after h w given clues calls) buf)) order
       → ((r : Reply) → In r (replies (freshOf h w given clues) (map decideAs order)) → r ≡ coded 0)
       × ((buf' : List ℕ) → Long h w buf' → IsFault (askOf (after h w given clues (map decideAs order)) buf' .answer))
-  -- "Where the standing borders make a full board, the answer is clear exactly when that board obeys the laws."
+  -- SPEC 6.10: on a full board the answer is clear exactly when the board is right.
   pub full : (calls : List Call) → FullBoard (grid h w) (stateAfter h w given calls) → (buf : List ℕ) → Long h w buf
       → (askOf (after h w given clues calls) buf .answer ≡ Clear) ↔ RightBoard (grid h w) given clues (stateAfter h w given calls)

@@ -1,4 +1,4 @@
--- The laws of a full board (01, "Laws of a full board"): all four sentences. s e is the state of border e.
+-- The laws of a full board (SPEC 2.3 to 2.6): all four. s e is the state of border e.
 -- Assumes nothing.
 use Prim.Native.Nat.{ℕ, _<_}
 use mathlib.Core.Path.{_≡_}
@@ -11,9 +11,9 @@ use Rattle.rooms.specs.Rooms.{roomCount, clued, clueOf}
 use Rattle.rooms.specs.Units.{GivenWalls, InRoom, HoldsUnits}
 
 pub record RightBoard (g : Grid) (given clues : List ℕ) (s : States) : Type 0 where
-  -- "every given wall is Wall"
+  -- the first law (SPEC 2.3)
   pub given-walls : GivenWalls given s
-  -- "no Wall has one unit on both sides; each unit has a different unit that is its translate and shares a Wall with it"
+  -- the second and the third law (SPEC 2.4, 2.5)
   pub shape : RightShape g s
-  -- "each clued room holds as many units as its clue"
+  -- the fourth law (SPEC 2.6)
   pub rooms : (r : ℕ) → r < roomCount g given → clued clues r ≡ true → HoldsUnits g s (InRoom g given r) (clueOf clues r)

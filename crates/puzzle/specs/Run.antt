@@ -1,4 +1,4 @@
--- Lists of calls: what each answers, what it leaves, and the standing borders (01, "Standing ledger" and "Puzzle").
+-- Lists of calls: what each answers, what it leaves, and the standing borders (SPEC 1.5 to 1.7).
 -- Assumes nothing.
 use Prim.Native.Nat.{ℕ}
 use mathlib.Core.Bool.{Bool}
@@ -23,13 +23,13 @@ puzzleAfter p (decide e wall) = decideOf p e wall .puzzle
 puzzleAfter p undo = undoOf p .puzzle
 puzzleAfter p (ask buf) = p
 
--- "the first gets the fresh puzzle, each later one the puzzle that the one before returned or left"
+-- each call gets the puzzle that the one before it returned or left (SPEC 6.4)
 unfoldable pub run : Puzzle → List Call → Puzzle
 unfolding puzzleAfter
 run p [] = p
 run p (c ∷ cs) = run (puzzleAfter p c) cs
 
--- what a call answers: 01's number for a decide or an undo, 0 where it is accepted
+-- what a call answers: the question's number (SPEC 3) for a decide or an undo, 0 where it is accepted
 pub data Reply : Type 0 where
   coded : ℕ → Reply
   asked : Asked → Reply
@@ -44,7 +44,7 @@ unfolding puzzleAfter replyTo
 replies p [] = []
 replies p (c ∷ cs) = replyTo p c ∷ replies (puzzleAfter p c) cs
 
--- THE LEDGER, "worked out from the arguments of the making and the calls, never read from a record"
+-- THE LEDGER, by the arguments of the making and the calls alone (SPEC 1.5)
 abbrev pub onLedger : Call → ledger.Call
 onLedger (decide e wall) = ledger.decide e wall
 onLedger undo = ledger.undo

@@ -2,36 +2,38 @@
 ghost use mathlib.Core.Path.{_≡_};
 ghost use Prim.Native.Nat.{_*_, _≤_, _<_};
 ghost use lib.Dec.{eqb, ltb, leb};
-ghost use lib.ListN.{length, take};
-ghost use lib.Seq.{sets};
+ghost use lib.ListN.{length, getD, take};
+ghost use Rattle.limits.specs.Limits.{mostBorders, mostCells, noClue};
 ghost use Rattle.lists.specs.Choice.{either};
 ghost use Rattle.lists.specs.Lists.{all};
-ghost use Rattle.puzzle.specs.Fault.{faultOf};
-ghost use Rattle.puzzle.specs.Lists.{allFit, Sizes, Lists, clueList, roomsFault, roomsIn, Arrays, Housing, Asking, Finding};
+ghost use Rattle.grid.specs.Grid.{Limits, borderCount};
+ghost use Rattle.ledger.specs.Books.{book, bookHolds};
 ghost use Rattle.borders.specs.Border.{stateOf};
-ghost use Rattle.city_count.specs.Fault.{listOf};
-ghost use Rattle.city_count.specs.Room.{foundOf};
-ghost use Rattle.groups.specs.Lent.{Lent};
-ghost use Rattle.rooms.specs.Lent.{Below, Given, Roomed, markedIn};
-ghost use Rattle.puzzle.specs.Puzzle.{rises, listsCode, noClues, freshBoard, freshPuzzle, zeroPuzzle, answer, makeOf, puzzleOf, puzzleCode, onto as withBoard, decideOf, undoOf, says, writes, askOf};
+ghost use Rattle.rooms.specs.Rooms.{isGiven};
+ghost use Rattle.rooms.specs.RoomGraph.{sideList};
+ghost use Rattle.rooms.specs.Lent.{Below, Given, Places, Roomed, markedIn};
+ghost use Rattle.puzzle.specs.Fault.{faultOf};
+ghost use Rattle.puzzle.specs.Lists.{allFit, Sizes, partAt, clueList, Checks, roomsIn, Arrays, Housing, Finding};
+ghost use Rattle.puzzle.specs.Puzzle.{rises, listsCode, freshBoard, noClues, freshPuzzle, zeroPuzzle, answer, makeOf, puzzleOf, puzzleCode, decideOf, undoOf, says, writes, askOf};
+use answers::Found;
 use board::Board;
-use city_count::Inconsistency;
 use grid::Grid;
-use inner_walls::Found;
 use ledger::Book;
+use lists::wide;
+use rooms::Miscount;
 
 // The board has the given walls as Wall; its ledger names none of them. The first `given_len` places of `given` are the given walls,
 // the first `clues_len` of `clues` the clues.
 #[repr(C)]
 pub struct Puzzle {
     pub board: Board,
-    pub given: [u16; 1984],
+    pub given: [u16; limits::BORDERS],
     pub given_len: usize,
-    pub clues: [u16; 1024],
+    pub clues: [u16; limits::CELLS],
     pub clues_len: usize,
 }
 
-// A puzzle with 01's number: 0 where the making or call was accepted.
+// A puzzle with a question's number: 0 where the making or call was accepted.
 #[repr(C)]
 pub struct Made {
     pub code: u8,
@@ -44,21 +46,34 @@ pub enum Check {
     Room(usize),
 }
 
-// What an ask answers: clear, a fault with the check that found it and its list's length, or refused with 01's number.
+// What an ask answers: clear, a fault with the check that found it and its list's length, or refused with the question's number.
 pub enum Answer {
     Clear,
     Fault(Check, usize),
     Refused(u8),
 }
 
-// Question 3: each of the first `len` given walls is below n.
-fn exist(given: &[u16], len: usize, n: usize) -> bool
-    requires { ⌜ len ≤ length (now given) ⌝ }
-    ensures { λ r. ⌜ r ≡ all (λ e. ltb e n) (take len (now (given .entry))) ⌝ }
+// A puzzle's size, and how much of its arrays counts.
+struct Counts {
+    grid: Grid,
+    len: usize,
+    given: usize,
+    clues: usize,
+}
+
+// What the counts of the rooms find: nothing, or the room whose count fails, and whether its list has Walls (true) or Connected borders.
+enum Checked {
+    Nothing,
+    At(usize, bool),
+}
+
+// Question 3: each given wall is below n.
+fn exist(given: &[u16], n: usize) -> bool
+    ensures { λ r. ⌜ r ≡ all (λ e. ltb e n) (now (given .entry)) ⌝ }
 {
     let mut i = 0;
-    while i < len {
-        if n <= lists::wide(given[i]) {
+    while i < given.len() {
+        if n <= wide(given[i]) {
             return false;
         }
         i += 1;
@@ -66,13 +81,12 @@ fn exist(given: &[u16], len: usize, n: usize) -> bool
     true
 }
 
-// Question 7: the first `len` given walls rise strictly.
-fn rise(given: &[u16], len: usize) -> bool
-    requires { ⌜ len ≤ length (now given) ⌝ }
-    ensures { λ r. ⌜ r ≡ rises (take len (now (given .entry))) ⌝ }
+// Question 7: the given walls rise strictly.
+fn rise(given: &[u16]) -> bool
+    ensures { λ r. ⌜ r ≡ rises (now (given .entry)) ⌝ }
 {
     let mut i = 1;
-    while i < len {
+    while i < given.len() {
         if given[i] <= given[i - 1] {
             return false;
         }
@@ -82,24 +96,24 @@ fn rise(given: &[u16], len: usize) -> bool
 }
 
 // A clue fits a room of so many cells.
-fn clue_fits(clue: usize, size: usize) -> bool
-    ensures { λ r. ⌜ r ≡ either (eqb clue 65535) (leb clue size) ⌝ }
+fn clue_fits(clue: u16, size: usize) -> bool
+    ensures { λ r. ⌜ r ≡ either (eqb clue noClue) (leb clue size) ⌝ }
 {
-    if clue == 65535 {
+    if clue == limits::NO_CLUE {
         return true;
     }
-    clue <= size
+    wide(clue) <= size
 }
 
-// Question 9: each room's clue is 65535 or at most its cells.
-fn clues_fit<'a>(clues: &'a [u16], starts: &'a [u16], count: usize, n: usize) -> bool
-    requires { ⌜ Sizes n count (now starts) (now clues) ⌝ }
-    ensures { λ r. ⌜ r ≡ allFit n count (now (starts .entry)) (now (clues .entry)) ⌝ }
+// Question 9: each room's clue is 65535 or at most its cells, which are n in all rooms.
+fn clues_fit<'a>(clues: &'a [u16], starts: &'a [u16], n: usize) -> bool
+    requires { ⌜ Sizes n (length (now clues)) (now starts) ⌝ }
+    ensures { λ r. ⌜ r ≡ allFit n (length (now (clues .entry))) (now (starts .entry)) (now (clues .entry)) ⌝ }
 {
     let mut room = 0;
-    while room < count {
-        let size = groups::end_of(starts, count, n, room) - lists::wide(starts[room]);
-        if !clue_fits(lists::wide(clues[room]), size) {
+    while room < clues.len() {
+        let size = groups::end_of(starts, clues.len(), n, room) - wide(starts[room]);
+        if !clue_fits(clues[room], size) {
             return false;
         }
         room += 1;
@@ -107,36 +121,31 @@ fn clues_fit<'a>(clues: &'a [u16], starts: &'a [u16], count: usize, n: usize) ->
     true
 }
 
-// Questions 3, 7, 8 and 9 of given walls and clues: 01's number, or 0. Where it is 0, the rooms stand in the lent slices.
+// Questions 3, 7, 8 and 9 of given walls and clues: their number, or 0. Where it is 0, the rooms stand in the lent slices.
 fn lists_code<'a>(
     g: Grid,
     given: &'a [u16],
-    given_len: usize,
     clues: &'a [u16],
-    clues_len: usize,
-    ids: &mut [u16],
     starts: &mut [u16],
     flat: &mut [u16],
 ) -> u8
-    requires { ⌜ Lists g (now given) «given_len» (now clues) «clues_len» ⌝ }
-    requires { ⌜ Lent (g .height * g .width) (now ids) (now starts) (now flat) ⌝ }
-    ensures { λ r. ⌜ r ≡ listsCode g (take «given_len» (now (given .entry))) (take «clues_len» (now (clues .entry))) ⌝ }
+    requires { ⌜ Limits g ⌝ }
+    requires { ⌜ Places g (now starts) (now flat) ⌝ }
+    ensures { λ r. ⌜ r ≡ listsCode g (now (given .entry)) (now (clues .entry)) ⌝ }
     ensures { λ r.
-        ⌜ (r ≡ 0 → Roomed g (take «given_len» (now (given .entry))) (now (ids .entry)) (now (starts .entry)) (now (flat .entry)) (now (ids .exit)) (now (starts .exit)) (now (flat .exit)) «clues_len») ⌝ }
+        ⌜ (r ≡ 0 → Roomed g (now (given .entry)) (now (starts .entry)) (now (flat .entry)) (now (starts .exit)) (now (flat .exit)) (length (now (clues .entry)))) ⌝ }
 {
-    let height = g.height;
-    let width = g.width;
-    if !exist(given, given_len, grid::border_count(g)) {
+    if !exist(given, grid::border_count(g)) {
         return 3;
     }
-    if !rise(given, given_len) {
+    if !rise(given) {
         return 7;
     }
-    let count = rooms::rooms_of(g, given, given_len, ids, starts, flat);
-    if clues_len != count {
+    let count = rooms::rooms_of(g, given, starts, flat);
+    if clues.len() != count {
         return 8;
     }
-    if clues_fit(clues, starts, count, height * width) {
+    if clues_fit(clues, starts, g.height * g.width) {
         return 0;
     }
     9
@@ -144,11 +153,11 @@ fn lists_code<'a>(
 
 // A board with the given walls, and nothing else, decided.
 fn fresh_board(g: Grid, given: &[u16]) -> Board
-    requires { ⌜ Below 1984 (now given) (length (now given)) ⌝ }
-    ensures { λ r. ⌜ r ≡ freshBoard (g .height) (g .width) (now (given .entry)) ⌝ }
+    requires { ⌜ Below mostBorders (now given) ⌝ }
+    ensures { λ r. ⌜ r ≡ freshBoard g (now (given .entry)) ⌝ }
 {
     let mut states = [0u8; limits::BORDERS];
-    rooms::put(given, given.len(), 2, &mut states);
+    rooms::put(given, 2, &mut states);
     Board {
         grid: g,
         book: Book {
@@ -161,13 +170,13 @@ fn fresh_board(g: Grid, given: &[u16]) -> Board
 
 // A fresh puzzle.
 fn fresh<'a>(g: Grid, given: &'a [u16], clues: &'a [u16]) -> Puzzle
-    requires { ⌜ Below 1984 (now given) (length (now given)) ⌝ }
-    requires { ⌜ (length (now given) ≤ 1984) × (length (now clues) ≤ 1024) ⌝ }
-    ensures { λ r. ⌜ r ≡ freshPuzzle (g .height) (g .width) (now (given .entry)) (now (clues .entry)) ⌝ }
+    requires { ⌜ Below mostBorders (now given) ⌝ }
+    requires { ⌜ (length (now given) ≤ mostBorders) × (length (now clues) ≤ mostCells) ⌝ }
+    ensures { λ r. ⌜ r ≡ freshPuzzle g (now (given .entry)) (now (clues .entry)) ⌝ }
 {
-    let mut walls = [0u16; 1984];
+    let mut walls = [0u16; limits::BORDERS];
     lists::copy(given, &mut walls);
-    let mut counts = [0u16; 1024];
+    let mut counts = [0u16; limits::CELLS];
     lists::copy(clues, &mut counts);
     let board = fresh_board(g, given);
     Puzzle {
@@ -198,9 +207,9 @@ fn unmade(code: u8) -> Made
         code: code,
         puzzle: Puzzle {
             board: board,
-            given: [0u16; 1984],
+            given: [0u16; limits::BORDERS],
             given_len: 0,
-            clues: [0u16; 1024],
+            clues: [0u16; limits::CELLS],
             clues_len: 0,
         },
     }
@@ -217,19 +226,9 @@ pub fn make<'a>(height: usize, width: usize, given: &'a [u16], clues: &'a [u16])
     if !grid::sizes_ok(g) {
         return unmade(1);
     }
-    let mut ids = [0u16; 1024];
-    let mut starts = [0u16; 1024];
-    let mut flat = [0u16; 1024];
-    let code = lists_code(
-        g,
-        given,
-        given.len(),
-        clues,
-        clues.len(),
-        &mut ids,
-        &mut starts,
-        &mut flat,
-    );
+    let mut starts = [0u16; limits::CELLS];
+    let mut flat = [0u16; limits::CELLS];
+    let code = lists_code(g, given, clues, &mut starts, &mut flat);
     if code != 0 {
         return unmade(code);
     }
@@ -239,45 +238,56 @@ pub fn make<'a>(height: usize, width: usize, given: &'a [u16], clues: &'a [u16])
     }
 }
 
-// Questions 1 and 2 of a puzzle's parts: 01's number, or 0. Where it is 0, the rooms stand in the lent slices.
-fn code_of<'a>(
+// Question 2 of a puzzle's ledger.
+fn ledger_holds<'a>(
     g: Grid,
+    given: &'a [u16],
     states: &'a [u8],
     names: &'a [u16],
     len: usize,
+) -> bool
+    requires { ⌜ Given g (now given) ⌝ }
+    requires { ⌜ (length (now states) ≡ mostBorders) × (length (now names) ≡ mostBorders) ⌝ }
+    ensures { λ r. ⌜ r ≡ bookHolds (borderCount g) (isGiven (now (given .entry))) (book (now (states .entry)) (now (names .entry)) len) ⌝ }
+{
+    let mut marks = [0u8; limits::BORDERS];
+    rooms::put(given, 1, &mut marks);
+    ledger::book_holds(states, names, len, grid::border_count(g), &mut marks)
+}
+
+// Questions 1 and 2 of a puzzle's parts: their number, or 0. Where it is 0, the rooms stand in the lent slices.
+fn code_of<'a>(
+    z: Counts,
+    states: &'a [u8],
+    names: &'a [u16],
     given: &'a [u16],
-    given_len: usize,
     clues: &'a [u16],
-    clues_len: usize,
-    ids: &mut [u16],
     starts: &mut [u16],
     flat: &mut [u16],
 ) -> u8
     requires { ⌜ Arrays (now states) (now names) (now given) (now clues) ⌝ }
-    requires { ⌜ Lent 1024 (now ids) (now starts) (now flat) ⌝ }
-    ensures { λ r. ⌜ r ≡ puzzleCode (puzzleOf (g .height) (g .width) (now (states .entry)) (now (names .entry)) len (now (given .entry)) «given_len» (now (clues .entry)) «clues_len») ⌝ }
+    requires { ⌜ (mostCells ≤ length (now starts)) × (mostCells ≤ length (now flat)) ⌝ }
+    ensures { λ r. ⌜ r ≡ puzzleCode (puzzleOf z (now (states .entry)) (now (names .entry)) (now (given .entry)) (now (clues .entry))) ⌝ }
     ensures { λ r.
-        ⌜ (r ≡ 0 → Roomed g (take «given_len» (now (given .entry))) (now (ids .entry)) (now (starts .entry)) (now (flat .entry)) (now (ids .exit)) (now (starts .exit)) (now (flat .exit)) «clues_len») ⌝ }
+        ⌜ (r ≡ 0 → Roomed (z .grid) (take (z .given) (now (given .entry))) (now (starts .entry)) (now (flat .entry)) (now (starts .exit)) (now (flat .exit)) (z .clues)) ⌝ }
 {
+    let g = z.grid;
     if !grid::sizes_ok(g) {
         return 1;
     }
-    if 1984 < given_len {
+    let many = z.given;
+    if limits::BORDERS < many {
         return 2;
     }
-    if 1024 < clues_len {
+    let rooms = z.clues;
+    if limits::CELLS < rooms {
         return 2;
     }
-    if lists_code(g, given, given_len, clues, clues_len, ids, starts, flat) != 0 {
+    let walls = &given[..many];
+    if lists_code(g, walls, &clues[..rooms], starts, flat) != 0 {
         return 2;
     }
-    let n = grid::border_count(g);
-    if n < len {
-        return 2;
-    }
-    let mut marks = [0u8; 1984];
-    rooms::put(given, given_len, 1, &mut marks);
-    if ledger::holds(states, names, len, n, &mut marks) {
+    if ledger_holds(g, walls, states, names, z.len) {
         return 0;
     }
     2
@@ -285,337 +295,258 @@ fn code_of<'a>(
 
 // The same, where the rooms are not asked for.
 fn parts_code<'a>(
-    g: Grid,
+    z: Counts,
     states: &'a [u8],
     names: &'a [u16],
-    len: usize,
     given: &'a [u16],
-    given_len: usize,
     clues: &'a [u16],
-    clues_len: usize,
 ) -> u8
     requires { ⌜ Arrays (now states) (now names) (now given) (now clues) ⌝ }
-    ensures { λ r. ⌜ r ≡ puzzleCode (puzzleOf (g .height) (g .width) (now (states .entry)) (now (names .entry)) len (now (given .entry)) «given_len» (now (clues .entry)) «clues_len») ⌝ }
+    ensures { λ r. ⌜ r ≡ puzzleCode (puzzleOf z (now (states .entry)) (now (names .entry)) (now (given .entry)) (now (clues .entry))) ⌝ }
 {
-    let mut ids = [0u16; 1024];
-    let mut starts = [0u16; 1024];
-    let mut flat = [0u16; 1024];
-    code_of(
-        g,
-        states,
-        names,
-        len,
-        given,
-        given_len,
-        clues,
-        clues_len,
-        &mut ids,
-        &mut starts,
-        &mut flat,
-    )
+    let mut starts = [0u16; limits::CELLS];
+    let mut flat = [0u16; limits::CELLS];
+    code_of(z, states, names, given, clues, &mut starts, &mut flat)
 }
 
-// Questions 1 and 2 of a puzzle: 01's number, or 0.
+// Questions 1 and 2 of a puzzle: their number, or 0.
 pub fn puzzle_code(p: Puzzle) -> u8
     ensures { λ r. ⌜ r ≡ puzzleCode p ⌝ }
 {
-    let g = Grid {
-        height: p.board.grid.height,
-        width: p.board.grid.width,
+    let g = p.board.grid;
+    let z = Counts {
+        grid: g,
+        len: p.board.book.len,
+        given: p.given_len,
+        clues: p.clues_len,
     };
     parts_code(
-        g,
+        z,
         &p.board.book.states,
         &p.board.book.names,
-        p.board.book.len,
         &p.given,
-        p.given_len,
         &p.clues,
-        p.clues_len,
     )
 }
 
-// The same puzzle with another board.
-fn onto(p: Puzzle, b: Board) -> Puzzle
-    ensures { λ r. ⌜ r ≡ withBoard p b ⌝ }
-{
-    let mut next = p;
-    next.board = b;
-    next
-}
-
-// Decides a border as Wall or Connected.
+// Decides a border as Wall or Connected. The answer is made first and changed where it stands: the record is copied in and out, and not once more.
 pub fn decide(p: Puzzle, border: usize, wall: bool) -> Made
     ensures { λ r. ⌜ r ≡ decideOf p border wall ⌝ }
 {
-    let b = p.board;
-    let book = b.book;
-    let g = Grid {
-        height: p.board.grid.height,
-        width: p.board.grid.width,
+    let g = p.board.grid;
+    let at = p.board.book.len;
+    let z = Counts {
+        grid: g,
+        len: at,
+        given: p.given_len,
+        clues: p.clues_len,
     };
+    let mut out = Made { code: 0, puzzle: p };
     let code = parts_code(
-        g,
-        &p.board.book.states,
-        &p.board.book.names,
-        p.board.book.len,
-        &p.given,
-        p.given_len,
-        &p.clues,
-        p.clues_len,
+        z,
+        &out.puzzle.board.book.states,
+        &out.puzzle.board.book.names,
+        &out.puzzle.given,
+        &out.puzzle.clues,
     );
     if code != 0 {
-        return Made {
-            code: code,
-            puzzle: p,
-        };
+        out.code = code;
+        return out;
     }
-    if grid::border_count(g) <= border {
-        return Made { code: 3, puzzle: p };
+    let refused = ledger::decide_code(&out.puzzle.board.book.states, grid::border_count(g), border);
+    if refused != 0 {
+        out.code = refused;
+        return out;
     }
-    if book.states[border] != 0 {
-        return Made { code: 4, puzzle: p };
-    }
-    Made {
-        code: 0,
-        puzzle: onto(p, board::place(b, border, wall)),
-    }
+    ledger::place_state(&mut out.puzzle.board.book.states, border, wall);
+    ledger::place_name(&mut out.puzzle.board.book.names, at, border);
+    out.puzzle.board.book.len = at + 1;
+    out
 }
 
 // Takes the last decision back.
 pub fn undo(p: Puzzle) -> Made
     ensures { λ r. ⌜ r ≡ undoOf p ⌝ }
 {
-    let g = Grid {
-        height: p.board.grid.height,
-        width: p.board.grid.width,
+    let g = p.board.grid;
+    let len = p.board.book.len;
+    let z = Counts {
+        grid: g,
+        len: len,
+        given: p.given_len,
+        clues: p.clues_len,
     };
+    let mut out = Made { code: 0, puzzle: p };
     let code = parts_code(
-        g,
-        &p.board.book.states,
-        &p.board.book.names,
-        p.board.book.len,
-        &p.given,
-        p.given_len,
-        &p.clues,
-        p.clues_len,
+        z,
+        &out.puzzle.board.book.states,
+        &out.puzzle.board.book.names,
+        &out.puzzle.given,
+        &out.puzzle.clues,
     );
     if code != 0 {
-        return Made {
-            code: code,
-            puzzle: p,
-        };
+        out.code = code;
+        return out;
     }
-    let b = p.board;
-    if b.book.len == 0 {
-        return Made { code: 5, puzzle: p };
+    if len == 0 {
+        out.code = 5;
+        return out;
     }
-    Made {
-        code: 0,
-        puzzle: onto(p, board::take_back(b)),
-    }
+    let at = len - 1;
+    let border = ledger::name_at(&out.puzzle.board.book.names, at);
+    ledger::clear_state(&mut out.puzzle.board.book.states, border);
+    ledger::clear_name(&mut out.puzzle.board.book.names, at);
+    out.puzzle.board.book.len = at;
+    out
 }
 
-// The count of a room, where it has a clue: the list of a fault goes to the buffer's front, else the buffer stays.
+// Which side of a room's count fails, where the room has a clue.
 fn check_room<'a>(
     g: Grid,
     marks: &'a [u8],
-    ids: &'a [u16],
-    vertex: &'a [u16],
+    states: &'a [u8],
     starts: &'a [u16],
     flat: &'a [u16],
-    count: usize,
-    states: &'a [u8],
     clues: &'a [u16],
     room: usize,
-    buf: &mut [u16],
-) -> Inconsistency
-    requires { ⌜ Housing g (now marks) (now ids) (now vertex) (now starts) (now flat) count ⌝ }
-    requires { ⌜ Asking g (now states) (now clues) count (now buf) ⌝ }
-    requires { ⌜ room < count ⌝ }
+) -> Miscount
+    requires { ⌜ Housing g (now marks) (now states) (now starts) (now flat) (length (now clues)) ⌝ }
+    requires { ⌜ room < length (now clues) ⌝ }
     ensures { λ r.
-        ⌜ r ≡ foundOf (clueList g (markedIn (now (marks .entry))) (now (ids .entry)) (now (clues .entry)) room (stateOf (now (states .entry)))) ⌝ }
-    ensures { λ _.
-        ⌜ now (buf .exit) ≡ sets (now (buf .entry)) 0 (listOf (clueList g (markedIn (now (marks .entry))) (now (ids .entry)) (now (clues .entry)) room (stateOf (now (states .entry))))) ⌝ }
+        ⌜ sideList g (markedIn (now (marks .entry))) (partAt g (now (starts .entry)) (now (flat .entry)) (length (now (clues .entry))) room) (stateOf (now (states .entry))) r ≡ clueList g (markedIn (now (marks .entry))) (partAt g (now (starts .entry)) (now (flat .entry)) (length (now (clues .entry))) room) (getD (now (clues .entry)) room 0) (stateOf (now (states .entry))) ⌝ }
 {
-    let height = g.height;
-    let width = g.width;
-    let clue = lists::wide(clues[room]);
-    if clue == 65535 {
-        return Inconsistency::Nothing;
+    let clue = clues[room];
+    if clue == limits::NO_CLUE {
+        return Miscount::Nothing;
     }
-    let start = lists::wide(starts[room]);
-    let end = groups::end_of(starts, count, height * width, room);
-    let cells = &flat[start..end];
-    rooms::find_inconsistency(g, marks, states, ids, vertex, cells, room, clue, buf)
+    let start = wide(starts[room]);
+    let end = groups::end_of(starts, clues.len(), g.height * g.width, room);
+    rooms::find(g, marks, states, &flat[start..end], wide(clue))
 }
 
-// The counts of the clued rooms in order, up to the first fault.
+// The first of the clued rooms whose count fails.
 fn check_rooms<'a>(
     g: Grid,
     marks: &'a [u8],
-    ids: &'a [u16],
-    vertex: &'a [u16],
+    states: &'a [u8],
     starts: &'a [u16],
     flat: &'a [u16],
-    count: usize,
-    states: &'a [u8],
     clues: &'a [u16],
-    buf: &mut [u16],
-) -> Answer
-    requires { ⌜ Housing g (now marks) (now ids) (now vertex) (now starts) (now flat) count ⌝ }
-    requires { ⌜ Asking g (now states) (now clues) count (now buf) ⌝ }
+) -> Checked
+    requires { ⌜ Housing g (now marks) (now states) (now starts) (now flat) (length (now clues)) ⌝ }
     ensures { λ r.
-        ⌜ r ≡ says 0 (roomsFault g (markedIn (now (marks .entry))) (now (ids .entry)) (now (clues .entry)) count (stateOf (now (states .entry)))) ⌝ }
-    ensures { λ _.
-        ⌜ now (buf .exit) ≡ writes 0 (roomsFault g (markedIn (now (marks .entry))) (now (ids .entry)) (now (clues .entry)) count (stateOf (now (states .entry)))) (now (buf .entry)) ⌝ }
+        ⌜ Checks g (markedIn (now (marks .entry))) (partAt g (now (starts .entry)) (now (flat .entry)) (length (now (clues .entry)))) (now (clues .entry)) (stateOf (now (states .entry))) r ⌝ }
 {
     let mut room = 0;
-    while room < count {
-        let found = check_room(
-            g,
-            marks,
-            ids,
-            vertex,
-            starts,
-            flat,
-            count,
-            states,
-            clues,
-            room,
-            buf,
-        );
-        if let Inconsistency::Listed(k) = found {
-            return Answer::Fault(Check::Room(room), k);
+    while room < clues.len() {
+        let side = check_room(g, marks, states, starts, flat, clues, room);
+        if let Miscount::Listed(wall) = side {
+            return Checked::At(room, wall);
         }
         room += 1;
     }
-    Answer::Clear
+    Checked::Nothing
 }
 
-// The counts of the clued rooms of a board whose borders have these states.
+// The counts of the clued rooms of a board whose borders have these states: the first that fails is listed.
 fn rooms_fault<'a>(
     g: Grid,
     given: &'a [u16],
-    len: usize,
-    ids: &'a [u16],
-    starts: &'a [u16],
-    flat: &'a [u16],
-    count: usize,
     states: &'a [u8],
     clues: &'a [u16],
-    buf: &mut [u16],
+    starts: &'a [u16],
+    flat: &'a [u16],
+    buffer: &mut [u16],
 ) -> Answer
-    requires { ⌜ Given g (now given) len ⌝ }
-    requires { ⌜ Roomed g (take len (now given)) noClues noClues noClues (now ids) (now starts) (now flat) count ⌝ }
-    requires { ⌜ Asking g (now states) (now clues) count (now buf) ⌝ }
-    ensures { λ r.
-        ⌜ r ≡ says 0 (roomsIn g (take len (now (given .entry))) (now (clues .entry)) (now (states .entry))) ⌝ }
-    ensures { λ _.
-        ⌜ now (buf .exit) ≡ writes 0 (roomsIn g (take len (now (given .entry))) (now (clues .entry)) (now (states .entry))) (now (buf .entry)) ⌝ }
+    requires { ⌜ Finding g (now given) (now states) (now clues) (now buffer) ⌝ }
+    requires { ⌜ Roomed g (now given) noClues noClues (now starts) (now flat) (length (now clues)) ⌝ }
+    ensures { λ r. ⌜ r ≡ says 0 (roomsIn g (now (given .entry)) (now (clues .entry)) (now (states .entry))) ⌝ }
+    ensures { λ _. ⌜ now (buffer .exit) ≡ writes 0 (roomsIn g (now (given .entry)) (now (clues .entry)) (now (states .entry))) (now (buffer .entry)) ⌝ }
 {
-    let height = g.height;
-    let width = g.width;
-    let n = height * width;
-    let mut marks = [0u8; 1984];
-    rooms::put(given, len, 1, &mut marks);
-    let mut next = [0u16; 1024];
-    let mut vertex = [0u16; 1024];
-    rooms::vertices(&ids[..n], n, &mut next, &mut vertex);
-    check_rooms(
-        g,
-        &marks,
-        &ids[..n],
-        &vertex,
-        starts,
-        flat,
-        count,
-        states,
-        clues,
-        buf,
-    )
+    let mut marks = [0u8; limits::BORDERS];
+    rooms::put(given, 1, &mut marks);
+    let found = check_rooms(g, &marks, states, starts, flat, clues);
+    let Checked::At(room, wall) = found else {
+        return Answer::Clear;
+    };
+    let start = wide(starts[room]);
+    let end = groups::end_of(starts, clues.len(), g.height * g.width, room);
+    let n = rooms::write(g, &marks, states, &flat[start..end], wall, buffer);
+    Answer::Fault(Check::Room(room), n)
 }
 
-// The shape check, and then the counts of the clued rooms, on a board whose borders have these states.
+// The shape check, and then the counts of the clued rooms, on a puzzle whose borders have these states.
 fn find<'a>(
-    g: Grid,
+    z: Counts,
     given: &'a [u16],
-    len: usize,
-    ids: &'a [u16],
-    starts: &'a [u16],
-    flat: &'a [u16],
     states: &'a [u8],
     clues: &'a [u16],
-    count: usize,
-    buf: &mut [u16],
+    starts: &'a [u16],
+    flat: &'a [u16],
+    buffer: &mut [u16],
 ) -> Answer
-    requires { ⌜ Finding g (now given) len (now states) (take count (now clues)) (now buf) ⌝ }
-    requires { ⌜ Roomed g (take len (now given)) noClues noClues noClues (now ids) (now starts) (now flat) count ⌝ }
-    requires { ⌜ count ≤ length (now clues) ⌝ }
-    ensures { λ r. ⌜ r ≡ says 0 (faultOf g (take len (now (given .entry))) (take count (now (clues .entry))) (now (states .entry))) ⌝ }
+    requires { ⌜ (z .given ≤ length (now given)) × (z .clues ≤ length (now clues)) ⌝ }
+    requires { ⌜ Finding (z .grid) (take (z .given) (now given)) (now states) (take (z .clues) (now clues)) (now buffer) ⌝ }
+    requires { ⌜ Roomed (z .grid) (take (z .given) (now given)) noClues noClues (now starts) (now flat) (z .clues) ⌝ }
+    ensures { λ r. ⌜ r ≡ says 0 (faultOf (z .grid) (take (z .given) (now (given .entry))) (take (z .clues) (now (clues .entry))) (now (states .entry))) ⌝ }
     ensures { λ _.
-        ⌜ now (buf .exit) ≡ writes 0 (faultOf g (take len (now (given .entry))) (take count (now (clues .entry))) (now (states .entry))) (now (buf .entry)) ⌝ }
+        ⌜ now (buffer .exit) ≡ writes 0 (faultOf (z .grid) (take (z .given) (now (given .entry))) (take (z .clues) (now (clues .entry))) (now (states .entry))) (now (buffer .entry)) ⌝ }
 {
-    let shape = shape_check::shape_fault(g, states, buf);
+    let g = z.grid;
+    let shape = shape_check::shape_fault(g, states, buffer);
     if let Found::Fault(n) = shape {
         return Answer::Fault(Check::Shape, n);
     }
+    let many = z.given;
+    let rooms = z.clues;
     rooms_fault(
         g,
-        given,
-        len,
-        ids,
+        &given[..many],
+        states,
+        &clues[..rooms],
         starts,
         flat,
-        count,
-        states,
-        &clues[..count],
-        buf,
+        buffer,
     )
 }
 
 // What stands wrong on a puzzle as it stands: the shape check, then the clued rooms in order, up to the first fault, whose list goes to the
 // buffer's front.
-pub fn ask(p: Puzzle, buf: &mut [u16]) -> Answer
-    ensures { λ r. ⌜ r ≡ askOf p (now (buf .entry)) .answer ⌝ }
-    ensures { λ _. ⌜ now (buf .exit) ≡ askOf p (now (buf .entry)) .buffer ⌝ }
+pub fn ask(p: Puzzle, buffer: &mut [u16]) -> Answer
+    ensures { λ r. ⌜ r ≡ askOf p (now (buffer .entry)) .answer ⌝ }
+    ensures { λ _. ⌜ now (buffer .exit) ≡ askOf p (now (buffer .entry)) .buffer ⌝ }
 {
-    let g = Grid {
-        height: p.board.grid.height,
-        width: p.board.grid.width,
+    let g = p.board.grid;
+    let z = Counts {
+        grid: g,
+        len: p.board.book.len,
+        given: p.given_len,
+        clues: p.clues_len,
     };
-    let mut ids = [0u16; 1024];
-    let mut starts = [0u16; 1024];
-    let mut flat = [0u16; 1024];
+    let mut starts = [0u16; limits::CELLS];
+    let mut flat = [0u16; limits::CELLS];
     let code = code_of(
-        g,
+        z,
         &p.board.book.states,
         &p.board.book.names,
-        p.board.book.len,
         &p.given,
-        p.given_len,
         &p.clues,
-        p.clues_len,
-        &mut ids,
         &mut starts,
         &mut flat,
     );
     if code != 0 {
         return Answer::Refused(code);
     }
-    if buf.len() < 9 * (p.board.grid.height * p.board.grid.width) {
+    if buffer.len() < 9 * (g.height * g.width) {
         return Answer::Refused(6);
     }
     find(
-        g,
+        z,
         &p.given,
-        p.given_len,
-        &ids,
-        &starts,
-        &flat,
         &p.board.book.states,
         &p.clues,
-        p.clues_len,
-        buf,
+        &starts,
+        &flat,
+        buffer,
     )
 }

@@ -13,7 +13,7 @@ use lib.Dec.{eqb, ltb}
 use lib.ListN.{getD, set}
 use Rattle.lists.proofs.Cases.{eq-or-ne, true-or-false}
 use Rattle.parts.specs.Parts.{Edge, over, root, begun}
-use Rattle.parts.specs.Flood.{Marked, blank}
+use Rattle.parts.specs.Flood.{HasMark, blank}
 use Rattle.parts.proofs.PartLaws.{root-le, joined-root, begun-first, begun-later}
 use Rattle.parts.proofs.UniteLaws.{begun-none, begun-within, begun-unite}
 use Rattle.parts.proofs.FloodLaws.{marked-other}
@@ -82,7 +82,7 @@ module _ (n m : ℕ) (us vs states : List ℕ) (k : Lent n m us vs states) where
 
 -- no marked vertex begins a part of E
 abbrev pub Behind : List Edge → List ℕ → Type 0
-Behind E marks = (c : ℕ) → Marked 0 marks c → root E c ≢ c
+Behind E marks = (c : ℕ) → HasMark 0 marks c → root E c ≢ c
 
 behind-set : (E : List Edge) (marks : List ℕ) (d : ℕ) → root E d ≢ d → Behind E marks → Behind E (set marks d 1)
 behind-set E marks d z w c m = ⊎-elim (λ (e : c ≡ d). rw e z) (λ (e : c ≢ d). w c (marked-other 0 marks d 1 c e m)) (eq-or-ne c d)

@@ -6,8 +6,9 @@ use mathlib.Core.Logic.{_⊎_, inl, inr, _≢_, ⊎-elim}
 use mathlib.Core.List.{List}
 use native.Mathlib.Omega.{arith}
 use lib.ListN.{getD, set, length, length-set}
+use Rattle.limits.specs.Limits.{mostCells}
 use Rattle.parts.specs.Parts.{Edge, begun}
-use Rattle.parts.specs.Flood.{Marked, Link, blank, Grown, Flooded, Swept}
+use Rattle.parts.specs.Flood.{HasMark, Link, blank, Grown, Flooded, Swept}
 use Rattle.parts.proofs.PartLaws.{begun-small}
 use Rattle.parts.proofs.PartLists.{within-ends}
 use Rattle.parts.proofs.FloodLaws.{link-joined, blank-le, blank-keeps, blank-set, grown-keeps, grow-start, grow-shut, grow-more, sweep-start, sweep-flood, sweep-skip}
@@ -25,18 +26,18 @@ none-on next at j z (later e o) = omega arith
 -- while u's list is tried: `at` is where what is left of it begins
 pub record Trying (head next to : List ℕ) (u : ℕ) (seen₀ seen : List ℕ) (at : ℕ) : Type 0 where
   pub tail : (j : ℕ) → OnList next at j → OnList next (getD head u 0) j
-  pub tried : (j : ℕ) → OnList next (getD head u 0) j → OnList next at j ⊎ Marked 0 seen (getD to j 0)
-  pub kept : (c : ℕ) → Marked 0 seen₀ c → Marked 0 seen c
+  pub tried : (j : ℕ) → OnList next (getD head u 0) j → OnList next at j ⊎ HasMark 0 seen (getD to j 0)
+  pub kept : (c : ℕ) → HasMark 0 seen₀ c → HasMark 0 seen c
   pub size : length seen ≡ length seen₀
   pub grows : (E : List Edge) (n : ℕ) (X : List ℕ) → Arcs E n head next to → u < n → Grown E 0 n u 1 (λ c. c ≡ u) X seen₀
       → Grown E 0 n u 1 (λ c. c ≡ u) X seen
 
-pub try-start : (head next to : List ℕ) (u : ℕ) (seen : List ℕ) (at : ℕ) → at ≡ getD head u 0 → Trying head next to u seen seen at
-try-start head next to u seen at e =
+pub try-start : {head next to seen : List ℕ} {u at : ℕ} → at ≡ getD head u 0 → Trying head next to u seen seen at
+try-start e =
     record { tail = λ j o. rw e at o; tried = λ j o. inl (rw e o); kept = λ c m. m; size = refl; grows = λ E n X a h g. g }
 
-module _ (head next to entry : List ℕ) (u left : ℕ) (w : Walk head next to entry u left) where
-  pub walk-on : u < 1024
+module _ {head next to entry : List ℕ} {u left : ℕ} (w : Walk head next to entry u left) where
+  pub walk-on : u < mostCells
   walk-on = omega (arith, w .from, w .arcs .few)
 
   fewer : blank 0 (w .size) (set entry u 1) + 1 ≡ blank 0 (w .size) entry
@@ -45,7 +46,7 @@ module _ (head next to entry : List ℕ) (u left : ℕ) (w : Walk head next to e
   pub some-left : 1 ≤ left
   some-left = omega (arith, fewer, w .deep)
 
-  module _ (seen : List ℕ) (at : ℕ) (k : Trying head next to u (set entry u 1) seen at) (h : 0 < at) where
+  module _ {seen : List ℕ} {at : ℕ} (k : Trying head next to u (set entry u 1) seen at) (h : 0 < at) where
     first : OnList next (getD head u 0) (at - 1)
     first = k .tail (at - 1) (here (omega arith))
 
@@ -53,7 +54,7 @@ module _ (head next to entry : List ℕ) (u left : ℕ) (w : Walk head next to e
     arc-low = w .arcs .low u (at - 1) (w .from) first
 
     -- the arc leads to a neighbour of u
-    module _ (v : ℕ) (ev : v ≡ getD to (at - 1) 0) where
+    module _ {v : ℕ} (ev : v ≡ getD to (at - 1) 0) where
       leads : (E : List Edge) (n : ℕ) → Arcs E n head next to → u < n → Link E u v
       leads E n a l = rw ev (a .sound u (at - 1) l first)
 
@@ -61,7 +62,7 @@ module _ (head next to entry : List ℕ) (u left : ℕ) (w : Walk head next to e
       below E n a l =
           ⊎-elim (λ m. within-ends n E u v (a .within) m .1) (λ m. within-ends n E v u (a .within) m .0) (leads E n a l)
 
-      pub arc-on : v < 1024
+      pub arc-on : v < mostCells
       arc-on = omega (arith, below (w .edges) (w .size) (w .arcs) (w .from), w .arcs .few)
 
       -- what the walk from v asks
@@ -78,8 +79,8 @@ module _ (head next to entry : List ℕ) (u left : ℕ) (w : Walk head next to e
           }
 
       -- the rest of the list, once v is marked and no mark is lost
-      rest : (seen' : List ℕ) (at' : ℕ) → at' ≡ getD next (at - 1) 0 → Marked 0 seen' v → ((c : ℕ) → Marked 0 seen c → Marked 0 seen' c)
-          → (j : ℕ) → OnList next (getD head u 0) j → OnList next at' j ⊎ Marked 0 seen' (getD to j 0)
+      rest : (seen' : List ℕ) (at' : ℕ) → at' ≡ getD next (at - 1) 0 → HasMark 0 seen' v → ((c : ℕ) → HasMark 0 seen c → HasMark 0 seen' c)
+          → (j : ℕ) → OnList next (getD head u 0) j → OnList next at' j ⊎ HasMark 0 seen' (getD to j 0)
       rest seen' at' e m f j o =
           ⊎-elim
           (λ i.
@@ -94,13 +95,13 @@ module _ (head next to entry : List ℕ) (u left : ℕ) (w : Walk head next to e
       onward : (at' : ℕ) → at' ≡ getD next (at - 1) 0 → (j : ℕ) → OnList next at' j → OnList next (getD head u 0) j
       onward at' e j o = k .tail j (later {k = at - 1} (omega arith) (rw e at o))
 
-      pub try-pass : (at' : ℕ) → at' ≡ getD next (at - 1) 0 → getD seen v 0 ≢ 0 → Trying head next to u (set entry u 1) seen at'
-      try-pass at' e z =
+      pub try-pass : {at' : ℕ} → at' ≡ getD next (at - 1) 0 → getD seen v 0 ≢ 0 → Trying head next to u (set entry u 1) seen at'
+      try-pass {at'} e z =
           record { tail = onward at' e; tried = rest seen at' e z (λ c m. m); kept = k .kept; size = k .size; grows = k .grows }
 
-      pub try-walk : (seen' : List ℕ) (at' : ℕ) → at' ≡ getD next (at - 1) 0 → getD seen v 0 ≡ 0 → Walked head next to seen v seen'
+      pub try-walk : {seen' : List ℕ} {at' : ℕ} → at' ≡ getD next (at - 1) 0 → getD seen v 0 ≡ 0 → Walked head next to seen v seen'
           → Trying head next to u (set entry u 1) seen' at'
-      try-walk seen' at' e z f =
+      try-walk {seen'} {at'} e z f =
           let long : w .size ≤ length seen = omega (arith, k .size, length-set entry u 1, w .long) in
           let own : Flooded (w .edges) 0 (w .size) v 1 seen seen' = f (w .edges) (w .size) (w .arcs) (below (w .edges) (w .size) (w .arcs) (w .from)) long z in
           record {
@@ -113,8 +114,8 @@ module _ (head next to entry : List ℕ) (u left : ℕ) (w : Walk head next to e
                 grow-more g' v (link-joined E u v (leads E n a l)) (f E n a (below E n a l) (g' .long) z);
           }
 
-  pub walk-done : (seen : List ℕ) (at : ℕ) → Trying head next to u (set entry u 1) seen at → at ≤ 0 → Walked head next to entry u seen
-  walk-done seen at k z E n a l long free =
+  pub walk-done : {seen : List ℕ} {at : ℕ} → Trying head next to u (set entry u 1) seen at → at ≤ 0 → Walked head next to entry u seen
+  walk-done {seen} {at} k z E n a l long free =
       let g : Grown E 0 n u 1 (λ c. c ≡ u) entry seen = k .grows E n entry a l (grow-start E 0 n u 1 entry l long free (λ q. omega arith)) in
       grow-shut g
       (λ c (q : c ≡ u).

@@ -1,4 +1,4 @@
--- Closed examples: the edges 0-1 and 1-2 of 01's examples, and a loop. Assumes nothing.
+-- Closed examples: the edges 0-1 and 1-2 of SPEC 7.6, and a loop. Assumes nothing.
 use mathlib.Core.Path.{_≡_, refl}
 use mathlib.Core.Bool.{true, false}
 use mathlib.Core.List.{[], _∷_}

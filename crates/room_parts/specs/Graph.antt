@@ -1,10 +1,11 @@
--- Room graphs (01, "Room graph") and the two counts of the room check (01, "Union and room count").
+-- Room graphs (SPEC 1.8) and the two counts of the room check (SPEC 4.14).
 -- Assumes nothing.
 use Prim.Native.Nat.{ℕ, zero, suc, _+_, _≤_, _<_}
 use mathlib.Core.Bool.{Bool, not}
 use mathlib.Core.List.{List, [], _∷_}
 use lib.Dec.{eqb, ltb}
 use lib.ListN.{getD, length, set}
+use Rattle.limits.specs.Limits.{mostCells, mostBorders}
 use Rattle.lists.specs.Choice.{both, pick}
 use Rattle.parts.specs.Parts.{Edge, edge, begun, root, merge}
 
@@ -49,16 +50,16 @@ unfoldable pub partsIf : (ℕ → Bool) → Graph → (ℕ → ℕ) → ℕ
 unfolding edgesIf begun root merge
 partsIf p g s = begun (edgesIf p g s (g .edges)) (g .vertices)
 
--- "Starting from the vertex count, each uniting Connected edge takes one": what is left is the number of parts
+-- the vertex count less one for each Connected edge that unites (SPEC 4.14): what is left is the number of parts
 abbrev pub connectedParts : Graph → (ℕ → ℕ) → ℕ
 connectedParts g s = partsIf isConnected g s
 
--- "once below the count": an edge united, and what is left is below the count
+-- a uniting edge left the number below the count (SPEC 4.14): some edge united, and what is left in the end is below the count
 unfoldable pub tippedOf : Graph → ℕ → (ℕ → ℕ) → Bool
 unfolding partsIf
 tippedOf g count s = both (ltb (connectedParts g s) count) (ltb (connectedParts g s) (g .vertices))
 
--- "the parts joined without Walls"
+-- the parts that the edges without the Walls make (SPEC 4.14)
 abbrev pub joinedParts : Graph → (ℕ → ℕ) → ℕ
 joinedParts g s = partsIf notWall g s
 
@@ -68,8 +69,8 @@ laterMarked k u v marks = pick (notWall k) (pick (ltb u v) (set marks v 1) (pick
 
 -- what the functions ask of n vertices and m edges that they are lent
 pub record Lent (n m : ℕ) (us vs states : List ℕ) : Type 0 where
-  pub few-vertices : n ≤ 1024
-  pub few-edges : m ≤ 1984
+  pub few-vertices : n ≤ mostCells
+  pub few-edges : m ≤ mostBorders
   pub us-long : m ≤ length us
   pub vs-long : m ≤ length vs
   pub states-long : m ≤ length states

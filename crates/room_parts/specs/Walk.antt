@@ -5,6 +5,7 @@ use Prim.Native.Nat.{ℕ, suc, _≤_, _<_}
 use mathlib.Core.Path.{_≡_}
 use mathlib.Core.List.{List}
 use lib.ListN.{getD, length}
+use Rattle.limits.specs.Limits.{mostCells}
 use Rattle.parts.specs.Parts.{Edge, Within, begun}
 use Rattle.parts.specs.Flood.{Link, Flooded, blank}
 
@@ -15,7 +16,7 @@ pub data OnList (next : List ℕ) : ℕ → ℕ → Type 0 where
 
 -- the lists of n vertices have exactly the links of E, and each list runs through falling numbers
 pub record Arcs (E : List Edge) (n : ℕ) (head next to : List ℕ) : Type 0 where
-  pub few : n ≤ 1024
+  pub few : n ≤ mostCells
   pub within : Within n E
   pub low : (u j : ℕ) → u < n → OnList next (getD head u 0) j → (j < 3968) × (getD next j 0 ≤ j)
   pub sound : (u j : ℕ) → u < n → OnList next (getD head u 0) j → Link E u (getD to j 0)

@@ -5,22 +5,18 @@ ghost use mathlib.Core.Path.{_≡_};
 ghost use Prim.Native.Nat.{_+_, _-_, _≤_, _<_};
 ghost use lib.Dec.{ltb};
 ghost use lib.ListN.{length, getD, set};
+ghost use Rattle.limits.specs.Limits.{mostCells, mostBorders};
 ghost use Rattle.lists.specs.Choice.{both, pick};
 ghost use Rattle.parts.specs.Flood.{blank};
 ghost use Rattle.union_find.specs.Chains.{united, hung};
 ghost use Rattle.union_find.specs.Requires.{Parents};
 ghost use Rattle.room_parts.specs.Walk.{Walk, Walked, Sweep, Counted};
 ghost use Rattle.room_parts.specs.Graph.{graph, statesIn, isState, isConnected, passing, tippedOf, joinedParts, laterMarked, Lent};
-
-// A 16-bit number as an index.
-fn wide(x: u16) -> usize
-    ensures { λ r. ⌜ r ≡ x ⌝ }
-{
-    x as usize
-}
+use limits::CELLS;
+use lists::wide;
 
 // Unites the ends of a Connected edge, and tells whether they were in two parts.
-fn take_edge(p: &mut [u16; 1024], n: usize, state: u8, u: usize, v: usize) -> bool
+fn take_edge(p: &mut [u16; CELLS], n: usize, state: u8, u: usize, v: usize) -> bool
     requires { ⌜ Parents n (now p) ⌝ }
     requires { ⌜ (u < n) × (v < n) ⌝ }
     ensures { λ r. ⌜ r ≡ both (isConnected state) (united n (now (p .entry)) u v) ⌝ }
@@ -34,7 +30,7 @@ fn take_edge(p: &mut [u16; 1024], n: usize, state: u8, u: usize, v: usize) -> bo
 
 // How many of the first `m` edges have the state `k`. The counter is narrow, so that the loop is compiled to take many states at a time.
 fn in_state(m: usize, states: &[u8], k: u8) -> usize
-    requires { ⌜ (m ≤ 1984) × (m ≤ length (now states)) ⌝ }
+    requires { ⌜ (m ≤ mostBorders) × (m ≤ length (now states)) ⌝ }
     ensures { λ r. ⌜ r ≡ passing (isState k) (statesIn (now (states .entry))) m ⌝ }
 {
     let mut r = 0u16;
@@ -70,7 +66,7 @@ fn counts_below<'a>(
     requires { ⌜ Lent n m (now us) (now vs) (now states) ⌝ }
     ensures { λ r. ⌜ r ≡ tippedOf (graph n m (now (us .entry)) (now (vs .entry))) count (statesIn (now (states .entry))) ⌝ }
 {
-    let mut p = [0u16; 1024];
+    let mut p = [0u16; CELLS];
     union_find::alone(&mut p, n);
     let mut left = n;
     let mut i = 0;
@@ -105,8 +101,8 @@ pub fn tipped<'a>(
 }
 
 // Marks the later end of an edge that is no Wall.
-fn mark_later(marks: &mut [u8; 1024], state: u8, u: usize, v: usize)
-    requires { ⌜ (u < 1024) × (v < 1024) ⌝ }
+fn mark_later(marks: &mut [u8; CELLS], state: u8, u: usize, v: usize)
+    requires { ⌜ (u < mostCells) × (v < mostCells) ⌝ }
     ensures { λ _. ⌜ now (marks .exit) ≡ laterMarked state u v (now (marks .entry)) ⌝ }
 {
     if state == 2 {
@@ -122,8 +118,8 @@ fn mark_later(marks: &mut [u8; 1024], state: u8, u: usize, v: usize)
 }
 
 // How many of the first `n` vertices have no mark.
-fn unmarked(marks: &[u8; 1024], n: usize) -> usize
-    requires { ⌜ n ≤ 1024 ⌝ }
+fn unmarked(marks: &[u8; CELLS], n: usize) -> usize
+    requires { ⌜ n ≤ mostCells ⌝ }
     ensures { λ r. ⌜ r ≡ blank 0 n (now (marks .entry)) ⌝ }
 {
     let mut k = 0u16;
@@ -142,7 +138,7 @@ fn most_parts<'a>(n: usize, m: usize, us: &'a [u16], vs: &'a [u16], states: &'a 
     requires { ⌜ Lent n m (now us) (now vs) (now states) ⌝ }
     ensures { λ r. ⌜ joinedParts (graph n m (now (us .entry)) (now (vs .entry))) (statesIn (now (states .entry))) ≤ r ⌝ }
 {
-    let mut marks = [0u8; 1024];
+    let mut marks = [0u8; CELLS];
     let mut i = 0;
     while i < m {
         mark_later(&mut marks, states[i], wide(us[i]), wide(vs[i]));
@@ -153,14 +149,14 @@ fn most_parts<'a>(n: usize, m: usize, us: &'a [u16], vs: &'a [u16], states: &'a 
 
 // Puts arc `k`, from `u` to `v`, at the front of `u`'s list.
 fn link(
-    head: &mut [u16; 1024],
+    head: &mut [u16; CELLS],
     next: &mut [u16; 3968],
     to: &mut [u16; 3968],
     k: usize,
     u: usize,
     v: usize,
 )
-    requires { ⌜ (k < 3968) × (u < 1024) × (v < 1024) ⌝ }
+    requires { ⌜ (k < 3968) × (u < mostCells) × (v < mostCells) ⌝ }
     ensures { λ _. ⌜ now (head .exit) ≡ set (now (head .entry)) u (k + 1) ⌝ }
     ensures { λ _. ⌜ now (next .exit) ≡ set (now (next .entry)) k (getD (now (head .entry)) u 0) ⌝ }
     ensures { λ _. ⌜ now (to .exit) ≡ set (now (to .entry)) k v ⌝ }
@@ -172,10 +168,10 @@ fn link(
 
 // Marks `u` and all that is joined to it. The walk calls itself, at most `left` deep.
 fn walk<'a>(
-    head: &'a [u16; 1024],
+    head: &'a [u16; CELLS],
     next: &'a [u16; 3968],
     to: &'a [u16; 3968],
-    seen: &mut [u8; 1024],
+    seen: &mut [u8; CELLS],
     u: usize,
     left: usize,
 )
@@ -196,10 +192,10 @@ fn walk<'a>(
 
 // Walks from each vertex without a mark, and counts these walks: one a part.
 fn sweep<'a>(
-    head: &'a [u16; 1024],
+    head: &'a [u16; CELLS],
     next: &'a [u16; 3968],
     to: &'a [u16; 3968],
-    seen: &mut [u8; 1024],
+    seen: &mut [u8; CELLS],
     n: usize,
 ) -> usize
     requires { ⌜ Sweep n (now head) (now next) (now to) (now seen) ⌝ }
@@ -222,7 +218,7 @@ fn joined_parts<'a>(n: usize, m: usize, us: &'a [u16], vs: &'a [u16], states: &'
     requires { ⌜ Lent n m (now us) (now vs) (now states) ⌝ }
     ensures { λ r. ⌜ r ≡ joinedParts (graph n m (now (us .entry)) (now (vs .entry))) (statesIn (now (states .entry))) ⌝ }
 {
-    let mut head = [0u16; 1024];
+    let mut head = [0u16; CELLS];
     let mut next = [0u16; 3968];
     let mut to = [0u16; 3968];
     let mut arcs = 0;
@@ -237,7 +233,7 @@ fn joined_parts<'a>(n: usize, m: usize, us: &'a [u16], vs: &'a [u16], states: &'
         }
         i += 1;
     }
-    let mut seen = [0u8; 1024];
+    let mut seen = [0u8; CELLS];
     sweep(&head, &next, &to, &mut seen, n)
 }
 

@@ -1,162 +1,202 @@
--- The edges of a room, written one behind the other: what is left to write, written from m on, gives the whole.
+-- The edges of a room, gone through in two looks a cell: what is left to write, written behind what is written, gives the whole.
 -- Assumes nothing.
-use Prim.Native.Nat.{ℕ, suc, _+_, _*_, _≤_, _<_}
-use mathlib.Core.Path.{_≡_, refl, ap, sym, _∙_}
-use mathlib.Core.Bool.{Bool}
+use Prim.Native.Nat.{ℕ, suc, _+_, _*_, _/_, _%_, _≤_, _<_}
+use mathlib.Core.Path.{_≡_, refl, ap, _∙_}
+use mathlib.Core.Logic.{_≢_, ⊎-elim}
+use mathlib.Core.Bool.{Bool, true, false}
 use mathlib.Core.List.{List, [], _∷_, _++_, map, append-assoc, append-nil}
 use native.Mathlib.Omega.{arith}
 use native.Mathlib.Numerals.{add-one}
-use lib.ListN.{length, getD, drop, length-append, drop-of-length-le}
-use lib.Seq.{sets, length-sets, drop-cons}
+use borrow.Author.Tests.{eq-eqb, ne-eqb}
+use lib.Dec.{eqb}
+use lib.ListN.{length, getD, drop, set, length-set, drop-of-length-le}
+use lib.Seq.{sets, drop-cons}
+use Rattle.lists.specs.Choice.{pick, when}
 use Rattle.lists.specs.Lists.{gather}
-use Rattle.lists.proofs.ListLaws.{getD-in}
-use Rattle.lists.proofs.SetsLaws.{sets-append}
+use Rattle.lists.proofs.Cases.{eq-or-ne}
 use Rattle.grid.specs.declared.Direction.{Direction}
 use Rattle.grid.specs.declared.Direction.the-variants.{Down, Right}
 use Rattle.grid.specs.declared.Grid.{Grid}
-use Rattle.grid.specs.Grid.{cells, Cell}
-use Rattle.boundary.proofs.Lengths.{when-most}
-use Rattle.boundary.proofs.BoundaryLaws.{cells-most}
-use Rattle.groups.specs.Groups.{cellsOf}
-use Rattle.groups.proofs.GroupLaws.{in-cells}
-use Rattle.rooms.specs.RoomGraph.{Spot, inRoom, spotsAt, spots, fromOf, intoOf, borderOf}
-use Rattle.rooms.specs.Lent.{Space, Written}
+use Rattle.grid.specs.Orders.{forward}
+use Rattle.borders.specs.Entry.{entryOf}
+use Rattle.rooms.specs.RoomGraph.{Spot, isIn, inRoom, spotsAt, spots, fromOf, intoOf, borderOf, kindOf, roomEntries}
+use Rattle.rooms.specs.Lent.{Written}
 
-map-append : (f : Spot → ℕ) (xs ys : List Spot) → map f (xs ++ ys) ≡ map f xs ++ map f ys
-map-append f [] ys = refl
-map-append f (x ∷ xs) ys = ap (λ l. f x ∷ l) (map-append f xs ys)
+-- down for each even number, right for each odd one
+abbrev pub wayOf : ℕ → Direction
+wayOf i = pick (eqb (i % 2) 0) Down Right
 
-map-length : (f : Spot → ℕ) (xs : List Spot) → length (map f xs) ≡ length xs
-map-length f [] = refl
-map-length f (x ∷ xs) = ap suc (map-length f xs)
+module _ (g : Grid) (given : ℕ → Bool) (cs : List ℕ) where
+  abbrev ss : List Spot
+  ss = spots g given cs
 
--- some are written, and the others are left
-through : (f : Spot → ℕ) (done left : List Spot) (l l' : List ℕ) (m m' : ℕ) → l' ≡ sets l m (map f done) → m' ≡ m + length done
-    → sets l m (map f (done ++ left)) ≡ sets l' m' (map f left)
-through f done left l l' m m' p q =
-    rw (map-append f done left, sets-append (map f done) (map f left) l m, map-length f done, p, q)
+  -- the i-th look
+  abbrev pub spotAt : ℕ → Spot
+  spotAt i = record { cell = getD cs (i / 2) 0; direction = wayOf i }
 
-kept-long : (f : Spot → ℕ) (ss : List Spot) (l l' : List ℕ) (k : ℕ) → l' ≡ sets l k (map f ss) → length l' ≡ length l
-kept-long f ss l l' k q = ap length q ∙ length-sets l k (map f ss)
+  abbrev pub edgeAt : ℕ → Bool
+  edgeAt i = inRoom g given (isIn cs) (getD cs (i / 2) 0) (wayOf i)
 
-module _ (g : Grid) (given : ℕ → Bool) (ids : List ℕ) (r : ℕ) where
   abbrev look : ℕ → List Spot
-  look c = gather (spotsAt g given ids r c) (Down ∷ Right ∷ [])
+  look c = gather (spotsAt g given cs c) forward
 
-  -- the edges from the i-th cell on
+  -- the edges from the i-th look on
   pub rest : ℕ → List Spot
-  rest i = gather look (drop i (cellsOf g ids r))
+  rest i = pick (eqb (i % 2) 0) (gather look (drop (i / 2) cs)) (spotsAt g given cs (getD cs (i / 2) 0) Right ++ gather look (drop (suc (i / 2)) cs))
 
-  rest-all : rest 0 ≡ spots g given ids r
+  rest-all : rest 0 ≡ spots g given cs
   unfolding rest spots
   rest-all = refl
 
-  rest-none : (i : ℕ) → length (cellsOf g ids r) ≤ i → rest i ≡ []
+  rest-none : (i : ℕ) → 2 * length cs ≤ i → i ≤ 2 * length cs → rest i ≡ []
   unfolding rest gather
-  rest-none i h = rw (drop-of-length-le (cellsOf g ids r) {i = i} h)
+  rest-none i h l =
+      let a : i % 2 ≡ 0 = omega arith in
+      let b : length cs ≤ i / 2 = omega arith in
+      rw (eq-eqb (i % 2) 0 a, drop-of-length-le cs {i = i / 2} b)
 
-  rest-turn : (i : ℕ) → i < length (cellsOf g ids r)
-      → rest i ≡ spotsAt g given ids r (getD (cellsOf g ids r) i 0) Down ++ (spotsAt g given ids r (getD (cellsOf g ids r) i 0) Right ++ rest (i + 1))
-  unfolding rest gather
+  rest-turn : (i : ℕ) → i < 2 * length cs → rest i ≡ when (edgeAt i) (spotAt i) ++ rest (i + 1)
+  unfolding rest gather spotsAt
   rest-turn i h =
-      let c = getD (cellsOf g ids r) i 0 in
-      let down = spotsAt g given ids r c Down in
-      let right = spotsAt g given ids r c Right in
-      rw (drop-cons (cellsOf g ids r) i 0 h, add-one, append-nil right) (append-assoc down right (gather look (drop (suc i) (cellsOf g ids r))))
+      let k : i / 2 < length cs = omega arith in
+      ⊎-elim
+      (λ (q : i % 2 ≡ 0).
+      let a : (i + 1) % 2 ≢ 0 = λ e. omega arith in
+      let b : (i + 1) / 2 ≡ i / 2 = omega arith in
+      let c = getD cs (i / 2) 0 in
+      rw (eq-eqb (i % 2) 0 q, ne-eqb ((i + 1) % 2) 0 a, b, drop-cons cs (i / 2) 0 k, append-nil (spotsAt g given cs c Right))
+      (append-assoc (spotsAt g given cs c Down) (spotsAt g given cs c Right) (gather look (drop (suc (i / 2)) cs))))
+      (λ (q : i % 2 ≢ 0).
+      let a : (i + 1) % 2 ≡ 0 = omega arith in
+      let b : (i + 1) / 2 ≡ suc (i / 2) = omega arith in
+      rw (ne-eqb (i % 2) 0 q, eq-eqb ((i + 1) % 2) 0 a, b))
+      (eq-or-ne (i % 2) 0)
 
-  one-most : (c : ℕ) (d : Direction) → length (spotsAt g given ids r c d) ≤ 1
-  unfolding spotsAt
-  one-most c d = when-most (inRoom g given ids r c d) (record { cell = c; direction = d })
+  rest-skip : (i : ℕ) → i < 2 * length cs → edgeAt i ≡ false → rest i ≡ rest (i + 1)
+  unfolding when
+  rest-skip i h q = rest-turn i h ∙ rw q
 
-  -- after the first i cells m edges are written
-  pub record Writing (us₀ vs₀ borders₀ us vs borders : List ℕ) (m i : ℕ) : Type 0 where
-    pub within : i ≤ length (cellsOf g ids r)
-    pub few : m ≤ 2 * i
-    pub counted : m + length (rest i) ≡ length (spots g given ids r)
-    pub us-long : length us ≡ length us₀
-    pub vs-long : length vs ≡ length vs₀
-    pub borders-long : length borders ≡ length borders₀
-    pub us-are : sets us m (map (fromOf g ids r) (rest i)) ≡ sets us₀ 0 (map (fromOf g ids r) (spots g given ids r))
-    pub vs-are : sets vs m (map (intoOf g ids r) (rest i)) ≡ sets vs₀ 0 (map (intoOf g ids r) (spots g given ids r))
-    pub borders-are : sets borders m (map (borderOf g) (rest i)) ≡ sets borders₀ 0 (map (borderOf g) (spots g given ids r))
+  rest-one : (i : ℕ) → i < 2 * length cs → edgeAt i ≡ true → rest i ≡ spotAt i ∷ rest (i + 1)
+  unfolding when
+  rest-one i h q = rest-turn i h ∙ rw q
 
-  pub writing-none : (us vs borders : List ℕ) → Writing us vs borders us vs borders 0 0
-  writing-none us vs borders =
+  -- ENDS AND STATES
+  -- a number for each edge, in a slice: m are written
+  pub record Writes (f : Spot → ℕ) (l₀ l : List ℕ) (m i : ℕ) : Type 0 where
+    pub long : length l ≡ length l₀
+    pub are : sets l m (map f (rest i)) ≡ sets l₀ 0 (map f (spots g given cs))
+
+  writes-skip : (f : Spot → ℕ) (l₀ l : List ℕ) (m i : ℕ) → i < 2 * length cs → edgeAt i ≡ false → Writes f l₀ l m i → Writes f l₀ l m (i + 1)
+  writes-skip f l₀ l m i h q w = record { long = w .long; are = rw (rest-skip i h q) at (w .are) }
+
+  writes-one : (f : Spot → ℕ) (l₀ l : List ℕ) (m i v : ℕ) → i < 2 * length cs → edgeAt i ≡ true → v ≡ f (spotAt i) → Writes f l₀ l m i → Writes f l₀ (set l m v) (m + 1) (i + 1)
+  writes-one f l₀ l m i v h q e w = record { long = simp length-set (w .long); are = rw (e, add-one m) (rw (rest-one i h q) at (w .are)) }
+
+  pub record Writing (states us₀ vs₀ here₀ us vs here : List ℕ) (m i : ℕ) : Type 0 where
+    pub within : i ≤ 2 * length cs
+    pub few : m ≤ i
+    pub counted : m + length (rest i) ≡ length (spots g given cs)
+    pub us-are : Writes (fromOf cs) us₀ us m i
+    pub vs-are : Writes (intoOf g cs) vs₀ vs m i
+    pub here-are : Writes (λ s. getD states (borderOf g s) 0) here₀ here m i
+
+  pub writing-none : (states us vs here : List ℕ) → Writing states us vs here us vs here 0 0
+  writing-none states us vs here =
       record {
         within = omega arith;
         few = omega arith;
         counted = omega (arith, ap length rest-all);
-        us-long = refl;
-        vs-long = refl;
-        borders-long = refl;
-        us-are = rw rest-all;
-        vs-are = rw rest-all;
-        borders-are = rw rest-all;
+        us-are = record { long = refl; are = rw rest-all };
+        vs-are = record { long = refl; are = rw rest-all };
+        here-are = record { long = refl; are = rw rest-all };
       }
 
-  module _ (us₀ vs₀ borders₀ us vs borders : List ℕ) (m i : ℕ) (w : Writing us₀ vs₀ borders₀ us vs borders m i) where
-    pub writing-cell : i < length (cellsOf g ids r) → Cell g (getD (cellsOf g ids r) i 0) × (getD ids (getD (cellsOf g ids r) i 0) 0 ≡ r)
-    writing-cell h = in-cells g ids r (getD (cellsOf g ids r) i 0) (getD-in 0 (cellsOf g ids r) i h)
-
-    -- there is a place for one edge more
-    pub space-first : i < length (cellsOf g ids r) → cells g ≤ 1024 → Space us₀ vs₀ borders₀ 2048 → Space us vs borders (m + 1)
-    space-first h l s =
-        let most = cells-most g ids r in
+  module _ (states us₀ vs₀ here₀ us vs here : List ℕ) (m i : ℕ) (w : Writing states us₀ vs₀ here₀ us vs here m i) where
+    pub writing-skip : i < 2 * length cs → inRoom g given (isIn cs) (getD cs (i / 2) 0) (wayOf i) ≡ false → Writing states us₀ vs₀ here₀ us vs here m (i + 1)
+    writing-skip h q =
         record {
-          us-long = omega (arith, w .few, w .us-long, s .us-long);
-          vs-long = omega (arith, w .few, w .vs-long, s .vs-long);
-          borders-long = omega (arith, w .few, w .borders-long, s .borders-long);
+          within = omega arith;
+          few = omega (arith, w .few);
+          counted = omega (arith, w .counted, ap length (rest-skip i h q));
+          us-are = writes-skip (fromOf cs) us₀ us m i h q (w .us-are);
+          vs-are = writes-skip (intoOf g cs) vs₀ vs m i h q (w .vs-are);
+          here-are = writes-skip (λ s. getD states (borderOf g s) 0) here₀ here m i h q (w .here-are);
         }
 
-    pub space-second : i < length (cellsOf g ids r) → cells g ≤ 1024 → Space us₀ vs₀ borders₀ 2048 → (c : ℕ) (d : Direction) (us₁ vs₁ borders₁ : List ℕ) (m₁ : ℕ)
-        → Written g ids r (spotsAt g given ids r c d) us vs borders m us₁ vs₁ borders₁ m₁ → Space us₁ vs₁ borders₁ (m₁ + 1)
-    space-second h l s c d us₁ vs₁ borders₁ m₁ a =
-        let most = cells-most g ids r in
-        let one = one-most c d in
-        let ss : List Spot = spotsAt g given ids r c d in
-        let few : m₁ + 1 ≤ 2048 = omega (arith, w .few, a .count-is) in
+    pub writing-one : i < 2 * length cs → inRoom g given (isIn cs) (getD cs (i / 2) 0) (wayOf i) ≡ true → (u v k : ℕ) → u ≡ fromOf cs (spotAt i) → v ≡ intoOf g cs (spotAt i)
+        → k ≡ getD states (borderOf g (spotAt i)) 0 → Writing states us₀ vs₀ here₀ (set us m u) (set vs m v) (set here m k) (m + 1) (i + 1)
+    writing-one h q u v k a b c =
         record {
-          us-long = omega (arith, w .us-long, s .us-long, kept-long (fromOf g ids r) ss us us₁ m (a .us-are));
-          vs-long = omega (arith, w .vs-long, s .vs-long, kept-long (intoOf g ids r) ss vs vs₁ m (a .vs-are));
-          borders-long = omega (arith, w .borders-long, s .borders-long, kept-long (borderOf g) ss borders borders₁ m (a .borders-are));
+          within = omega arith;
+          few = omega (arith, w .few);
+          counted = omega (arith, w .counted, ap length (rest-one i h q));
+          us-are = writes-one (fromOf cs) us₀ us m i u h q a (w .us-are);
+          vs-are = writes-one (intoOf g cs) vs₀ vs m i v h q b (w .vs-are);
+          here-are = writes-one (λ s. getD states (borderOf g s) 0) here₀ here m i k h q c (w .here-are);
         }
 
-    pub writing-all : length (cellsOf g ids r) ≤ i → Written g ids r (spots g given ids r) us₀ vs₀ borders₀ 0 us vs borders m
+    pub writing-all : 2 * length cs ≤ i → Written g given states cs us₀ vs₀ here₀ us vs here m
     writing-all h =
-        let none = rest-none i h in
+        let none = rest-none i h (w .within) in
         record {
           count-is = omega (arith, w .counted, ap length none);
-          us-are = rw none at (w .us-are);
-          vs-are = rw none at (w .vs-are);
-          borders-are = rw none at (w .borders-are);
+          us-are = rw none at (w .us-are .are);
+          vs-are = rw none at (w .vs-are .are);
+          here-are = rw none at (w .here-are .are);
         }
 
-    -- a cell's two edges
-    module _ (h : i < length (cellsOf g ids r)) (us₁ vs₁ borders₁ us₂ vs₂ borders₂ : List ℕ) (m₁ m₂ : ℕ)
-        (a : Written g ids r (spotsAt g given ids r (getD (cellsOf g ids r) i 0) Down) us vs borders m us₁ vs₁ borders₁ m₁)
-        (b : Written g ids r (spotsAt g given ids r (getD (cellsOf g ids r) i 0) Right) us₁ vs₁ borders₁ m₁ us₂ vs₂ borders₂ m₂) where
-      abbrev down : List Spot
-      down = spotsAt g given ids r (getD (cellsOf g ids r) i 0) Down
+  -- ENTRIES
+  module _ (wall : Bool) (s : ℕ → ℕ) where
+    abbrev entryAt : Spot → List ℕ
+    entryAt x = when (eqb (s (borderOf g x)) (kindOf wall)) (entryOf wall (borderOf g x))
 
-      abbrev right : List Spot
-      right = spotsAt g given ids r (getD (cellsOf g ids r) i 0) Right
+    abbrev left : ℕ → List ℕ
+    left i = gather entryAt (rest i)
 
-      two : (f : Spot → ℕ) (l l₁ l₂ : List ℕ) → l₁ ≡ sets l m (map f down) → l₂ ≡ sets l₁ m₁ (map f right) → sets l₂ m₂ (map f (rest (i + 1))) ≡ sets l m (map f (rest i))
-      two f l l₁ l₂ p q =
-          sym
-          (ap (λ x. sets l m (map f x)) (rest-turn i h) ∙ through f down (right ++ rest (i + 1)) l l₁ m m₁ p (a .count-is) ∙ through f right (rest (i + 1)) l₁ l₂ m₁ m₂ q (b .count-is))
+    -- after i looks n entries are written
+    pub record Listing (buffer₀ buffer : List ℕ) (n i : ℕ) : Type 0 where
+      pub within : i ≤ 2 * length cs
+      pub few : n ≤ i
+      pub counted : n + length (left i) ≡ length (roomEntries g given cs wall s)
+      pub long : length buffer ≡ length buffer₀
+      pub are : sets buffer n (left i) ≡ sets buffer₀ 0 (roomEntries g given cs wall s)
 
-      pub writing-turn : Writing us₀ vs₀ borders₀ us₂ vs₂ borders₂ m₂ (i + 1)
-      writing-turn =
-          let c = getD (cellsOf g ids r) i 0 in
+    left-all : left 0 ≡ roomEntries g given cs wall s
+    unfolding roomEntries
+    left-all = rw rest-all
+
+    pub listing-none : (buffer : List ℕ) → Listing buffer buffer 0 0
+    listing-none buffer =
+        record { within = omega arith; few = omega arith; counted = omega (arith, ap length left-all); long = refl; are = rw left-all }
+
+    module _ (buffer₀ buffer : List ℕ) (n i : ℕ) (w : Listing buffer₀ buffer n i) where
+      -- nothing to write
+      pass : i < 2 * length cs → left i ≡ left (i + 1) → Listing buffer₀ buffer n (i + 1)
+      pass h q =
+          record { within = omega arith; few = omega (arith, w .few); counted = omega (arith, w .counted, ap length q); long = w .long; are = rw q at (w .are) }
+
+      pub listing-skip : i < 2 * length cs → inRoom g given (isIn cs) (getD cs (i / 2) 0) (wayOf i) ≡ false → Listing buffer₀ buffer n (i + 1)
+      listing-skip h q = pass h (rw (rest-skip i h q))
+
+      pub listing-other : i < 2 * length cs → inRoom g given (isIn cs) (getD cs (i / 2) 0) (wayOf i) ≡ true → s (borderOf g (spotAt i)) ≢ kindOf wall → Listing buffer₀ buffer n (i + 1)
+      unfolding gather when
+      listing-other h q z = pass h (rw (rest-one i h q, ne-eqb (s (borderOf g (spotAt i))) (kindOf wall) z))
+
+      pub listing-one : i < 2 * length cs → inRoom g given (isIn cs) (getD cs (i / 2) 0) (wayOf i) ≡ true → s (borderOf g (spotAt i)) ≡ kindOf wall
+          → Listing buffer₀ (set buffer n (entryOf wall (borderOf g (spotAt i)))) (n + 1) (i + 1)
+      unfolding gather when
+      listing-one h q z =
+          let one : left i ≡ entryOf wall (borderOf g (spotAt i)) ∷ left (i + 1) = rw (rest-one i h q, eq-eqb (s (borderOf g (spotAt i))) (kindOf wall) z) in
           record {
             within = omega arith;
-            few = omega (arith, w .few, a .count-is, b .count-is, one-most c Down, one-most c Right);
-            counted = omega (arith, w .counted, a .count-is, b .count-is, ap length (rest-turn i h), length-append down (right ++ rest (i + 1)), length-append right (rest (i + 1)));
-            us-long = kept-long _ right us₁ us₂ m₁ (b .us-are) ∙ kept-long _ down us us₁ m (a .us-are) ∙ w .us-long;
-            vs-long = kept-long _ right vs₁ vs₂ m₁ (b .vs-are) ∙ kept-long _ down vs vs₁ m (a .vs-are) ∙ w .vs-long;
-            borders-long = kept-long _ right borders₁ borders₂ m₁ (b .borders-are) ∙ kept-long _ down borders borders₁ m (a .borders-are) ∙ w .borders-long;
-            us-are = two (fromOf g ids r) us us₁ us₂ (a .us-are) (b .us-are) ∙ w .us-are;
-            vs-are = two (intoOf g ids r) vs vs₁ vs₂ (a .vs-are) (b .vs-are) ∙ w .vs-are;
-            borders-are = two (borderOf g) borders borders₁ borders₂ (a .borders-are) (b .borders-are) ∙ w .borders-are;
+            few = omega (arith, w .few);
+            counted = omega (arith, w .counted, ap length one);
+            long = simp length-set (w .long);
+            are = rw (add-one n) (rw one at (w .are));
           }
+
+      pub listing-all : 2 * length cs ≤ i → (n ≡ length (roomEntries g given cs wall s)) × (buffer ≡ sets buffer₀ 0 (roomEntries g given cs wall s))
+      unfolding gather
+      listing-all h =
+          let none : left i ≡ [] = rw (rest-none i h (w .within)) in
+          (omega (arith, w .counted, ap length none), rw none at (w .are))

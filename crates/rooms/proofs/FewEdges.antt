@@ -3,11 +3,12 @@
 use Prim.Native.Nat.{ℕ, _+_, _≤_, _<_}
 use mathlib.Core.Path.{_≡_, refl, ap, sym, _∙_, subst}
 use mathlib.Core.Logic.{inl, inr, _≢_, ⊎-elim}
-use mathlib.Core.Bool.{Bool, true}
+use mathlib.Core.Bool.{Bool, true, not}
 use mathlib.Core.List.{List, [], _∷_, _++_, map, append-nil}
 use native.Mathlib.Omega.{arith}
 use borrow.Author.Tests.{ltb-true}
 use lib.ListN.{length, length-map}
+use Rattle.lists.specs.Choice.{both}
 use Rattle.lists.specs.Lists.{In, count, gather}
 use Rattle.lists.proofs.Cases.{le-or-lt, eq-or-ne}
 use Rattle.lists.proofs.ChoiceLaws.{both-true}
@@ -17,13 +18,13 @@ use Rattle.grid.specs.declared.Direction.{Direction}
 use Rattle.grid.specs.declared.Direction.the-variants.{Down, Right}
 use Rattle.grid.specs.declared.Grid.{Grid}
 use Rattle.grid.specs.Grid.{Cell, col, goesOn, next, border, borderCount}
+use Rattle.grid.specs.Orders.{forward}
 use Rattle.grid.specs.Steps.{Step}
 use Rattle.grid.proofs.Geometry.{goes-step, one-pair, border-lt, cell-wide}
 use Rattle.boundary.proofs.Lengths.{when-most}
-use Rattle.groups.specs.Groups.{cellsOf}
-use Rattle.groups.proofs.GroupLaws.{in-cells}
-use Rattle.rooms.specs.RoomGraph.{Spot, inRoom, spotsAt, spots, borderOf}
-use Rattle.rooms.proofs.Places.{in-map, map-in, cells-rising, once}
+use Rattle.rooms.specs.RoomGraph.{Spot, isIn, inRoom, spotsAt, spots, borderOf}
+use Rattle.rooms.proofs.Places.{in-map, map-in, Rising, once}
+use Rattle.rooms.proofs.RoomLaws.{is-in}
 
 -- WHAT IS GATHERED ONCE
 more : (x y : ℕ) (ys : List ℕ) → count x ys ≤ count x (y ∷ ys)
@@ -64,33 +65,33 @@ count-short e (x ∷ l) = ⊎-elim (λ (q : x ≡ e). rw q (omega (arith, count-
 
 -- BORDERS
 -- down and right lead to a later cell
-later : (g : Grid) (d : Direction) (c : ℕ) → In d (Down ∷ Right ∷ []) → Cell g c → c < next g d c
+later : (g : Grid) (d : Direction) (c : ℕ) → In d forward → Cell g c → c < next g d c
 unfolding next
 later g d c m l = ⊎-elim (λ (q : d ≡ Down). rw q (omega (arith, cell-wide g c l))) (λ k. ⊎-elim (λ (q : d ≡ Right). rw q (omega arith)) (λ z. absurd z) k) m
 
-module _ (g : Grid) (given : ℕ → Bool) (ids : List ℕ) (r : ℕ) where
+module _ (g : Grid) (given : ℕ → Bool) (cs : List ℕ) where
   abbrev look : ℕ → List Spot
-  look c = gather (spotsAt g given ids r c) (Down ∷ Right ∷ [])
+  look c = gather (spotsAt g given cs c) forward
 
   -- a cell's border down or right, over which the board goes on
   record Over (c e : ℕ) : Type 0 where
     way : Direction
-    ahead : In way (Down ∷ Right ∷ [])
+    ahead : In way forward
     goes : goesOn g way c ≡ true
     is : e ≡ border g way c
 
   -- what an edge's border is
-  spot-facts : (c e : ℕ) (d : Direction) → In e (map (borderOf g) (spotsAt g given ids r c d)) → (goesOn g d c ≡ true) × (e ≡ border g d c)
+  spot-facts : (c e : ℕ) (d : Direction) → In e (map (borderOf g) (spotsAt g given cs c d)) → (goesOn g d c ≡ true) × (e ≡ border g d c)
   unfolding spotsAt inRoom
   spot-facts c e d i =
-      let o = in-map (borderOf g) (spotsAt g given ids r c d) e i in
-      let w = in-when (inRoom g given ids r c d) (record { cell = c; direction = d }) (o .0) (o .1) in
+      let o = in-map (borderOf g) (spotsAt g given cs c d) e i in
+      let w = in-when (inRoom g given (isIn cs) c d) (record { cell = c; direction = d }) (o .0) (o .1) in
       (both-true (goesOn g d c) _ (w .0) .0, o .2 ∙ ap (borderOf g) (w .1))
 
   spot-over : (c : ℕ) (s : Spot) → In s (look c) → Over c (borderOf g s)
   spot-over c s m =
-      let d = in-gather (spotsAt g given ids r c) (Down ∷ Right ∷ []) s m in
-      let f = spot-facts c (borderOf g s) (d .0) (map-in (borderOf g) (spotsAt g given ids r c (d .0)) s (d .2)) in
+      let d = in-gather (spotsAt g given cs c) forward s m in
+      let f = spot-facts c (borderOf g s) (d .0) (map-in (borderOf g) (spotsAt g given cs c (d .0)) s (d .2)) in
       record { way = d .0; ahead = d .1; goes = f .0; is = f .1 }
 
   look-over : (c e : ℕ) → In e (map (borderOf g) (look c)) → Over c e
@@ -108,7 +109,7 @@ module _ (g : Grid) (given : ℕ → Bool) (ids : List ℕ) (r : ℕ) where
       (one-pair g c (next g (o .way) c) c' (next g (o' .way) c') e (o .way, over-step c e l o) (o' .way, over-step c' e l' o'))
 
   -- and once: down and right have different borders
-  down-or-right : (c e : ℕ) → Cell g c → In e (map (borderOf g) (spotsAt g given ids r c Down)) → In e (map (borderOf g) (spotsAt g given ids r c Right)) → ⊥
+  down-or-right : (c e : ℕ) → Cell g c → In e (map (borderOf g) (spotsAt g given cs c Down)) → In e (map (borderOf g) (spotsAt g given cs c Right)) → ⊥
   unfolding next goesOn
   down-or-right c e l i j =
       let a = spot-facts c e Down i in
@@ -118,22 +119,22 @@ module _ (g : Grid) (given : ℕ → Bool) (ids : List ℕ) (r : ℕ) where
       let wide : col g c + 1 < g .width = ltb-true (col g c + 1) (g .width) (b .0) in
       ⊎-elim (λ k. omega (arith, k .1)) (λ k. omega (arith, k .0)) (one-pair g c (next g Down c) c (next g Right c) e (Down, down) (Right, right))
 
-  one-most : (c e : ℕ) (d : Direction) → count e (map (borderOf g) (spotsAt g given ids r c d)) ≤ 1
+  one-most : (c e : ℕ) (d : Direction) → count e (map (borderOf g) (spotsAt g given cs c d)) ≤ 1
   unfolding spotsAt
   one-most c e d =
       omega (
         arith,
-        count-short e (map (borderOf g) (spotsAt g given ids r c d)),
-        length-map (spotsAt g given ids r c d) (borderOf g),
-        when-most {A = Spot} (inRoom g given ids r c d) (record { cell = c; direction = d }),
+        count-short e (map (borderOf g) (spotsAt g given cs c d)),
+        length-map (spotsAt g given cs c d) (borderOf g),
+        when-most {A = Spot} (inRoom g given (isIn cs) c d) (record { cell = c; direction = d }),
       )
 
   cell-once : (c e : ℕ) → Cell g c → count e (map (borderOf g) (look c)) ≤ 1
   unfolding gather
   cell-once c e l =
-      let down = map (borderOf g) (spotsAt g given ids r c Down) in
-      let right = map (borderOf g) (spotsAt g given ids r c Right) in
-      rw (append-nil (spotsAt g given ids r c Right), map-append (borderOf g) (spotsAt g given ids r c Down) (spotsAt g given ids r c Right), count-append e down right)
+      let down = map (borderOf g) (spotsAt g given cs c Down) in
+      let right = map (borderOf g) (spotsAt g given cs c Right) in
+      rw (append-nil (spotsAt g given cs c Right), map-append (borderOf g) (spotsAt g given cs c Down) (spotsAt g given cs c Right), count-append e down right)
       (⊎-elim
       (λ (k : count e down ≤ 0). omega (arith, one-most c e Right))
       (λ (k : 0 < count e down).
@@ -143,28 +144,40 @@ module _ (g : Grid) (given : ℕ → Bool) (ids : List ℕ) (r : ℕ) where
       (le-or-lt (count e right) 0))
       (le-or-lt (count e down) 0))
 
-  borders-once : (e : ℕ) → count e (map (borderOf g) (spots g given ids r)) ≤ 1
-  unfolding spots
-  borders-once e =
-      rw (map-gather (borderOf g) look (cellsOf g ids r))
-      (gather-once (λ c. map (borderOf g) (look c)) e (cellsOf g ids r)
-      (λ c m. cell-once c e (in-cells g ids r c m .0))
-      (λ c c' m n i j. one-cell c c' e (in-cells g ids r c m .0) (in-cells g ids r c' n .0) (look-over c e i) (look-over c' e j))
-      (once (cellsOf g ids r) (λ i j h b q. omega (arith, cells-rising g ids r i j h b))))
+  -- an edge's ends are in the room
+  pub spot-ends : (s : Spot) → In s (spots g given cs) → In (s .cell) cs × In (next g (s .direction) (s .cell)) cs
+  unfolding spots spotsAt inRoom
+  spot-ends s m =
+      let c = in-gather look cs s m in
+      let d = in-gather (spotsAt g given cs (c .0)) forward s (c .2) in
+      let o = in-when (inRoom g given (isIn cs) (c .0) (d .0)) (record { cell = c .0; direction = d .0 }) s (d .2) in
+      let t = both-true (goesOn g (d .0) (c .0)) (both (isIn cs (next g (d .0) (c .0))) (not (given (border g (d .0) (c .0))))) (o .0) in
+      rw (o .1) (c .1, is-in cs (next g (d .0) (c .0)) (both-true (isIn cs (next g (d .0) (c .0))) (not (given (border g (d .0) (c .0)))) (t .1) .0))
 
-  -- an edge's border is one of the board's
-  pub spot-lt : (s : Spot) → In s (spots g given ids r) → borderOf g s < borderCount g
-  unfolding spots
-  spot-lt s m =
-      let c = in-gather look (cellsOf g ids r) s m in
-      let l = in-cells g ids r (c .0) (c .1) .0 in
-      let k = spot-over (c .0) s (c .2) in
-      border-lt g (k .way) (c .0) (next g (k .way) (c .0)) (borderOf g s) (over-step (c .0) (borderOf g s) l k)
+  -- cells of the board, in rising order
+  module _ (inside : (c : ℕ) → In c cs → Cell g c) (rising : Rising cs) where
+    borders-once : (e : ℕ) → count e (map (borderOf g) (spots g given cs)) ≤ 1
+    unfolding spots
+    borders-once e =
+        rw (map-gather (borderOf g) look cs)
+        (gather-once (λ c. map (borderOf g) (look c)) e cs
+        (λ c m. cell-once c e (inside c m))
+        (λ c c' m n i j. one-cell c c' e (inside c m) (inside c' n) (look-over c e i) (look-over c' e j))
+        (once cs (λ i j h b q. omega (arith, rising i j h b))))
 
-  borders-inside : (e : ℕ) → In e (map (borderOf g) (spots g given ids r)) → e < borderCount g
-  borders-inside e i = let o = in-map (borderOf g) (spots g given ids r) e i in subst (λ x. x < borderCount g) (sym (o .2)) (spot-lt (o .0) (o .1))
+    -- an edge's border is one of the board's
+    pub spot-lt : (s : Spot) → In s (spots g given cs) → borderOf g s < borderCount g
+    unfolding spots
+    spot-lt s m =
+        let c = in-gather look cs s m in
+        let l = inside (c .0) (c .1) in
+        let k = spot-over (c .0) s (c .2) in
+        border-lt g (k .way) (c .0) (next g (k .way) (c .0)) (borderOf g s) (over-step (c .0) (borderOf g s) l k)
 
-  pub edges-few : length (spots g given ids r) ≤ borderCount g
-  edges-few =
-      let k = distinct-le (borderCount g) (map (borderOf g) (spots g given ids r)) borders-inside (λ e l. borders-once e) in
-      simp length-map at k
+    borders-inside : (e : ℕ) → In e (map (borderOf g) (spots g given cs)) → e < borderCount g
+    borders-inside e i = let o = in-map (borderOf g) (spots g given cs) e i in subst (λ x. x < borderCount g) (sym (o .2)) (spot-lt (o .0) (o .1))
+
+    pub edges-few : length (spots g given cs) ≤ borderCount g
+    edges-few =
+        let k = distinct-le (borderCount g) (map (borderOf g) (spots g given cs)) borders-inside (λ e l. borders-once e) in
+        simp length-map at k

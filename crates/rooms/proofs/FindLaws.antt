@@ -1,54 +1,30 @@
--- The count of a room over slices: the graph and the states in longer arrays give the same answer, and its entries become those of the borders.
+-- The count of a room over slices: the graph and the states in longer arrays fail on the same side. What is listed then is the room's list.
 -- Assumes nothing.
 use Prim.Native.Nat.{ℕ, zero, suc, _+_, _*_, _/_, _%_, _≤_, _<_}
-use mathlib.Core.Path.{_≡_, refl, ap, ap₂, sym, _∙_}
-use mathlib.Core.Logic.{inl, inr, ⊎-elim}
-use mathlib.Core.Bool.{Bool, not}
+use mathlib.Core.Path.{_≡_, refl, ap, sym, _∙_}
+use mathlib.Core.Bool.{Bool, true, false}
 use mathlib.Core.List.{List, [], _∷_, _++_, map}
-use mathlib.Core.Option.{Option, none, some}
+use mathlib.Core.Option.{some}
 use native.Mathlib.Omega.{arith}
-use borrow.Author.Tests.{eqb-true}
-use lib.ListN.{length, getD, take, drop, replicate, length-map, length-replicate, getD-replicate, List·getD-eq-default}
-use lib.Seq.{sets, sets-eq, length-sets, drop-append-seam}
-use Rattle.lists.specs.Choice.{both, through}
-use Rattle.lists.specs.Lists.{In, gather}
-use Rattle.lists.proofs.Cases.{le-or-lt}
-use Rattle.lists.proofs.ChoiceLaws.{both-true}
-use Rattle.lists.proofs.ListLaws.{in-gather, in-when, getD-in}
-use Rattle.grid.specs.declared.Direction.the-variants.{Down, Right}
+use lib.Dec.{eqb, ltb}
+use lib.ListN.{length, getD, length-map, length-replicate}
+use lib.Seq.{sets, length-sets}
+use Rattle.limits.specs.Limits.{mostBorders}
+use Rattle.lists.specs.Choice.{pick, when, give, orElse, through}
+use Rattle.lists.specs.Lists.{In, countFrom, range, gather}
+use Rattle.lists.proofs.SetsLaws.{front-at}
 use Rattle.grid.specs.declared.Grid.{Grid}
-use Rattle.grid.specs.Grid.{Limits, goesOn, next, border, borderCount}
-use Rattle.grid.proofs.Geometry.{goes-step, cells-le, borderCount-le}
+use Rattle.grid.proofs.Geometry.{borderCount-le}
 use Rattle.borders.specs.Border.{stateOf}
-use Rattle.boundary.specs.Boundary.{ahead}
-use Rattle.boundary.proofs.BoundaryLaws.{cells-most}
-use Rattle.groups.specs.Groups.{cellsOf}
-use Rattle.groups.proofs.GroupLaws.{in-cells, cells-in}
-use Rattle.lists.proofs.SetsLaws.{front, front-at, sets-out}
-use Rattle.borders.specs.Entry.{connectedEntry, wallEntry}
-use Rattle.room_parts.specs.Graph.{Graph, graph, statesIn, isConnected, notWall, edgesIf, partsIf, tippedOf, Lent}
-use Rattle.city_count.specs.Fault.{roomFault, listOf}
-use Rattle.city_count.specs.Room.{foundOf}
-use Rattle.city_count.specs.declared.Inconsistency.the-variants.{Nothing, Listed as ListedOf}
-use Rattle.city_count.proofs.EntryLaws.{entries-agree}
-use Rattle.city_count.proofs.FaultLaws.{room-inside, room-short}
-use Rattle.rooms.specs.RoomGraph.{Spot, inRoom, spotsAt, spots, fromOf, intoOf, borderOf, roomGraph, roomBorders, edgeState, onBoard, roomList}
-use Rattle.rooms.specs.Lent.{blank, Below, Space, Written, Listed}
-use Rattle.rooms.proofs.Places.{map-at, at-place, in-map, place-of}
-use Rattle.rooms.proofs.FewEdges.{edges-few, spot-lt}
-
--- LISTS AT THE FRONT OF AN ARRAY
-over-front : (l xs ys : List ℕ) → length xs ≤ length l → length ys ≡ length xs → sets (sets l 0 xs) 0 ys ≡ sets l 0 ys
-over-front l xs ys h q =
-    let n : 0 + length ys ≡ length xs = omega arith in
-    sets-eq ys (sets l 0 xs) 0 (omega (arith, length-sets l 0 xs)) ∙ rw (n, sets-eq xs l 0 (omega arith), drop-append-seam xs (drop (0 + length xs) l)) (sym again)
-  where
-    again : sets l 0 ys ≡ ys ++ drop (0 + length xs) l
-    again = let n : 0 + length ys ≡ 0 + length xs = omega arith in sets-eq ys l 0 (omega arith) ∙ ap (λ k. ys ++ drop k l) n
-
-map-same : (l : List ℕ) (f h : ℕ → ℕ) → ((x : ℕ) → In x l → f x ≡ h x) → map f l ≡ map h l
-map-same [] f h q = refl
-map-same (x ∷ l) f h q = ap₂ _∷_ (q x (inl refl)) (map-same l f h (λ y m. q y (inr m)))
+use Rattle.borders.specs.Entry.{entryOf, connectedEntry, wallEntry}
+use Rattle.room_parts.specs.Graph.{Graph, graph, statesIn, isConnected, notWall, edgesIf, partsIf, joinedParts, tippedOf, Lent}
+use Rattle.city_count.specs.Fault.{entriesOf, roomFault}
+use Rattle.rooms.specs.declared.Miscount.the-variants.{Nothing, Listed}
+use Rattle.rooms.specs.RoomGraph.{Spot, spots, fromOf, intoOf, borderOf, roomGraph, roomBorders, edgeState, onBoard, roomList, sideOf, kindOf, roomEntries, sideList}
+use Rattle.rooms.specs.Lent.{blank, markedIn, Housed, Space, Written}
+use Rattle.rooms.proofs.Places.{at-place, place-of}
+use Rattle.rooms.proofs.FewEdges.{edges-few, spot-ends}
+use Rattle.rooms.proofs.HouseLaws.{few, inside, rising}
 
 -- GRAPHS THAT ARE THE SAME WHERE IT MATTERS
 module _ (g h : Graph) (s t : ℕ → ℕ) (vertices : g .vertices ≡ h .vertices) (edges : g .edges ≡ h .edges)
@@ -63,205 +39,135 @@ module _ (g h : Graph) (s t : ℕ → ℕ) (vertices : g .vertices ≡ h .vertic
   unfolding partsIf
   parts-same p = cc (vertices, edges, edges-same p (h .edges) (omega arith))
 
-  pub fault-same : (count : ℕ) → roomFault g count s ≡ roomFault h count t
-  unfolding roomFault tippedOf
-  fault-same count =
-      cc (
-        vertices,
-        edges,
-        parts-same isConnected,
-        parts-same notWall,
-        entries-agree connectedEntry 1 (h .edges) s t states,
-        entries-agree wallEntry 2 (h .edges) s t states,
-      )
-
--- WHAT WAS FOUND
-pub found-none : (f : Option (List ℕ)) → Nothing ≡ foundOf f → f ≡ none
-found-none none q = refl
-found-none (some l) q = absurd (let z : _≡_ {A = ℕ} 0 1 = cc in omega arith)
-
-pub found-some : (f : Option (List ℕ)) (k : ℕ) → ListedOf k ≡ foundOf f → (L : List ℕ) × (f ≡ some L) × (k ≡ length L)
-found-some none k q = absurd (let z : _≡_ {A = ℕ} 0 1 = cc in omega arith)
-found-some (some l) k q = (l, refl, cc)
+  side-same : (count : ℕ) → sideOf g count s ≡ sideOf h count t
+  unfolding sideOf tippedOf
+  side-same count = cc (vertices, parts-same isConnected, parts-same notWall)
 
 -- an array with nothing written
-pub blank-at : (i : ℕ) → getD blank i 0 ≡ 0
-unfolding blank
-blank-at i =
-    ⊎-elim
-    (λ (h : 2048 ≤ i). List·getD-eq-default (replicate 2048 0) 0 {n = i} (rw (length-replicate {A = ℕ} 2048 0) h))
-    (λ (h : i < 2048). getD-replicate 2048 i 0 0 h)
-    (le-or-lt 2048 i)
-
-pub blank-length : length blank ≡ 2048
+blank-length : length blank ≡ 2048
 unfolding blank
 blank-length = length-replicate {A = ℕ} 2048 0
 
 pub blank-space : Space blank blank blank 2048
-blank-space = let l = blank-length in record { us-long = omega arith; vs-long = omega arith; borders-long = omega arith }
-
--- an edge's ends are in the room
-spot-ends : (g : Grid) (given : ℕ → Bool) (ids : List ℕ) (r : ℕ) (s : Spot) → In s (spots g given ids r)
-    → In (s .cell) (cellsOf g ids r) × In (next g (s .direction) (s .cell)) (cellsOf g ids r)
-unfolding spots spotsAt inRoom
-spot-ends g given ids r s m =
-    let c = in-gather (λ c. gather (spotsAt g given ids r c) (Down ∷ Right ∷ [])) (cellsOf g ids r) s m in
-    let d = in-gather (spotsAt g given ids r (c .0)) (Down ∷ Right ∷ []) s (c .2) in
-    let o = in-when (inRoom g given ids r (c .0) (d .0)) (record { cell = c .0; direction = d .0 }) s (d .2) in
-    let t = both-true (goesOn g (d .0) (c .0)) (both (ahead g ids r (c .0) (d .0)) (not (given (border g (d .0) (c .0))))) (o .0) in
-    let u = both-true (ahead g ids r (c .0) (d .0)) (not (given (border g (d .0) (c .0)))) (t .1) in
-    let st = goes-step g (d .0) (c .0) (in-cells g ids r (c .0) (c .1) .0) (t .0) in
-    rw (o .1) (c .1, cells-in g ids r (next g (d .0) (c .0)) (st .cell') (eqb-true _ r (u .0)))
+blank-space = let l = blank-length in record { us-long = omega arith; vs-long = omega arith; here-long = omega arith }
 
 -- THE ROOM'S GRAPH IN ARRAYS
-module _ (g : Grid) (limits : Limits g) (given : ℕ → Bool) (ids : List ℕ) (r : ℕ) (us₀ vs₀ borders₀ us vs borders : List ℕ) (m : ℕ)
-    (w : Written g ids r (spots g given ids r) us₀ vs₀ borders₀ 0 us vs borders m) (space : Space us₀ vs₀ borders₀ 2048) where
+module _ (g : Grid) (marks states cs : List ℕ) (w : Housed g marks states cs) (us vs here : List ℕ) (m : ℕ)
+    (o : Written g (markedIn marks) states cs blank blank blank us vs here m) where
   abbrev ss : List Spot
-  ss = spots g given ids r
+  ss = spots g (markedIn marks) cs
 
-  m-is : m ≡ length ss
-  m-is = omega (arith, w .count-is)
-
-  pub few-borders : m ≤ borderCount g
-  few-borders = omega (arith, m-is, edges-few g given ids r)
-
-  pub few : m ≤ 1984
-  few = omega (arith, m-is, edges-few g given ids r, borderCount-le g limits)
+  few-edges : m ≤ mostBorders
+  few-edges = omega (arith, o .count-is, edges-few g (markedIn marks) cs (inside _ _ _ _ w) (rising _ _ _ _ w), borderCount-le g (w .limits))
 
   -- what stands at a place in front
-  edge-front : (f : Spot → ℕ) (l₀ l : List ℕ) → l ≡ sets l₀ 0 (map f ss) → 2048 ≤ length l₀ → (i : ℕ) → i < m → getD l i 0 ≡ getD (map f ss) i 0
-  edge-front f l₀ l q long i h =
+  edge-front : (f : Spot → ℕ) (l : List ℕ) → l ≡ sets blank 0 (map f ss) → (i : ℕ) → i < m → getD l i 0 ≡ getD (map f ss) i 0
+  edge-front f l q i h =
       let n : length (map f ss) ≡ length ss = length-map ss f in
-      ap (λ (x : List ℕ). getD x i 0) q ∙ front-at l₀ (map f ss) i (omega (arith, few, m-is)) (omega (arith, m-is))
+      ap (λ (x : List ℕ). getD x i 0) q ∙ front-at blank (map f ss) i (omega (arith, few-edges, o .count-is, blank-length)) (omega (arith, o .count-is))
 
-  array-long : (f : Spot → ℕ) (l₀ l : List ℕ) → l ≡ sets l₀ 0 (map f ss) → 2048 ≤ length l₀ → 2048 ≤ length l
-  array-long f l₀ l q long = rw q (omega (arith, length-sets l₀ 0 (map f ss)))
-
-  -- the borders in front are the room's
-  pub borders-front : take m borders ≡ roomBorders g given ids r
-  unfolding roomBorders
-  borders-front =
-      let n : length (map (borderOf g) ss) ≡ length ss = length-map ss (borderOf g) in
-      let k : m ≡ length (map (borderOf g) ss) = omega (arith, m-is) in
-      rw (k, w .borders-are) (front borders₀ (map (borderOf g) ss) (omega (arith, few, m-is, space .borders-long)))
-
-  pub borders-below : (n : ℕ) → borderCount g ≤ n → Below n borders m
-  borders-below n h =
-      record {
-        long = omega (arith, few, array-long (borderOf g) borders₀ borders (w .borders-are) (space .borders-long));
-        small = λ e i.
-            let o = in-map (borderOf g) ss e (unfold roomBorders in rw borders-front at i) in
-            rw (o .2) (omega (arith, spot-lt g given ids r (o .0) (o .1)));
-      }
+  array-long : (f : Spot → ℕ) (l : List ℕ) → l ≡ sets blank 0 (map f ss) → m ≤ length l
+  array-long f l q = rw q (omega (arith, few-edges, blank-length, length-sets blank 0 (map f ss)))
 
   -- the ends of each edge are vertices
-  end-lt : (f : Spot → ℕ) → ((s : Spot) → In s ss → f s < length (cellsOf g ids r)) → (l₀ l : List ℕ) → l ≡ sets l₀ 0 (map f ss) → 2048 ≤ length l₀
-      → (i : ℕ) → i < m → getD l i 0 < length (cellsOf g ids r)
-  end-lt f h l₀ l q long i k =
-      let o = at-place ss i (omega (arith, m-is)) in rw (edge-front f l₀ l q long i k, o .2 f) (h (o .0) (o .1))
+  end-lt : (f : Spot → ℕ) → ((s : Spot) → In s ss → f s < length cs) → (l : List ℕ) → l ≡ sets blank 0 (map f ss) → (i : ℕ) → i < m → getD l i 0 < length cs
+  end-lt f h l q i k = let x = at-place ss i (omega (arith, o .count-is)) in rw (edge-front f l q i k, x .2 f) (h (x .0) (x .1))
 
-  pub array-lent : (here : List ℕ) → 2048 ≤ length here → Lent (length (cellsOf g ids r)) m us vs here
-  array-lent here long =
+  pub array-lent : Lent (length cs) m us vs here
+  array-lent =
       record {
-        few-vertices = omega (arith, cells-most g ids r, cells-le g limits);
-        few-edges = few;
-        us-long = omega (arith, few, array-long (fromOf g ids r) us₀ us (w .us-are) (space .us-long));
-        vs-long = omega (arith, few, array-long (intoOf g ids r) vs₀ vs (w .vs-are) (space .vs-long));
-        states-long = omega (arith, few);
-        us-exist = end-lt (fromOf g ids r) (λ s i. place-of (cellsOf g ids r) (s .cell) (spot-ends g given ids r s i .0) .0) us₀ us (w .us-are) (space .us-long);
-        vs-exist = end-lt (intoOf g ids r) (λ s i. place-of (cellsOf g ids r) (next g (s .direction) (s .cell)) (spot-ends g given ids r s i .1) .0) vs₀ vs (w .vs-are) (space .vs-long);
+        few-vertices = few _ _ _ _ w;
+        few-edges = few-edges;
+        us-long = array-long (fromOf cs) us (o .us-are);
+        vs-long = array-long (intoOf g cs) vs (o .vs-are);
+        states-long = array-long (λ s. getD states (borderOf g s) 0) here (o .here-are);
+        us-exist = end-lt (fromOf cs) (λ s i. place-of cs _ (spot-ends g (markedIn marks) cs s i .0) .0) us (o .us-are);
+        vs-exist = end-lt (intoOf g cs) (λ s i. place-of cs _ (spot-ends g (markedIn marks) cs s i .1) .0) vs (o .vs-are);
       }
 
-  -- what the check of the arrays finds is what the room's count finds
-  module _ (count : ℕ) (states here₀ here : List ℕ) (long : 2048 ≤ length here₀) (q : here ≡ sets here₀ 0 (map (stateOf states) (take m borders))) where
-    abbrev bs : List ℕ
-    bs = roomBorders g given ids r
+  pub array-side : (count : ℕ) → sideOf (graph (length cs) m us vs) count (statesIn here)
+      ≡ sideOf (roomGraph g (markedIn marks) cs) count (edgeState (roomBorders g (markedIn marks) cs) (stateOf states))
+  unfolding roomGraph roomBorders
+  array-side count =
+      side-same (graph (length cs) m us vs) (roomGraph g (markedIn marks) cs) (statesIn here) (edgeState (roomBorders g (markedIn marks) cs) (stateOf states)) refl (o .count-is)
+      (λ i h. edge-front (fromOf cs) us (o .us-are) i (omega (arith, o .count-is)))
+      (λ i h. edge-front (intoOf g cs) vs (o .vs-are) i (omega (arith, o .count-is)))
+      (λ i h.
+      let x = at-place ss i h in
+      edge-front (λ s. getD states (borderOf g s) 0) here (o .here-are) i (omega (arith, o .count-is)) ∙ x .2 (λ s. getD states (borderOf g s) 0) ∙ ap (stateOf states) (sym (x .2 (borderOf g)))) count
 
-    bs-long : length bs ≡ m
-    unfolding roomBorders
-    bs-long = length-map ss (borderOf g) ∙ sym m-is
+  -- the three answers
+  pub joined : (count : ℕ) (t : Bool) → t ≡ tippedOf (graph (length cs) m us vs) count (statesIn here) → t ≡ true
+      → Listed false ≡ sideOf (roomGraph g (markedIn marks) cs) count (edgeState (roomBorders g (markedIn marks) cs) (stateOf states))
+  unfolding sideOf
+  joined count t q h = let e : Listed false ≡ sideOf (graph (length cs) m us vs) count (statesIn here) = rw (sym q ∙ h) in e ∙ array-side count
 
-    state-front : (i : ℕ) → i < m → statesIn here i ≡ edgeState bs (stateOf states) i
-    state-front i h =
-        let n : length (map (stateOf states) bs) ≡ length bs = length-map bs (stateOf states) in
-        ap (λ (x : List ℕ). getD x i 0) (q ∙ ap (λ (x : List ℕ). sets here₀ 0 (map (stateOf states) x)) borders-front)
-        ∙ front-at here₀ (map (stateOf states) bs) i (omega (arith, few, bs-long)) (omega (arith, bs-long)) ∙ map-at (stateOf states) bs i (omega (arith, bs-long))
+  module _ (count : ℕ) (t : Bool) (q : t ≡ tippedOf (graph (length cs) m us vs) count (statesIn here)) (h : t ≡ false) (u : Bool)
+      (p : u ≡ ltb count (joinedParts (graph (length cs) m us vs) (statesIn here))) where
+    pub parted : u ≡ true → Listed true ≡ sideOf (roomGraph g (markedIn marks) cs) count (edgeState (roomBorders g (markedIn marks) cs) (stateOf states))
+    unfolding sideOf
+    parted k = let e : Listed true ≡ sideOf (graph (length cs) m us vs) count (statesIn here) = rw (sym q ∙ h, sym p ∙ k) in e ∙ array-side count
 
-    pub array-fault : roomFault (graph (length (cellsOf g ids r)) m us vs) count (statesIn here) ≡ roomFault (roomGraph g given ids r) count (edgeState (roomBorders g given ids r) (stateOf states))
-    unfolding roomGraph
-    array-fault =
-        fault-same (graph (length (cellsOf g ids r)) m us vs) (roomGraph g given ids r) (statesIn here) (edgeState bs (stateOf states)) refl m-is
-        (λ i h. edge-front (fromOf g ids r) us₀ us (w .us-are) (space .us-long) i (omega (arith, m-is)))
-        (λ i h. edge-front (intoOf g ids r) vs₀ vs (w .vs-are) (space .vs-long) i (omega (arith, m-is)))
-        (λ i h. state-front i (omega (arith, m-is))) count
+    pub neither : u ≡ false → Nothing ≡ sideOf (roomGraph g (markedIn marks) cs) count (edgeState (roomBorders g (markedIn marks) cs) (stateOf states))
+    unfolding sideOf
+    neither k = let e : Nothing ≡ sideOf (graph (length cs) m us vs) count (statesIn here) = rw (sym q ∙ h, sym p ∙ k) in e ∙ array-side count
 
-    -- A CLEAR ROOM
-    abbrev list : Option (List ℕ)
-    list = roomList g given ids r count (stateOf states)
+-- WHAT IS LISTED
+gather-up : (f : ℕ → List ℕ) (a n : ℕ) → gather f (countFrom (suc a) n) ≡ gather (λ i. f (suc i)) (countFrom a n)
+unfolding gather countFrom
+gather-up f a zero = refl
+gather-up f a (suc n) = ap (λ l. f (suc a) ++ l) (gather-up f (suc a) n)
 
-    abbrev fault : Option (List ℕ)
-    fault = roomFault (graph (length (cellsOf g ids r)) m us vs) count (statesIn here)
+-- through the places of a list, and through its members
+gather-places : (f : ℕ → List ℕ) (xs : List ℕ) → gather (λ i. f (getD xs i 0)) (countFrom 0 (length xs)) ≡ gather f xs
+unfolding gather countFrom
+gather-places f [] = refl
+gather-places f (x ∷ xs) = ap (λ l. f x ++ l) (gather-up (λ i. f (getD (x ∷ xs) i 0)) 0 (length xs) ∙ gather-places f xs)
 
-    list-none : fault ≡ none → list ≡ none
-    unfolding roomList through
-    list-none z = rw (sym array-fault ∙ z)
+gather-map : (f : ℕ → List ℕ) (b : Spot → ℕ) (xs : List Spot) → gather f (map b xs) ≡ gather (λ x. f (b x)) xs
+unfolding gather
+gather-map f b [] = refl
+gather-map f b (x ∷ xs) = ap (λ l. f (b x) ++ l) (gather-map f b xs)
 
-    list-some : (L : List ℕ) → fault ≡ some L → list ≡ some (map (onBoard bs) L)
-    unfolding roomList through
-    list-some L z = rw (sym array-fault ∙ z)
+map-when : (f : ℕ → ℕ) (h : ℕ → Bool) (e : ℕ → ℕ) (xs : List ℕ) → map f (gather (λ i. when (h i) (e i)) xs) ≡ gather (λ i. when (h i) (f (e i))) xs
+unfolding gather when
+map-when f h e [] = refl
+map-when f h e (x ∷ xs) = one (h x) ∙ ap (λ l. when (h x) (f (e x)) ++ l) (map-when f h e xs)
+  where
+    one : (t : Bool) → map f (when t (e x) ++ gather (λ i. when (h i) (e i)) xs) ≡ when t (f (e x)) ++ map f (gather (λ i. when (h i) (e i)) xs)
+    one true = refl
+    one false = refl
 
-    pub clear-room : (buf buf' : List ℕ) → fault ≡ none → buf' ≡ sets buf 0 (listOf fault) → (Nothing ≡ foundOf list) × (buf' ≡ sets buf 0 (listOf list))
-    clear-room buf buf' z e = (rw (list-none z), e ∙ rw (z, list-none z))
+module _ (g : Grid) (given : ℕ → Bool) (cs : List ℕ) (s : ℕ → ℕ) where
+  abbrev borders : List ℕ
+  borders = roomBorders g given cs
 
-    -- A FAULT
-    module _ (L : List ℕ) (z : fault ≡ some L) (buf buf' : List ℕ) (e : buf' ≡ sets buf 0 (listOf fault)) (room : m ≤ length buf) (zero : (i : ℕ) → getD borders₀ i 0 ≡ 0) where
-      short : length L ≤ m
-      short = room-short (graph (length (cellsOf g ids r)) m us vs) count (statesIn here) L z
+  -- an edge's entry becomes its border's
+  entry-border : (wall : Bool) (i : ℕ) → onBoard borders (entryOf wall i) ≡ entryOf wall (getD borders i 0)
+  entry-border true i =
+      let a : (2 * i + 1) / 2 ≡ i = omega arith in
+      let b : (2 * i + 1) % 2 ≡ 1 = omega arith in
+      rw (a, b)
+  entry-border false i =
+      let a : 2 * i / 2 ≡ i = omega arith in
+      let b : 2 * i % 2 ≡ 0 = omega arith in
+      rw (a, b) (omega arith)
 
-      written : buf' ≡ sets buf 0 L
-      written = e ∙ rw z
+  pub entries-board : (wall : Bool) → map (onBoard (roomBorders g given cs)) (entriesOf (entryOf wall) (kindOf wall) (roomGraph g given cs .edges) (edgeState (roomBorders g given cs) s)) ≡ roomEntries g given cs wall s
+  unfolding roomGraph roomBorders roomEntries entriesOf range
+  entries-board wall =
+      let f : ℕ → List ℕ = λ b. when (eqb (s b) (kindOf wall)) (entryOf wall b) in
+      map-when (onBoard borders) (λ i. eqb (edgeState borders s i) (kindOf wall)) (entryOf wall) (countFrom 0 (length (spots g given cs)))
+      ∙ simp (entry-border wall)
+      (rw (sym (length-map (spots g given cs) (borderOf g))) (gather-places f borders ∙ gather-map f (borderOf g) (spots g given cs)))
 
-      in-front : take (length L) buf' ≡ L
-      in-front = rw written (front buf L (omega (arith, short)))
-
-      border-at : (i : ℕ) → i < m → getD borders i 0 ≡ getD bs i 0
-      unfolding roomBorders
-      border-at i h = edge-front (borderOf g) borders₀ borders (w .borders-are) (space .borders-long) i h
-
-      border-small : (i : ℕ) → getD borders i 0 < 1984
-      border-small i =
-          let n : length (map (borderOf g) ss) ≡ length ss = length-map ss (borderOf g) in
-          ⊎-elim
-          (λ (h : m ≤ i). rw (w .borders-are, sets-out (map (borderOf g) ss) borders₀ 0 i (inr (omega (arith, m-is))), zero i) (omega arith))
-          (λ (h : i < m).
-          let o = at-place ss i (omega (arith, m-is)) in
-          rw (edge-front (borderOf g) borders₀ borders (w .borders-are) (space .borders-long) i h, o .2 (borderOf g))
-          (omega (arith, spot-lt g given ids r (o .0) (o .1), borderCount-le g limits)))
-          (le-or-lt m i)
-
-      -- a listed edge exists
-      edge-lt : (l : ℕ) → In l L → l / 2 < m
-      edge-lt l i = room-inside (graph (length (cellsOf g ids r)) m us vs) count (statesIn here) L z l i
-
-      pub entries-listed : Listed borders (length L) buf'
-      entries-listed =
-          record {
-            long = rw written (omega (arith, length-sets buf 0 L, short));
-            edges = λ i h.
-                rw
-                (written, front-at buf L i (let k : length L ≤ length buf = omega (arith, short) in k) h)
-                (omega (arith, edge-lt (getD L i 0) (getD-in 0 L i h), few, array-long (borderOf g) borders₀ borders (w .borders-are) (space .borders-long)));
-            small = border-small;
-          }
-
-      entries-same : map (onBoard borders) L ≡ map (onBoard bs) L
-      entries-same = map-same L (onBoard borders) (onBoard bs) (λ l i. ap (λ x. 2 * x + l % 2) (border-at (l / 2) (edge-lt l i)))
-
-      pub room-listed : (buf'' : List ℕ) → buf'' ≡ sets buf' 0 (map (onBoard borders) (take (length L) buf'))
-          → (ListedOf (length L) ≡ foundOf list) × (buf'' ≡ sets buf 0 (listOf list))
-      room-listed buf'' e' =
-          let there = list-some L z in
-          let k : length L ≤ length buf = omega (arith, short) in (
-            rw (there, length-map L (onBoard bs)),
-            e' ∙ rw (in-front, entries-same, written, there, over-front buf L (map (onBoard bs) L) k (length-map L (onBoard bs))),
-          )
+  -- THE LAW: the side that fails tells the room's list
+  pub side-list : (count : ℕ) → sideList g given cs s (sideOf (roomGraph g given cs) count (edgeState (roomBorders g given cs) s)) ≡ roomList g given cs count s
+  unfolding sideOf roomList roomFault through orElse give
+  side-list count = go (tippedOf (roomGraph g given cs) count (edgeState borders s)) (ltb count (joinedParts (roomGraph g given cs) (edgeState borders s)))
+    where
+      go : (t u : Bool) → sideList g given cs s (pick t (Listed false) (pick u (Listed true) Nothing))
+          ≡ through (orElse (give t (entriesOf connectedEntry 1 (roomGraph g given cs .edges) (edgeState borders s))) (give u (entriesOf wallEntry 2 (roomGraph g given cs .edges) (edgeState borders s)))) (λ l. some (map (onBoard borders) l))
+      go true u = ap some (sym (entries-board false))
+      go false true = ap some (sym (entries-board true))
+      go false false = refl

@@ -3,9 +3,10 @@ pub mod RoomLaws
 pub mod RoomUnits
 pub mod Theorems
 pub mod PutLaws
-pub mod VertexLaws
+pub mod FewEdges
+pub mod NumberLaws
 pub mod EdgeLaws
 pub mod EdgesLaws
-pub mod CopyLaws
-pub mod FewEdges
+pub mod HouseLaws
 pub mod FindLaws
+pub mod OneRoom

@@ -9,37 +9,37 @@ use native.Mathlib.Omega.{arith}
 use native.Mathlib.Numerals.{add-one}
 use borrow.Author.Tests.{eq-eqb, ne-eqb}
 use lib.Dec.{eqb}
-use lib.ListN.{length, getD, take, drop, set, replicate, length-set, drop-of-length-le, length-replicate, getD-replicate, List·getD-eq-default}
-use lib.Seq.{getD-set-same, getD-set-other, getD-take, drop-cons, length-take-le, sets}
+use lib.ListN.{length, getD, drop, set, replicate, length-set, drop-of-length-le, length-replicate, getD-replicate, List·getD-eq-default}
+use lib.Seq.{getD-set-same, getD-set-other, drop-cons, sets}
+use Rattle.limits.specs.Limits.{mostBorders}
 use Rattle.lists.specs.Choice.{either, pick}
 use Rattle.lists.specs.Lists.{In, any}
 use Rattle.lists.proofs.Cases.{le-or-lt, eq-or-ne}
 use Rattle.lists.proofs.ListLaws.{getD-in}
 use Rattle.grid.specs.declared.Grid.{Grid}
 use Rattle.grid.specs.Grid.{cells}
-use Rattle.grid.proofs.Geometry.{borderCount-le}
+use Rattle.grid.proofs.Geometry.{cells-le, borderCount-le}
 use Rattle.parts.specs.Parts.{parts, roots, begunIn}
 use Rattle.groups.specs.Groups.{passes, edgesOver, groupIds, groupCount}
 use Rattle.groups.specs.Floods.{Fits}
 use Rattle.groups.specs.Lent.{Lent, Grouped, Between}
 use Rattle.groups.proofs.Theorems.{between}
 use Rattle.rooms.specs.Rooms.{isGiven, roomIds, roomCount}
-use Rattle.rooms.specs.Lent.{unmarked, puts, Below, Given, Roomed}
+use Rattle.rooms.specs.Lent.{unmarked, puts, Below, Given, Places, Roomed}
 
 -- a turn of the loop, and its end
-module _ (given : List ℕ) (len v i : ℕ) (xs : List ℕ) where
-  pub put-turn : i < len → len ≤ length given → puts (drop i (take len given)) v xs ≡ puts (drop (i + 1) (take len given)) v (set xs (getD given i 0) v)
+module _ (given : List ℕ) (v i : ℕ) (xs : List ℕ) where
+  pub put-turn : i < length given → puts (drop i given) v xs ≡ puts (drop (i + 1) given) v (set xs (getD given i 0) v)
   unfolding puts
-  put-turn h l = rw (drop-cons (take len given) i 0 (rw (length-take-le len given l) h), getD-take len given i 0 h, add-one)
+  put-turn h = rw (drop-cons given i 0 h, add-one)
 
-  pub put-end : len ≤ i → len ≤ length given → puts (drop i (take len given)) v xs ≡ xs
+  pub put-end : length given ≤ i → puts (drop i given) v xs ≡ xs
   unfolding puts
-  put-end h l = rw (drop-of-length-le (take len given) {i = i} (rw (length-take-le len given l) h))
+  put-end h = rw (drop-of-length-le given {i = i} h)
 
 -- the place of the next wall exists
-pub put-fits : (n : ℕ) (given : List ℕ) (len i : ℕ) → Below n given len → i < len → getD given i 0 < n
-put-fits n given len i b h =
-    rw (getD-take len given i 0 h) at (b .small (getD (take len given) i 0) (getD-in 0 (take len given) i (rw (length-take-le len given (b .long)) h)))
+pub put-fits : (n : ℕ) (given : List ℕ) (i : ℕ) → Below n given → i < length given → getD given i 0 < n
+put-fits n given i b h = b (getD given i 0) (getD-in 0 given i h)
 
 pub puts-length : (l : List ℕ) (v : ℕ) (xs : List ℕ) → length (puts l v xs) ≡ length xs
 unfolding puts
@@ -75,73 +75,68 @@ pub unmarked-at : (e : ℕ) → getD unmarked e 0 ≡ 0
 unfolding unmarked
 unmarked-at e =
     ⊎-elim
-    (λ (h : 1984 ≤ e). List·getD-eq-default (replicate 1984 0) 0 {n = e} (rw (length-replicate {A = ℕ} 1984 0) h))
-    (λ (h : e < 1984). getD-replicate 1984 e 0 0 h)
-    (le-or-lt 1984 e)
+    (λ (h : mostBorders ≤ e). List·getD-eq-default (replicate mostBorders 0) 0 {n = e} (rw (length-replicate {A = ℕ} mostBorders 0) h))
+    (λ (h : e < mostBorders). getD-replicate mostBorders e 0 0 h)
+    (le-or-lt mostBorders e)
 
-pub unmarked-length : length unmarked ≡ 1984
+pub unmarked-length : length unmarked ≡ mostBorders
 unfolding unmarked
-unmarked-length = length-replicate {A = ℕ} 1984 0
+unmarked-length = length-replicate {A = ℕ} mostBorders 0
 
-module _ (g : Grid) (given : List ℕ) (len : ℕ) (w : Given g given len) where
-  abbrev walls : List ℕ
-  walls = take len given
-
+module _ (g : Grid) (given : List ℕ) (w : Given g given) where
   -- a board's given walls have their places
-  pub walls-fit : Below (length unmarked) given len
-  walls-fit = record { long = w .below .long; small = λ e m. omega (arith, w .below .small e m, borderCount-le g (w .limits), unmarked-length) }
+  pub walls-fit : Below (length unmarked) given
+  walls-fit e m = omega (arith, w .below e m, borderCount-le g (w .limits), unmarked-length)
 
-  pub marks-at : (v e : ℕ) → getD (puts (take len given) v unmarked) e 0 ≡ pick (isGiven (take len given) e) v 0
-  marks-at v e = puts-at walls v unmarked (walls-fit .small) e ∙ ap (pick (isGiven walls e) v) (unmarked-at e)
+  pub marks-at : (v e : ℕ) → getD (puts given v unmarked) e 0 ≡ pick (isGiven given e) v 0
+  marks-at v e = puts-at given v unmarked (walls-fit) e ∙ ap (pick (isGiven given e) v) (unmarked-at e)
 
-  pub marks-fit : (v : ℕ) → Fits g (puts (take len given) v unmarked)
-  marks-fit v = record { limits = w .limits; borders = omega (arith, puts-length walls v unmarked, unmarked-length, borderCount-le g (w .limits)) }
+  pub marks-fit : (v : ℕ) → Fits g (puts given v unmarked)
+  marks-fit v = record { limits = w .limits; borders = omega (arith, puts-length given v unmarked, unmarked-length, borderCount-le g (w .limits)) }
 
-  -- "joined when only given walls part cells": the rooms are the potential units of a board with the given walls alone
+  -- the rooms (SPEC 1.7) are the potential units of a board with the given walls alone
   abbrev passing : ℕ → Bool
-  passing e = passes true (getD (puts walls 2 unmarked) e 0)
+  passing e = passes true (getD (puts given 2 unmarked) e 0)
 
   abbrev notGiven : ℕ → Bool
-  notGiven e = not (isGiven walls e)
+  notGiven e = not (isGiven given e)
 
   walls-part : passing ≡ notGiven
   unfolding passes
-  walls-part = fun-ext (λ e. ap (passes true) (marks-at 2 e) ∙ go (isGiven walls e))
+  walls-part = fun-ext (λ e. ap (passes true) (marks-at 2 e) ∙ go (isGiven given e))
     where
       go : (t : Bool) → passes true (pick t 2 0) ≡ not t
       go true = refl
       go false = refl
 
-  ids-same : groupIds g (puts walls 2 unmarked) true ≡ roomIds g walls
+  ids-same : groupIds g (puts given 2 unmarked) true ≡ roomIds g given
   unfolding groupIds roomIds
   ids-same = ap (λ (p : ℕ → Bool). parts (cells g) (edgesOver g p)) walls-part
 
-  count-same : groupCount g (puts walls 2 unmarked) true ≡ roomCount g walls
+  count-same : groupCount g (puts given 2 unmarked) true ≡ roomCount g given
   unfolding groupCount roomCount
   count-same = ap (λ (p : ℕ → Bool). begunIn (roots (cells g) (edgesOver g p)) (cells g)) walls-part
 
-  pub roomed : (ids starts flat ids' starts' flat' : List ℕ) (count : ℕ) → Grouped g (puts (take len given) 2 unmarked) true ids starts flat ids' starts' flat' count
-      → Roomed g (take len given) ids starts flat ids' starts' flat' count
+  pub roomed : (ids starts flat ids' starts' flat' : List ℕ) (count : ℕ) → Grouped g (puts given 2 unmarked) true ids starts flat ids' starts' flat' count
+      → Roomed g given starts flat starts' flat' count
   roomed ids starts flat ids' starts' flat' count o =
-      record {
-        count-is = o .count-is ∙ count-same;
-        ids-are = o .ids-are ∙ ap (sets ids 0) ids-same;
-        starts-are = o .starts-are ∙ cc (ids-same, count-same);
-        flat-is = o .flat-is ∙ cc (ids-same, count-same);
-      }
+      record { count-is = o .count-is ∙ count-same; starts-are = o .starts-are ∙ cc (ids-same, count-same); flat-is = o .flat-is ∙ cc (ids-same, count-same) }
 
   -- and back: the groups of a board with the given walls alone
-  grouped : (ids starts flat ids' starts' flat' : List ℕ) (count : ℕ) → Roomed g (take len given) ids starts flat ids' starts' flat' count
-      → Grouped g (puts (take len given) 2 unmarked) true ids starts flat ids' starts' flat' count
-  grouped ids starts flat ids' starts' flat' count o =
+  grouped : (starts flat starts' flat' : List ℕ) (count : ℕ) → Roomed g given starts flat starts' flat' count
+      → Grouped g (puts given 2 unmarked) true unmarked starts flat (sets unmarked 0 (groupIds g (puts given 2 unmarked) true)) starts' flat' count
+  grouped starts flat starts' flat' count o =
       record {
         count-is = o .count-is ∙ sym count-same;
-        ids-are = o .ids-are ∙ ap (sets ids 0) (sym ids-same);
+        ids-are = refl;
         starts-are = o .starts-are ∙ cc (ids-same, count-same);
         flat-is = o .flat-is ∙ cc (ids-same, count-same);
       }
 
   -- a room's cells are the part of `flat` between its start and its end
-  pub room-between : (ids starts flat ids' starts' flat' : List ℕ) (count : ℕ) → Lent (cells g) ids starts flat → Roomed g (take len given) ids starts flat ids' starts' flat' count
-      → (k : ℕ) → k < count → Between g (roomIds g (take len given)) starts' flat' count k
-  room-between ids starts flat ids' starts' flat' count l o k h = rw ids-same at (between l (grouped ids starts flat ids' starts' flat' count o) k h)
+  pub room-between : (starts flat starts' flat' : List ℕ) (count : ℕ) → Places g starts flat → Roomed g given starts flat starts' flat' count
+      → (k : ℕ) → k < count → Between g (roomIds g given) starts' flat' count k
+  room-between starts flat starts' flat' count l o k h =
+      let lent : Lent (cells g) unmarked starts flat =
+      record { ids-long = omega (arith, unmarked-length, cells-le g (w .limits)); starts-long = l .starts-long; flat-long = l .flat-long } in
+      rw ids-same at (between lent (grouped starts flat starts' flat' count o) k h)

@@ -94,10 +94,10 @@ module _ (F E : List Edge) (cs : List ℕ) (rising : Rising cs)
 -- THE ROOM'S GRAPH
 module _ (g : Grid) (given : List ℕ) (r : ℕ) where
   abbrev graph : Graph
-  graph = roomGraph g (isGiven given) (roomIds g given) r
+  graph = roomGraph g (isGiven given) (roomCells g given r)
 
   abbrev borders : List ℕ
-  borders = roomBorders g (isGiven given) (roomIds g given) r
+  borders = roomBorders g (isGiven given) (roomCells g given r)
 
   abbrev cs : List ℕ
   cs = roomCells g given r
@@ -106,19 +106,19 @@ module _ (g : Grid) (given : List ℕ) (r : ℕ) where
   pub record EdgeAt (i : ℕ) : Type 0 where
     pub spot : Spot
     pub inside : Inside g given r spot
-    pub from-is : getD (roomGraph g (isGiven given) (roomIds g given) r .us) i 0 ≡ place (roomCells g given r) (spot .cell)
-    pub into-is : getD (roomGraph g (isGiven given) (roomIds g given) r .vs) i 0 ≡ place (roomCells g given r) (next g (spot .direction) (spot .cell))
-    pub border-is : getD (roomBorders g (isGiven given) (roomIds g given) r) i 0 ≡ border g (spot .direction) (spot .cell)
+    pub from-is : getD (roomGraph g (isGiven given) (roomCells g given r) .us) i 0 ≡ place (roomCells g given r) (spot .cell)
+    pub into-is : getD (roomGraph g (isGiven given) (roomCells g given r) .vs) i 0 ≡ place (roomCells g given r) (next g (spot .direction) (spot .cell))
+    pub border-is : getD (roomBorders g (isGiven given) (roomCells g given r)) i 0 ≡ border g (spot .direction) (spot .cell)
 
-  pub edge-at : (i : ℕ) → i < roomGraph g (isGiven given) (roomIds g given) r .edges → EdgeAt i
+  pub edge-at : (i : ℕ) → i < roomGraph g (isGiven given) (roomCells g given r) .edges → EdgeAt i
   unfolding roomGraph roomBorders
   edge-at i l =
-      let o = at-place (spots g (isGiven given) (roomIds g given) r) i l in
+      let o = at-place (spots g (isGiven given) (roomCells g given r)) i l in
       record {
         spot = o .0;
         inside = spot-inside g given r (o .0) (o .1);
-        from-is = o .2 (fromOf g (roomIds g given) r);
-        into-is = o .2 (intoOf g (roomIds g given) r);
+        from-is = o .2 (fromOf (roomCells g given r));
+        into-is = o .2 (intoOf g (roomCells g given r));
         border-is = o .2 (borderOf g);
       }
 
@@ -178,9 +178,9 @@ module _ (g : Grid) (given : List ℕ) (r : ℕ) where
     unfolding roomGraph roomBorders
     spot-joined c c' e a i j free q =
         let d = a .0 in
-        let o = place-at (spots g (isGiven given) (roomIds g given) r) (record { cell = c; direction = d }) (inside-spot g given r d c c' e (a .1) i j (a .2) free) in
-        let from = o .2 (fromOf g (roomIds g given) r) in
-        let to = o .2 (intoOf g (roomIds g given) r) in
+        let o = place-at (spots g (isGiven given) (roomCells g given r)) (record { cell = c; direction = d }) (inside-spot g given r d c c' e (a .1) i j (a .2) free) in
+        let from = o .2 (fromOf (roomCells g given r)) in
+        let to = o .2 (intoOf g (roomCells g given r)) in
         let at = o .2 (borderOf g) in
         let link : isConnected (edgeState borders s (o .0)) ≡ true = eq-eqb _ 1 (ap s (at ∙ sym (a .2 .over)) ∙ q) in
         then (same (sym from)) (then (over (edges-in isConnected graph (edgeState borders s) (graph .edges) (o .0) (o .1) link)) (same (to ∙ ap (place cs) (sym (step-next g d c c' e (a .2))))))

@@ -1,25 +1,28 @@
 -- What the functions over lent slices ask and promise.
 -- Assumes nothing.
-use Prim.Native.Nat.{ℕ, _+_, _/_, _≤_, _<_}
+use Prim.Native.Nat.{ℕ, suc, _≤_, _<_}
 use mathlib.Core.Path.{_≡_}
 use mathlib.Core.Bool.{Bool, not}
 use mathlib.Core.List.{List, [], _∷_, map}
 use lib.Dec.{eqb}
-use lib.ListN.{length, getD, take, set, replicate}
+use lib.ListN.{length, getD, set, replicate}
 use lib.Seq.{sets}
+use Rattle.limits.specs.Limits.{mostBorders, mostCells}
 use Rattle.lists.specs.Lists.{In}
 use Rattle.grid.specs.declared.Grid.{Grid}
-use Rattle.grid.specs.Grid.{Limits, cells, borderCount}
-use Rattle.groups.specs.Groups.{cellsIn}
+use Rattle.grid.specs.Grid.{Limits, Cell, cells, borderCount}
+use Rattle.groups.specs.Groups.{cellsOf}
 use Rattle.groups.specs.Turn.{inTurn, startsOf}
 use Rattle.rooms.specs.Rooms.{roomIds, roomCount}
-use Rattle.rooms.specs.RoomGraph.{Spot, place, fromOf, intoOf, borderOf}
+use Rattle.rooms.specs.RoomGraph.{spots, fromOf, intoOf, borderOf}
 
--- no border is marked
+-- arrays with nothing written: marks of borders, vertices of cells, two edges for each cell
 unfoldable pub unmarked : List ℕ
-unmarked = replicate 1984 0
+unmarked = replicate mostBorders 0
 
--- an array of edges with nothing written
+unfoldable pub nowhere : List ℕ
+nowhere = replicate mostCells 0
+
 unfoldable pub blank : List ℕ
 blank = replicate 2048 0
 
@@ -28,54 +31,60 @@ unfoldable pub puts : List ℕ → ℕ → List ℕ → List ℕ
 puts [] v xs = xs
 puts (e ∷ l) v xs = puts l v (set xs e v)
 
--- the first `len` of a slice are numbers below n
-pub record Below (n : ℕ) (given : List ℕ) (len : ℕ) : Type 0 where
-  pub long : len ≤ length given
-  pub small : (e : ℕ) → In e (take len given) → e < n
+-- k at the first of the places, and one more at each of the next
+unfoldable pub numbered : List ℕ → ℕ → List ℕ → List ℕ
+numbered [] k xs = xs
+numbered (c ∷ cs) k xs = numbered cs (suc k) (set xs c k)
+
+-- numbers below n
+abbrev pub Below : ℕ → List ℕ → Type 0
+Below n xs = (e : ℕ) → In e xs → e < n
 
 -- given walls of a board within the limits
-pub record Given (g : Grid) (given : List ℕ) (len : ℕ) : Type 0 where
+pub record Given (g : Grid) (given : List ℕ) : Type 0 where
   pub limits : Limits g
-  pub below : Below (borderCount g) given len
+  pub below : Below (borderCount g) given
 
--- each cell's room, each room's start and the cells of all rooms in turn stand at the fronts of the slices; `count` is how many rooms there are
-pub record Roomed (g : Grid) (given ids starts flat ids' starts' flat' : List ℕ) (count : ℕ) : Type 0 where
+-- a place for each cell in both slices
+pub record Places (g : Grid) (starts flat : List ℕ) : Type 0 where
+  pub starts-long : cells g ≤ length starts
+  pub flat-long : cells g ≤ length flat
+
+-- each room's start and the cells of all rooms in turn stand at the fronts of the slices; `count` is how many rooms there are
+pub record Roomed (g : Grid) (given starts flat starts' flat' : List ℕ) (count : ℕ) : Type 0 where
   pub count-is : count ≡ roomCount g given
-  pub ids-are : ids' ≡ sets ids 0 (roomIds g given)
   pub starts-are : starts' ≡ sets starts 0 (startsOf (cells g) (roomIds g given) (roomCount g given))
   pub flat-is : flat' ≡ sets flat 0 (inTurn (cells g) (roomIds g given) (roomCount g given))
 
--- each cell's vertex, its place among the cells of its room
-pub record Vertices (n : ℕ) (ids vertex : List ℕ) : Type 0 where
-  pub long : n ≤ length vertex
-  pub are : (c : ℕ) → c < n → getD vertex c 0 ≡ place (cellsIn n ids (getD ids c 0)) c
-
--- marks are not 0 at the given walls
+-- not 0 at the place: a border's mark, or a cell's vertex
 abbrev pub markedIn : List ℕ → ℕ → Bool
 markedIn marks e = not (eqb (getD marks e 0) 0)
 
--- a board's marks of given walls, each cell's room and its vertex
-pub record Housed (g : Grid) (marks ids vertex : List ℕ) : Type 0 where
+-- a mark for each border, a vertex or 0 for each cell, and a cell of the board
+pub record Looking (g : Grid) (marks vertex : List ℕ) (cell : ℕ) : Type 0 where
   pub limits : Limits g
   pub marks-long : borderCount g ≤ length marks
-  pub ids-long : cells g ≤ length ids
-  pub vertices : Vertices (cells g) ids vertex
+  pub vertex-long : cells g ≤ length vertex
+  pub inside : Cell g cell
 
--- three slices that have places for m edges more
-pub record Space (us vs borders : List ℕ) (m : ℕ) : Type 0 where
+-- a mark and a state for each border, and the cells of a room: those that have its number in some list
+pub record Housed (g : Grid) (marks states cs : List ℕ) : Type 0 where
+  pub limits : Limits g
+  pub marks-long : borderCount g ≤ length marks
+  pub states-long : borderCount g ≤ length states
+  pub ids : List ℕ
+  pub room : ℕ
+  pub cells-are : cs ≡ cellsOf g ids room
+
+-- three slices that have places for m edges
+pub record Space (us vs here : List ℕ) (m : ℕ) : Type 0 where
   pub us-long : m ≤ length us
   pub vs-long : m ≤ length vs
-  pub borders-long : m ≤ length borders
+  pub here-long : m ≤ length here
 
--- the ends and borders of some edges, written from place m on, of which there are `count` then
-pub record Written (g : Grid) (ids : List ℕ) (r : ℕ) (ss : List Spot) (us vs borders : List ℕ) (m : ℕ) (us' vs' borders' : List ℕ) (count : ℕ) : Type 0 where
-  pub count-is : count ≡ m + length ss
-  pub us-are : us' ≡ sets us m (map (fromOf g ids r) ss)
-  pub vs-are : vs' ≡ sets vs m (map (intoOf g ids r) ss)
-  pub borders-are : borders' ≡ sets borders m (map (borderOf g) ss)
-
--- the first k entries of a buffer are of edges whose borders exist
-pub record Listed (borders : List ℕ) (k : ℕ) (buf : List ℕ) : Type 0 where
-  pub long : k ≤ length buf
-  pub edges : (i : ℕ) → i < k → getD buf i 0 / 2 < length borders
-  pub small : (e : ℕ) → getD borders e 0 < 1984
+-- the ends and states of a room's edges stand at the fronts; `count` is how many there are
+pub record Written (g : Grid) (given : ℕ → Bool) (states cs us vs here us' vs' here' : List ℕ) (count : ℕ) : Type 0 where
+  pub count-is : count ≡ length (spots g given cs)
+  pub us-are : us' ≡ sets us 0 (map (fromOf cs) (spots g given cs))
+  pub vs-are : vs' ≡ sets vs 0 (map (intoOf g cs) (spots g given cs))
+  pub here-are : here' ≡ sets here 0 (map (λ s. getD states (borderOf g s) 0) (spots g given cs))

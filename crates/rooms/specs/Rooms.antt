@@ -1,10 +1,11 @@
--- Given walls, rooms and clues (01, "Puzzle"). A puzzle's constants are its grid, its given walls and its clues.
+-- Given walls, rooms and clues (SPEC 1.7). A puzzle's constants are its grid, its given walls and its clues.
 -- Assumes nothing.
 use Prim.Native.Nat.{ℕ}
 use mathlib.Core.Bool.{Bool, not}
 use mathlib.Core.List.{List}
 use lib.Dec.{eqb}
 use lib.ListN.{getD}
+use Rattle.limits.specs.Limits.{noClue}
 use Rattle.lists.specs.Lists.{any}
 use Rattle.grid.specs.declared.Grid.{Grid}
 use Rattle.grid.specs.Grid.{cells}
@@ -16,11 +17,11 @@ unfoldable pub isGiven : List ℕ → ℕ → Bool
 unfolding any
 isGiven given e = any (eqb e) given
 
--- "joined when only given walls part cells"
+-- cells are joined where no given wall parts them (SPEC 1.7)
 abbrev pub roomEdges : Grid → List ℕ → List Edge
 roomEdges g given = edgesOver g (λ e. not (isGiven given e))
 
--- each cell's room: "numbered from 0 by first cell in row order"
+-- each cell's room, numbered from 0 by first cell (SPEC 1.7)
 unfoldable pub roomIds : Grid → List ℕ → List ℕ
 unfolding edgesOver isGiven parts
 roomIds g given = parts (cells g) (roomEdges g given)
@@ -35,8 +36,8 @@ roomCells g given r = cellsOf g (roomIds g given) r
 
 -- the clue of room r
 abbrev pub clueOf : List ℕ → ℕ → ℕ
-clueOf clues r = getD clues r 65535
+clueOf clues r = getD clues r noClue
 
--- "65535 means no clue"
+-- the room has a clue (SPEC 1.7)
 abbrev pub clued : List ℕ → ℕ → Bool
-clued clues r = not (eqb (clueOf clues r) 65535)
+clued clues r = not (eqb (clueOf clues r) noClue)

@@ -12,7 +12,7 @@ use Rattle.grid.specs.Grid.{Cell}
 use Rattle.grid.specs.Steps.{Neighbours}
 use Rattle.rooms.specs.Rooms.{isGiven, roomIds}
 
--- "every given wall is Wall"
+-- the first law (SPEC 2.3)
 abbrev pub GivenWalls : List ℕ → States → Type 0
 GivenWalls given s = (e : ℕ) → isGiven given e ≡ true → s e ≡ 2
 
@@ -21,7 +21,7 @@ pub record InRoom (g : Grid) (given : List ℕ) (r c : ℕ) : Type 0 where
   pub cell : Cell g c
   pub room : getD (roomIds g given) c 0 ≡ r
 
--- the room holds k units: k of its cells, no two in one unit, are such that each of its cells is in the unit of one of them
+-- the room holds k units (SPEC 2.6): k of its cells, no two in one unit, are such that each of its cells is in the unit of one of them
 pub record HoldsUnits (g : Grid) (s : States) (Room : ℕ → Type 0) (k : ℕ) : Type 0 where
   pub heads : List ℕ
   pub number : length heads ≡ k

@@ -1,231 +1,222 @@
 // The rooms of a puzzle: the cells that are joined when only given walls part cells, and the count of each room over the graph of its cells.
+// A count first finds which side of it fails, if any; another function writes the list.
 ghost use mathlib.Core.Path.{_≡_};
-ghost use Prim.Native.Nat.{ℕ, _+_, _*_, _<_, _≤_};
-ghost use mathlib.Core.List.{map};
-ghost use lib.ListN.{length, getD, take};
+ghost use Prim.Native.Nat.{_*_, _%_, _≤_};
+ghost use lib.Dec.{eqb};
+ghost use lib.ListN.{length};
 ghost use lib.Seq.{sets};
-ghost use Rattle.grid.specs.Grid.{borderCount};
-ghost use Rattle.groups.specs.Groups.{cellsOf};
-ghost use Rattle.groups.specs.Lent.{Lent};
-ghost use Rattle.groups.specs.Turn.{Keys};
+ghost use Rattle.lists.specs.Choice.{pick};
+ghost use Rattle.lists.specs.Lists.{range};
+ghost use Rattle.limits.specs.Limits.{mostCells};
+ghost use Rattle.grid.specs.declared.Direction.the-variants.{Down, Right};
+ghost use Rattle.grid.specs.Grid.{next, border};
+ghost use Rattle.grid.specs.declared.Beyond.the-variants.{At, End};
 ghost use Rattle.borders.specs.Border.{stateOf};
-ghost use Rattle.city_count.specs.Fault.{listOf};
-ghost use Rattle.city_count.specs.Room.{foundOf};
-ghost use Rattle.rooms.specs.RoomGraph.{spotsAt, spots, onBoard, roomList};
-ghost use Rattle.rooms.specs.Lent.{puts, Below, Given, Roomed, Vertices, markedIn, Housed, Space, Written, Listed};
-use city_count::Inconsistency;
+ghost use Rattle.rooms.specs.RoomGraph.{inRoom, roomGraph, roomBorders, edgeState, sideOf, kindOf, roomEntries};
+ghost use Rattle.rooms.specs.Lent.{puts, numbered, Below, Given, Places, Roomed, markedIn, Looking, Housed, Space, Written};
 use grid::Beyond;
 use grid::Direction;
 use grid::Grid;
+use lists::wide;
 
-// A 16-bit number as an index.
-fn wide(x: u16) -> usize
-    ensures { λ r. ⌜ r ≡ x ⌝ }
-{
-    x as usize
+// What the count of a room finds: nothing, or a fault, whose list has the room's Walls (true) or its Connected borders.
+pub enum Miscount {
+    Nothing,
+    Listed(bool),
 }
 
-// Writes v at the place of each of the first `len` given walls.
-pub fn put(given: &[u16], len: usize, v: u8, xs: &mut [u8])
-    requires { ⌜ Below (length (now xs)) (now given) len ⌝ }
-    ensures { λ _. ⌜ now (xs .exit) ≡ puts (take len (now (given .entry))) v (now (xs .entry)) ⌝ }
+// Writes v at the place of each given wall.
+pub fn put(given: &[u16], v: u8, xs: &mut [u8])
+    requires { ⌜ Below (length (now xs)) (now given) ⌝ }
+    ensures { λ _. ⌜ now (xs .exit) ≡ puts (now (given .entry)) v (now (xs .entry)) ⌝ }
 {
     let mut i = 0;
-    while i < len {
+    while i < given.len() {
         let e = wide(given[i]);
         xs[e] = v;
         i += 1;
     }
 }
 
-// Writes each cell's room to `ids`, each room's start to `starts` and the cells of all rooms in turn to `flat`; returns how many rooms there are.
-pub fn rooms_of(
-    g: Grid,
-    given: &[u16],
-    len: usize,
-    ids: &mut [u16],
-    starts: &mut [u16],
-    flat: &mut [u16],
-) -> usize
-    requires { ⌜ Given g (now given) len ⌝ }
-    requires { ⌜ Lent (g .height * g .width) (now ids) (now starts) (now flat) ⌝ }
-    ensures { λ r.
-        ⌜ Roomed g (take len (now (given .entry))) (now (ids .entry)) (now (starts .entry)) (now (flat .entry)) (now (ids .exit)) (now (starts .exit)) (now (flat .exit)) r ⌝ }
+// Writes the first n numbers to the slice's front.
+fn count_up(n: usize, flat: &mut [u16])
+    requires { ⌜ (n ≤ mostCells) × (n ≤ length (now flat)) ⌝ }
+    ensures { λ _. ⌜ now (flat .exit) ≡ sets (now (flat .entry)) 0 (range n) ⌝ }
 {
-    let mut walls = [0u8; 1984];
-    put(given, len, 2, &mut walls);
-    groups::groups_of(g, &walls, true, ids, starts, flat)
-}
-
-// Writes each cell's vertex to `vertex`. `next` has a place for each room, with 0 at first.
-pub fn vertices(ids: &[u16], n: usize, next: &mut [u16], vertex: &mut [u16])
-    requires { ⌜ Keys n (now ids) (length (now next)) ⌝ }
-    requires { ⌜ ((k : ℕ) → getD (now next) k 0 ≡ 0) ⌝ }
-    requires { ⌜ n ≤ length (now vertex) ⌝ }
-    ensures { λ _. ⌜ Vertices n (now (ids .entry)) (now (vertex .exit)) ⌝ }
-{
-    let mut c = 0;
-    while c < n {
-        let room = wide(ids[c]);
-        vertex[c] = next[room];
-        next[room] += 1;
-        c += 1;
+    let mut i = 0;
+    while i < n {
+        flat[i] = i as u16;
+        i += 1;
     }
 }
 
-// Looks from a cell of the room in a direction, and writes an edge that is there behind the first m; returns how many there are then.
-fn edge<'a>(
-    g: Grid,
-    marks: &'a [u8],
-    ids: &'a [u16],
-    vertex: &'a [u16],
-    room: usize,
-    cell: usize,
-    direction: Direction,
-    us: &mut [u16],
-    vs: &mut [u16],
-    borders: &mut [u16],
-    m: usize,
-) -> usize
-    requires { ⌜ Housed g (now marks) (now ids) (now vertex) ⌝ }
-    requires { ⌜ (cell < g .height * g .width) × (getD (now ids) cell 0 ≡ room) ⌝ }
-    requires { ⌜ Space (now us) (now vs) (now borders) (m + 1) ⌝ }
+// Writes each room's start to `starts` and the cells of all rooms in turn to `flat`; returns how many rooms there are. Without given walls
+// there is one, with every cell.
+pub fn rooms_of(g: Grid, given: &[u16], starts: &mut [u16], flat: &mut [u16]) -> usize
+    requires { ⌜ Given g (now given) ⌝ }
+    requires { ⌜ Places g (now starts) (now flat) ⌝ }
     ensures { λ r.
-        ⌜ Written g (now (ids .entry)) room (spotsAt g (markedIn (now (marks .entry))) (now (ids .entry)) room cell direction) (now (us .entry)) (now (vs .entry)) (now (borders .entry)) m (now (us .exit)) (now (vs .exit)) (now (borders .exit)) r ⌝ }
+        ⌜ Roomed g (now (given .entry)) (now (starts .entry)) (now (flat .entry)) (now (starts .exit)) (now (flat .exit)) r ⌝ }
 {
-    let Beyond::At(next, border) = grid::step(g, cell, direction) else {
-        return m;
-    };
-    if wide(ids[next]) != room {
-        return m;
+    if given.len() == 0 {
+        starts[0] = 0;
+        count_up(g.height * g.width, flat);
+        return 1;
     }
-    if marks[border] != 0 {
-        return m;
-    }
-    us[m] = vertex[cell];
-    vs[m] = vertex[next];
-    borders[m] = border as u16;
-    m + 1
+    let mut walls = [0u8; limits::BORDERS];
+    put(given, 2, &mut walls);
+    let mut ids = [0u16; limits::CELLS];
+    groups::groups_of(g, &walls, true, &mut ids, starts, flat)
 }
 
-// Writes the edges of a room, whose cells are handed in, and returns how many there are.
-fn edges<'a>(
-    g: Grid,
-    marks: &'a [u8],
-    ids: &'a [u16],
-    vertex: &'a [u16],
-    cells: &'a [u16],
-    room: usize,
-    us: &mut [u16],
-    vs: &mut [u16],
-    borders: &mut [u16],
-) -> usize
-    requires { ⌜ Housed g (now marks) (now ids) (now vertex) ⌝ }
-    requires { ⌜ now cells ≡ cellsOf g (now ids) room ⌝ }
-    requires { ⌜ Space (now us) (now vs) (now borders) 2048 ⌝ }
-    ensures { λ r.
-        ⌜ Written g (now (ids .entry)) room (spots g (markedIn (now (marks .entry))) (now (ids .entry)) room) (now (us .entry)) (now (vs .entry)) (now (borders .entry)) 0 (now (us .exit)) (now (vs .exit)) (now (borders .exit)) r ⌝ }
+// Each cell of the room gets its vertex, counted from 1; the others stay.
+fn number(cells: &[u16], vertex: &mut [u16])
+    requires { ⌜ Below (length (now vertex)) (now cells) ⌝ }
+    requires { ⌜ length (now cells) ≤ mostCells ⌝ }
+    ensures { λ _. ⌜ now (vertex .exit) ≡ numbered (now (cells .entry)) 1 (now (vertex .entry)) ⌝ }
 {
-    let mut m = 0;
     let mut i = 0;
     while i < cells.len() {
         let cell = wide(cells[i]);
-        m = edge(
-            g,
-            marks,
-            ids,
-            vertex,
-            room,
-            cell,
-            Direction::Down,
-            us,
-            vs,
-            borders,
-            m,
-        );
-        m = edge(
-            g,
-            marks,
-            ids,
-            vertex,
-            room,
-            cell,
-            Direction::Right,
-            us,
-            vs,
-            borders,
-            m,
-        );
+        i += 1;
+        vertex[cell] = i as u16;
+    }
+}
+
+// The edge from a cell in a direction, where the cell there has a vertex and the border between is no given wall: that cell and the border.
+fn edge<'a>(
+    g: Grid,
+    marks: &'a [u8],
+    vertex: &'a [u16],
+    cell: usize,
+    direction: Direction,
+) -> Beyond
+    requires { ⌜ Looking g (now marks) (now vertex) cell ⌝ }
+    ensures { λ r.
+        ⌜ r ≡ pick (inRoom g (markedIn (now (marks .entry))) (markedIn (now (vertex .entry))) cell direction) (At (next g direction cell) (border g direction cell)) End ⌝ }
+{
+    let beyond = grid::step(g, cell, direction);
+    let Beyond::At(next, border) = beyond else {
+        return Beyond::End;
+    };
+    if vertex[next] == 0 {
+        return Beyond::End;
+    }
+    if marks[border] != 0 {
+        return Beyond::End;
+    }
+    beyond
+}
+
+// Down for each even number, right for each odd one.
+fn way(i: usize) -> Direction
+    ensures { λ r. ⌜ r ≡ pick (eqb (i % 2) 0) Down Right ⌝ }
+{
+    if i % 2 == 0 {
+        return Direction::Down;
+    }
+    Direction::Right
+}
+
+// Writes the ends and the state of each edge of a room, whose cells are handed in, and returns how many edges there are.
+fn edges<'a>(
+    g: Grid,
+    marks: &'a [u8],
+    states: &'a [u8],
+    cells: &'a [u16],
+    us: &mut [u16],
+    vs: &mut [u16],
+    here: &mut [u8],
+) -> usize
+    requires { ⌜ Housed g (now marks) (now states) (now cells) ⌝ }
+    requires { ⌜ Space (now us) (now vs) (now here) 2048 ⌝ }
+    ensures { λ r.
+        ⌜ Written g (markedIn (now (marks .entry))) (now (states .entry)) (now (cells .entry)) (now (us .entry)) (now (vs .entry)) (now (here .entry)) (now (us .exit)) (now (vs .exit)) (now (here .exit)) r ⌝ }
+{
+    let mut vertex = [0u16; limits::CELLS];
+    number(cells, &mut vertex);
+    let mut m = 0;
+    let mut i = 0;
+    while i < 2 * cells.len() {
+        let cell = wide(cells[i / 2]);
+        let beyond = edge(g, marks, &vertex, cell, way(i));
+        if let Beyond::At(next, border) = beyond {
+            us[m] = vertex[cell] - 1;
+            vs[m] = vertex[next] - 1;
+            here[m] = states[border];
+            m += 1;
+        }
         i += 1;
     }
     m
 }
 
-// Writes the state of each of the first m borders.
-fn edge_states<'a>(borders: &'a [u16], m: usize, states: &'a [u8], out: &mut [u8])
-    requires { ⌜ Below (length (now states)) (now borders) m ⌝ }
-    requires { ⌜ m ≤ length (now out) ⌝ }
-    ensures { λ _. ⌜ now (out .exit) ≡ sets (now (out .entry)) 0 (map (stateOf (now (states .entry))) (take m (now (borders .entry)))) ⌝ }
-{
-    let mut i = 0;
-    while i < m {
-        out[i] = states[wide(borders[i])];
-        i += 1;
-    }
-}
-
-// Turns the buffer's first k entries, of edges, into those of the edges' borders.
-fn on_board(borders: &[u16], k: usize, buf: &mut [u16])
-    requires { ⌜ Listed (now borders) k (now buf) ⌝ }
-    ensures { λ _. ⌜ now (buf .exit) ≡ sets (now (buf .entry)) 0 (map (onBoard (now (borders .entry))) (take k (now (buf .entry)))) ⌝ }
-{
-    let mut i = 0;
-    while i < k {
-        let l = wide(buf[i]);
-        buf[i] = (2 * wide(borders[l / 2]) + l % 2) as u16;
-        i += 1;
-    }
-}
-
-// The count of a room: the list of a fault, in board border numbers, goes to the buffer's front; a clear room leaves the buffer.
-pub fn find_inconsistency<'a>(
+// The count of a room, whose cells are handed in: which side of it fails, if any.
+pub fn find<'a>(
     g: Grid,
     marks: &'a [u8],
     states: &'a [u8],
-    ids: &'a [u16],
-    vertex: &'a [u16],
     cells: &'a [u16],
-    room: usize,
     count: usize,
-    buf: &mut [u16],
-) -> Inconsistency
-    requires { ⌜ Housed g (now marks) (now ids) (now vertex) ⌝ }
-    requires { ⌜ now cells ≡ cellsOf g (now ids) room ⌝ }
-    requires { ⌜ (borderCount g ≤ length (now states)) × (borderCount g ≤ length (now buf)) ⌝ }
-    ensures { λ r. ⌜ r ≡ foundOf (roomList g (markedIn (now (marks .entry))) (now (ids .entry)) room count (stateOf (now (states .entry)))) ⌝ }
+) -> Miscount
+    requires { ⌜ Housed g (now marks) (now states) (now cells) ⌝ }
     ensures { λ r.
-        ⌜ now (buf .exit) ≡ sets (now (buf .entry)) 0 (listOf (roomList g (markedIn (now (marks .entry))) (now (ids .entry)) room count (stateOf (now (states .entry))))) ⌝ }
+        ⌜ r ≡ sideOf (roomGraph g (markedIn (now (marks .entry))) (now (cells .entry))) count (edgeState (roomBorders g (markedIn (now (marks .entry))) (now (cells .entry))) (stateOf (now (states .entry)))) ⌝ }
 {
     let mut us = [0u16; 2048];
     let mut vs = [0u16; 2048];
-    let mut borders = [0u16; 2048];
-    let m = edges(
-        g,
-        marks,
-        ids,
-        vertex,
-        cells,
-        room,
-        &mut us,
-        &mut vs,
-        &mut borders,
-    );
     let mut here = [0u8; 2048];
-    edge_states(&borders, m, states, &mut here);
-    let found = city_count::find_inconsistency(cells.len(), m, &us, &vs, &here, count, buf);
-    let Inconsistency::Listed(k) = found else {
-        return Inconsistency::Nothing;
-    };
-    on_board(&borders, k, buf);
-    Inconsistency::Listed(k)
+    let n = cells.len();
+    let m = edges(g, marks, states, cells, &mut us, &mut vs, &mut here);
+    if room_parts::tipped(n, m, &us, &vs, &here, count) {
+        return Miscount::Listed(false);
+    }
+    if room_parts::outnumber(n, m, &us, &vs, &here, count) {
+        return Miscount::Listed(true);
+    }
+    Miscount::Nothing
+}
+
+// Wall or Connected, as a state.
+fn kind_of(wall: bool) -> u8
+    ensures { λ r. ⌜ r ≡ kindOf wall ⌝ }
+{
+    if wall {
+        return 2;
+    }
+    1
+}
+
+// Writes the entries of a room's Walls, or of its Connected edges, to the buffer's front, and returns how many there are.
+pub fn write<'a>(
+    g: Grid,
+    marks: &'a [u8],
+    states: &'a [u8],
+    cells: &'a [u16],
+    wall: bool,
+    buffer: &mut [u16],
+) -> usize
+    requires { ⌜ Housed g (now marks) (now states) (now cells) ⌝ }
+    requires { ⌜ 2 * length (now cells) ≤ length (now buffer) ⌝ }
+    ensures { λ r. ⌜ r ≡ length (roomEntries g (markedIn (now (marks .entry))) (now (cells .entry)) wall (stateOf (now (states .entry)))) ⌝ }
+    ensures { λ _.
+        ⌜ now (buffer .exit) ≡ sets (now (buffer .entry)) 0 (roomEntries g (markedIn (now (marks .entry))) (now (cells .entry)) wall (stateOf (now (states .entry)))) ⌝ }
+{
+    let kind = kind_of(wall);
+    let mut vertex = [0u16; limits::CELLS];
+    number(cells, &mut vertex);
+    let mut n = 0;
+    let mut i = 0;
+    while i < 2 * cells.len() {
+        let cell = wide(cells[i / 2]);
+        let beyond = edge(g, marks, &vertex, cell, way(i));
+        if let Beyond::At(_, border) = beyond {
+            if states[border] == kind {
+                buffer[n] = borders::entry(border, wall);
+                n += 1;
+            }
+        }
+        i += 1;
+    }
+    n
 }

@@ -24,8 +24,8 @@ use Rattle.groups.proofs.GroupLaws.{in-cells}
 use Rattle.path.proofs.Agreement.{list-agrees}
 use Rattle.boundary.specs.Boundary.{ahead, potentialBoundary}
 use Rattle.boundary.proofs.Agreement.{unit-agrees, potential-agrees}
-use Rattle.shape.specs.Shape.{innerAt, innerWall, wallTo, adjacent, shift, UnitInfo, unitOf, falls, meets, innerBorder, shut, onWall, onConnected, landing, landed, try, isGood, entryOf, tryAt, fits, failures, boundaries, unitFault, faultIn, shapeFault}
-use Rattle.shape.specs.Shape.Try.{passed}
+use Rattle.shape.specs.Shape.{innerAt, innerWall, wallTo, behind, parted, adjacent, shift, UnitInfo, unitOf, falls, meets, innerBorder, shut, onWall, onConnected, landing, landed, try, isGood, entryOf, tryAt, fits, failures, boundaries, unitFault, faultIn, shapeFault}
+use Rattle.shape.specs.declared.Try.the-variants.{Passed}
 use Rattle.shape.proofs.Translation.{shift-moves}
 
 module _ (g : Grid) (a b : List ℕ) (agree : Agree g a b) where
@@ -64,7 +64,7 @@ module _ (g : Grid) (a b : List ℕ) (agree : Agree g a b) where
 
     -- OFFSETS
     adjacent-agrees : (p q : ℕ) → adjacent g a pids p q ≡ adjacent g b pids p q
-    unfolding adjacent wallTo
+    unfolding adjacent parted behind wallTo
     adjacent-agrees p q =
         ap (either (eqb p q))
         (any-same (λ c. any (wallTo g a pids q c) around) (λ c. any (wallTo g b pids q c) around) (cellsOf g pids p)
@@ -103,7 +103,7 @@ module _ (g : Grid) (a b : List ℕ) (agree : Agree g a b) where
       try-agrees : try g a ids pids u put ≡ try g b ids pids u put
       unfolding try
       try-agrees =
-          ap₂ (λ t o. pick (both (all (falls ids u put) (u .cells)) t) (landed o) passed)
+          ap₂ (λ t o. pick (both (all (falls ids u put) (u .cells)) t) (landed o) Passed)
           (any-same (meets g a pids u put) (meets g b pids u put) (u .cells) (λ c m. meets-agree c)) landing-agrees
 
     -- UNITS

@@ -25,8 +25,9 @@ use Rattle.boundary.proofs.Lengths.{when-most, gather-most, gather-both, gather
 use Rattle.boundary.proofs.BoundaryLaws.{unit-most, potential-most, cells-most}
 use Rattle.path.specs.Path.{pathList}
 use Rattle.path.proofs.PathLaws.{path-list-short}
-use Rattle.shape.specs.Shape.{innerWall, adjacent, Try, UnitInfo, unitOf, entryOf, tryAt, fits, failures, boundaries, unitFault, faultIn}
-use Rattle.shape.specs.Shape.Try.{passed, good, failed}
+use Rattle.shape.specs.Shape.{innerWall, adjacent, UnitInfo, unitOf, entryOf, tryAt, fits, failures, boundaries, unitFault, faultIn}
+use Rattle.shape.specs.declared.Try.{Try}
+use Rattle.shape.specs.declared.Try.the-variants.{Passed, Good, Failed}
 use Rattle.shape.proofs.InnerWalls.{inner-at}
 
 -- rising numbers, from a on
@@ -96,9 +97,9 @@ groups-most g ids p n = omega (arith, apart ids (keep p (range n)) 0 (rising-kee
 
 entry-most : (t : Try) → length (entryOf t) ≤ 1
 unfolding entryOf
-entry-most passed = omega arith
-entry-most good = omega arith
-entry-most (failed l) = omega arith
+entry-most Passed = omega arith
+entry-most Good = omega arith
+entry-most (Failed l) = omega arith
 
 module _ (g : Grid) (states ids pids : List ℕ) (n : ℕ) (u : UnitInfo) where
   pub failures-most : length (failures g states ids pids u) ≤ cells g

@@ -16,7 +16,7 @@ use Rattle.lists.proofs.Cases.{true-or-false, not-both}
 use Rattle.lists.proofs.ChoiceLaws.{both-true, true-both, either-true, left-either, right-either, give-some, give-none, orElse-none, orElse-some, holds-true, true-holds, none-or-some, through-some, through-none}
 use Rattle.lists.proofs.ListLaws.{any-true, true-any, all-true, true-all, first-some, first-none}
 use Rattle.frame.specs.Frame.{Relation, States, SameUnit, SamePotential, Adjacent}
-use Rattle.frame.specs.Offset.{Tried, Good, OnWall, OnConnected, Fails}
+use Rattle.frame.proofs.Offset.{Tried, Good, OnWall, OnConnected, Fails}
 use Rattle.grid.specs.declared.Direction.{Direction}
 use Rattle.grid.specs.declared.Grid.{Grid}
 use Rattle.grid.specs.Grid.{Cell, goesOn, next, border}
@@ -32,8 +32,9 @@ use Rattle.borders.proofs.Directions.{Ahead, down-or-right, in-around}
 use Rattle.groups.specs.Groups.{cellsOf}
 use Rattle.groups.proofs.GroupLaws.{Labels, in-cells, cells-in, chain-cell}
 use Rattle.boundary.specs.Boundary.{ahead}
-use Rattle.shape.specs.Shape.{wallTo, adjacent, UnitInfo, falls, meets, innerBorder, shut, onWall, onConnected, landing, Try, landed, try, isGood, entryOf}
-use Rattle.shape.specs.Shape.Try.{passed}
+use Rattle.shape.specs.Shape.{wallTo, behind, parted, adjacent, UnitInfo, falls, meets, innerBorder, shut, onWall, onConnected, landing, landed, try, isGood, entryOf}
+use Rattle.shape.specs.declared.Try.{Try}
+use Rattle.shape.specs.declared.Try.the-variants.{Passed}
 use Rattle.shape.proofs.Moves.{Moves}
 
 -- u is the unit of its first cell
@@ -44,13 +45,13 @@ pub record IsUnit (g : Grid) (ids pids : List ℕ) (u : UnitInfo) : Type 0 where
   pub id : getD ids (u .first) 0 ≡ u .number
   pub own : u .own ≡ getD pids (u .first) 0
 
-good-pick : (t : Bool) (o : Option ℕ) → isGood (pick t (landed o) passed) ≡ true → (t ≡ true) × (o ≡ none)
+good-pick : (t : Bool) (o : Option ℕ) → isGood (pick t (landed o) Passed) ≡ true → (t ≡ true) × (o ≡ none)
 unfolding isGood landed
 good-pick true none q = (refl, refl)
 good-pick true (some l) q = absurd (true≢false (sym q))
 good-pick false o q = absurd (true≢false (sym q))
 
-pub entry-pick : (t : Bool) (o : Option ℕ) (l : ℕ) → In l (entryOf (pick t (landed o) passed)) → o ≡ some l
+pub entry-pick : (t : Bool) (o : Option ℕ) (l : ℕ) → In l (entryOf (pick t (landed o) Passed)) → o ≡ some l
 unfolding entryOf landed
 entry-pick true none l m = absurd m
 entry-pick true (some e) l (inl q) = ap some (sym q)
@@ -145,7 +146,7 @@ module _ (g : Grid) (states ids pids : List ℕ) (m n : ℕ)
 
   -- ADJACENCY
   pub adjacent-true : (f x : ℕ) → Cell g f → Cell g x → adjacent g states pids (getD pids f 0) (getD pids x 0) ≡ true → Adjacent Nb s f x
-  unfolding adjacent wallTo
+  unfolding adjacent parted behind wallTo
   adjacent-true f x fn xn q =
       let p = getD pids f 0 in
       let r = getD pids x 0 in
@@ -169,7 +170,7 @@ module _ (g : Grid) (states ids pids : List ℕ) (m n : ℕ)
       (either-true (eqb p r) (any (λ c. any (wallTo g states pids r c) around) (cellsOf g pids p)) q)
 
   pub true-adjacent : (f x : ℕ) → Cell g f → Cell g x → Adjacent Nb s f x → adjacent g states pids (getD pids f 0) (getD pids x 0) ≡ true
-  unfolding adjacent wallTo
+  unfolding adjacent parted behind wallTo
   true-adjacent f x fn xn (inl j) = left-either (eqb (getD pids f 0) (getD pids x 0)) _ (eq-eqb _ _ (lp .alike f x fn xn j))
   true-adjacent f x fn xn (inr k) =
       let p = getD pids f 0 in
@@ -352,7 +353,7 @@ module _ (g : Grid) (states ids pids : List ℕ) (m n : ℕ)
       tried-fails S stood bad k =
           let q : test ≡ true = true-tried k in
           let land = landing g states ids u put in
-          let r : try g states ids pids u put ≡ landed land = ap (λ t. pick t (landed land) passed) q in
+          let r : try g states ids pids u put ≡ landed land = ap (λ t. pick t (landed land) Passed) q in
           ⊎-elim
           (λ (z : land ≡ none). absurd (bad (ap isGood (r ∙ ap landed z))))
           (λ (z : (l : ℕ) × (land ≡ some l)).

@@ -13,7 +13,7 @@ use Rattle.lists.specs.Lists.{range, first}
 use Rattle.lists.proofs.ChoiceLaws.{orElse-none, orElse-some, none-or-some}
 use Rattle.lists.proofs.ListLaws.{first-some, first-none, range-in, in-range}
 use Rattle.frame.specs.Frame.{States, Full, NoInnerWall}
-use Rattle.frame.specs.Offset.{Good}
+use Rattle.frame.proofs.Offset.{Good}
 use Rattle.frame.proofs.Never.{good-move}
 use Rattle.frame.proofs.Partners.{partner-good, good-partner}
 use Rattle.grid.specs.declared.Grid.{Grid}

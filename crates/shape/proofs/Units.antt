@@ -14,7 +14,7 @@ use Rattle.lists.proofs.Cases.{eq-or-ne, true-or-false, not-both}
 use Rattle.lists.proofs.ChoiceLaws.{give-some, give-none}
 use Rattle.lists.proofs.ListLaws.{in-left, in-right, in-append, keep-in, any-true, true-any, in-gather, gather-in, range-in, in-range}
 use Rattle.frame.specs.Frame.{Relation, States, on, SameUnit, SamePotential, Adjacent}
-use Rattle.frame.specs.Offset.{Good, Reason}
+use Rattle.frame.proofs.Offset.{Good, Reason}
 use Rattle.frame.proofs.Never.{never-good}
 use Rattle.grid.specs.declared.Grid.{Grid}
 use Rattle.grid.specs.Grid.{cells, Cell}

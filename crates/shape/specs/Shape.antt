@@ -17,6 +17,8 @@ use Rattle.borders.specs.Border.{stateAt, stands}
 use Rattle.groups.specs.Groups.{groupIds, groupCount, cellsIn, cellsOf}
 use Rattle.path.specs.Path.{pathList}
 use Rattle.boundary.specs.Boundary.{ahead, unitBoundary, potentialBoundary}
+use Rattle.shape.specs.declared.Try.{Try}
+use Rattle.shape.specs.declared.Try.the-variants.{Passed, Good, Failed}
 
 -- INNER WALLS
 -- a Wall with one unit on both sides: the path between its cells, and then the Wall (SPEC 4.6)
@@ -37,10 +39,20 @@ unfoldable pub wallTo : Grid → List ℕ → List ℕ → ℕ → ℕ → Direc
 unfolding stands next
 wallTo g states pids q c d = both (stands g states 2 d c) (ahead g pids q c d)
 
+-- q is behind a Wall of cell c
+unfoldable pub behind : Grid → List ℕ → List ℕ → ℕ → ℕ → Bool
+unfolding any wallTo
+behind g states pids c q = any (wallTo g states pids q c) around
+
+-- q is behind a Wall of one of these cells
+unfoldable pub parted : Grid → List ℕ → List ℕ → List ℕ → ℕ → Bool
+unfolding any behind
+parted g states pids cs q = any (λ c. behind g states pids c q) cs
+
 -- the potential units p and q are one, or a Wall lies between them (SPEC 4.7)
 unfoldable pub adjacent : Grid → List ℕ → List ℕ → ℕ → ℕ → Bool
-unfolding any wallTo cellsIn
-adjacent g states pids p q = either (eqb p q) (any (λ c. any (wallTo g states pids q c) around) (cellsOf g pids p))
+unfolding parted cellsIn
+adjacent g states pids p q = either (eqb p q) (parted g states pids (cellsOf g pids p) q)
 
 -- OFFSETS
 -- where u falls on a line of n places when f is put on t; nothing where it leaves the line
@@ -111,30 +123,26 @@ landing g states ids u put =
     (first (λ c. first (onWall g states ids u put c) forward) (u .cells))
     (first (λ c. first (onConnected g states put c) around) (u .cells))
 
--- what comes of an offset: it is passed over, it is good, or a landing fails, with its entry
-pub data Try : Type 0 where
-  passed good : Try
-  failed : ℕ → Try
-
+-- what comes of an offset that is not passed over
 unfoldable pub landed : Option ℕ → Try
-landed none = good
-landed (some l) = failed l
+landed none = Good
+landed (some l) = Failed l
 
 -- what comes of the offset that puts each cell where `put` says (SPEC 4.8, 4.9)
 unfoldable pub try : Grid → List ℕ → List ℕ → List ℕ → UnitInfo → (ℕ → Option ℕ) → Try
 unfolding all any falls meets landed landing
 try g states ids pids u put =
-    pick (both (all (falls ids u put) (u .cells)) (any (meets g states pids u put) (u .cells))) (landed (landing g states ids u put)) passed
+    pick (both (all (falls ids u put) (u .cells)) (any (meets g states pids u put) (u .cells))) (landed (landing g states ids u put)) Passed
 
 unfoldable pub isGood : Try → Bool
-isGood passed = false
-isGood good = true
-isGood (failed l) = false
+isGood Passed = false
+isGood Good = true
+isGood (Failed l) = false
 
 unfoldable pub entryOf : Try → List ℕ
-entryOf passed = []
-entryOf good = []
-entryOf (failed l) = l ∷ []
+entryOf Passed = []
+entryOf Good = []
+entryOf (Failed l) = l ∷ []
 
 -- UNITS
 -- the offset that puts the unit's first cell on t (SPEC 4.8)

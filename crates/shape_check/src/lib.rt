@@ -4,18 +4,12 @@ ghost use Prim.Native.Nat.{_*_, _≤_};
 ghost use lib.ListN.{length};
 ghost use Rattle.groups.specs.Floods.{Fits};
 ghost use Rattle.shape.specs.Shape.{shapeFault};
-ghost use Rattle.inner_walls.specs.Found.{Told};
-ghost use Rattle.shape_check.specs.Answer.{answerOf, written, shapeOutcome};
+ghost use Rattle.answers.specs.Answers.{Told, answerOf, written};
+ghost use Rattle.shape_check.specs.Answer.{shapeOutcome};
+use answers::Answer;
+use answers::Found;
 use board::Board;
 use grid::Grid;
-use inner_walls::Found;
-
-// Clear, a fault whose list has so many entries, or refused with 01's number.
-pub enum ShapeAnswer {
-    Clear,
-    Fault(usize),
-    Refused(u8),
-}
 
 // The check of borders in these states: inner Walls, and else the units in order.
 pub fn shape_fault(g: Grid, states: &[u8], buffer: &mut [u16]) -> Found
@@ -26,36 +20,36 @@ pub fn shape_fault(g: Grid, states: &[u8], buffer: &mut [u16]) -> Found
     let height = g.height;
     let width = g.width;
     let n = height * width;
-    let mut ids = [0u16; 1024];
-    let mut starts = [0u16; 1024];
-    let mut flat = [0u16; 1024];
+    let mut ids = [0u16; limits::CELLS];
+    let mut starts = [0u16; limits::CELLS];
+    let mut flat = [0u16; limits::CELLS];
     let count = groups::groups_of(g, states, false, &mut ids, &mut starts, &mut flat);
     let f = inner_walls::inner_wall(g, states, &ids[..n], buffer);
     if let Found::Fault(len) = f {
         return Found::Fault(len);
     }
-    unit_check::check_units(g, states, &ids[..n], &starts, &flat, count, buffer)
+    unit_check::check_units(g, states, &ids[..n], &starts[..count], &flat, buffer)
 }
 
 // A board's ask: whether its standing borders contradict the laws that concern shape, and by which.
-pub fn find_inconsistency(b: Board, buffer: &mut [u16]) -> ShapeAnswer
+pub fn find_inconsistency(b: Board, buffer: &mut [u16]) -> Answer
     ensures { λ r. ⌜ r ≡ answerOf (shapeOutcome b (length (now (buffer .entry)))) ⌝ }
     ensures { λ _. ⌜ now (buffer .exit) ≡ written (shapeOutcome b (length (now (buffer .entry)))) (now (buffer .entry)) ⌝ }
 {
     let code = board::check_parts(b.grid, &b.book.states, &b.book.names, b.book.len);
     if code != 0 {
-        return ShapeAnswer::Refused(code);
+        return Answer::Refused(code);
     }
     let cells = b.grid.height * b.grid.width;
     if buffer.len() < 9 * cells {
-        return ShapeAnswer::Refused(6);
+        return Answer::Refused(6);
     }
     let g = Grid {
         height: b.grid.height,
         width: b.grid.width,
     };
     let Found::Fault(n) = shape_fault(g, &b.book.states, buffer) else {
-        return ShapeAnswer::Clear;
+        return Answer::Clear;
     };
-    ShapeAnswer::Fault(n)
+    Answer::Fault(n)
 }

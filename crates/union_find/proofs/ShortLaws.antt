@@ -1,4 +1,4 @@
--- "shortens the chain: each vertex on it then names the root": those vertices, and no other, get another parent.
+-- The shortened chain (SPEC 4.13): the vertices on it, and no other, get another parent.
 -- Assumes nothing.
 use Prim.Native.Nat.{ℕ, zero, suc, _<_}
 use mathlib.Core.Path.{_≡_, refl, sym, _∙_}

@@ -1,4 +1,4 @@
--- Chains of parents: 01's Union. A list holds each vertex' parent at the vertex' place.
+-- Chains of parents (SPEC 1.9 and 4.13). A list holds each vertex' parent at the vertex' place.
 -- Assumes nothing.
 use Prim.Native.Nat.{ℕ, zero, suc}
 use mathlib.Core.Bool.{Bool, not}
@@ -20,20 +20,20 @@ climb (suc d) p x = climb d p (up p x)
 abbrev pub isRoot : List ℕ → ℕ → Bool
 isRoot p x = eqb (up p x) x
 
--- "a union's parents exist": each of the n vertices' parents is one of them
+-- the parents exist (SPEC 3.2): each of the n vertices' parents is one of them
 unfoldable pub parentsExist : ℕ → List ℕ → Bool
 parentsExist n p = all (λ x. ltb (up p x) n) (range n)
 
--- "every chain ends": n steps up from each of the n vertices lead to a root
+-- every chain ends (SPEC 3.2): n steps up from each of the n vertices lead to a root
 unfoldable pub chainsEnd : ℕ → List ℕ → Bool
 chainsEnd n p = all (λ x. isRoot p (climb n p x)) (range n)
 
--- "shortens the chain: each vertex on it then names the root": x and the vertices above it, d in all, name the vertex d steps above x
+-- the chain is shortened (SPEC 4.13): x and the vertices above it, d in all, name the vertex d steps above x
 unfoldable pub shortened : ℕ → List ℕ → ℕ → List ℕ
 shortened zero p x = p
 shortened (suc d) p x = set (shortened d p (up p x)) x (climb (suc d) p x)
 
--- "Unite finds x's root, then y's": y's chain is followed once x's is shortened
+-- unite finds x's root, then y's (SPEC 4.13): y's chain is followed once x's is shortened
 abbrev pub rootOne : ℕ → List ℕ → ℕ → ℕ
 rootOne n p x = climb n p x
 
@@ -47,6 +47,6 @@ bothShortened n p x y = shortened n (shortened n p x) y
 unfoldable pub united : ℕ → List ℕ → ℕ → ℕ → Bool
 united n p x y = not (eqb (rootOne n p x) (rootOther n p x y))
 
--- "and hangs x's root under y's"
+-- x's root hangs under y's (SPEC 4.13)
 unfoldable pub hung : ℕ → List ℕ → ℕ → ℕ → List ℕ
 hung n p x y = pick (united n p x y) (set (bothShortened n p x y) (rootOne n p x) (rootOther n p x y)) (bothShortened n p x y)

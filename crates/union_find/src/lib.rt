@@ -3,15 +3,18 @@
 ghost use mathlib.Core.Path.{_≡_};
 ghost use Prim.Native.Nat.{_≤_, _<_};
 ghost use lib.Seq.{sets};
+ghost use Rattle.limits.specs.Limits.{mostCells};
 ghost use Rattle.lists.specs.Lists.{range};
 ghost use Rattle.union_find.specs.Chains.{climb, shortened, united, hung, parentsExist, chainsEnd};
 ghost use Rattle.union_find.specs.Requires.{Stays, Parents};
 ghost use Rattle.union_find.specs.UnionFind.{holdsOf, newOf, findOf, uniteOf};
+use limits::CELLS;
+use lists::wide;
 
 // The first `n` places of `parent` are the vertices; what stands behind them is no part of the record.
 #[repr(C)]
 pub struct UnionFind {
-    pub parent: [u16; 1024],
+    pub parent: [u16; CELLS],
     pub n: usize,
 }
 
@@ -35,15 +38,9 @@ pub struct United {
     pub union: UnionFind,
 }
 
-fn wide(x: u16) -> usize
-    ensures { λ r. ⌜ r ≡ x ⌝ }
-{
-    x as usize
-}
-
 // Each of the first `n` vertices becomes its own parent.
-pub fn alone(p: &mut [u16; 1024], n: usize)
-    requires { ⌜ n ≤ 1024 ⌝ }
+pub fn alone(p: &mut [u16; CELLS], n: usize)
+    requires { ⌜ n ≤ mostCells ⌝ }
     ensures { λ _. ⌜ now (p .exit) ≡ sets (now (p .entry)) 0 (range n) ⌝ }
 {
     let mut i = 0;
@@ -54,7 +51,7 @@ pub fn alone(p: &mut [u16; 1024], n: usize)
 }
 
 // The vertex `depth` steps above `x`, which is its root where the chain is no longer; each vertex on the way then names it.
-pub fn find_in(p: &mut [u16; 1024], x: usize, depth: usize) -> usize
+pub fn find_in(p: &mut [u16; CELLS], x: usize, depth: usize) -> usize
     requires { ⌜ Stays (now p) x ⌝ }
     ensures { λ r. ⌜ (r ≡ climb depth (now (p .entry)) x) × (now (p .exit) ≡ shortened depth (now (p .entry)) x) ⌝ }
 {
@@ -71,7 +68,7 @@ pub fn find_in(p: &mut [u16; 1024], x: usize, depth: usize) -> usize
 }
 
 // Unites the parts of `x` and `y` of `n` vertices, and tells whether they were two.
-pub fn unite_in(p: &mut [u16; 1024], n: usize, x: usize, y: usize) -> bool
+pub fn unite_in(p: &mut [u16; CELLS], n: usize, x: usize, y: usize) -> bool
     requires { ⌜ Parents n (now p) ⌝ }
     requires { ⌜ (x < n) × (y < n) ⌝ }
     ensures { λ r. ⌜ (r ≡ united n (now (p .entry)) x y) × (now (p .exit) ≡ hung n (now (p .entry)) x y) ⌝ }
@@ -86,8 +83,8 @@ pub fn unite_in(p: &mut [u16; 1024], n: usize, x: usize, y: usize) -> bool
 }
 
 // Is each of the `n` vertices' parents one of them?
-fn parents_exist(p: &[u16; 1024], n: usize) -> bool
-    requires { ⌜ n ≤ 1024 ⌝ }
+fn parents_exist(p: &[u16; CELLS], n: usize) -> bool
+    requires { ⌜ n ≤ mostCells ⌝ }
     ensures { λ r. ⌜ r ≡ parentsExist n (now (p .entry)) ⌝ }
 {
     let mut i = 0;
@@ -101,7 +98,7 @@ fn parents_exist(p: &[u16; 1024], n: usize) -> bool
 }
 
 // Does every chain end? `q` holds the parents too, and each vertex is found in it, so that no chain is walked twice.
-fn chains_end(p: &[u16; 1024], q: &mut [u16; 1024], n: usize) -> bool
+fn chains_end(p: &[u16; CELLS], q: &mut [u16; CELLS], n: usize) -> bool
     requires { ⌜ Parents n (now p) ⌝ }
     requires { ⌜ now q ≡ now p ⌝ }
     ensures { λ r. ⌜ r ≡ chainsEnd n (now (p .entry)) ⌝ }
@@ -119,7 +116,7 @@ fn chains_end(p: &[u16; 1024], q: &mut [u16; 1024], n: usize) -> bool
 
 // Question 2: do the parents exist, and does every chain end?
 fn holds(u: UnionFind) -> bool
-    requires { ⌜ u .n ≤ 1024 ⌝ }
+    requires { ⌜ u .n ≤ mostCells ⌝ }
     ensures { λ r. ⌜ r ≡ holdsOf (u .n) (u .parent) ⌝ }
 {
     let n = u.n;
@@ -135,8 +132,8 @@ fn holds(u: UnionFind) -> bool
 pub fn new(n: usize) -> Made
     ensures { λ r. ⌜ r ≡ newOf n ⌝ }
 {
-    let mut parent = [0u16; 1024];
-    if 1024 < n {
+    let mut parent = [0u16; CELLS];
+    if CELLS < n {
         return Made {
             code: 1,
             union: UnionFind { parent, n: 0 },
@@ -154,7 +151,7 @@ pub fn find(u: UnionFind, x: usize) -> Found
     ensures { λ r. ⌜ r ≡ findOf u x ⌝ }
 {
     let n = u.n;
-    if 1024 < n {
+    if CELLS < n {
         return Found {
             code: 1,
             root: 0,
@@ -189,7 +186,7 @@ pub fn unite(u: UnionFind, x: usize, y: usize) -> United
     ensures { λ r. ⌜ r ≡ uniteOf u x y ⌝ }
 {
     let n = u.n;
-    if 1024 < n {
+    if CELLS < n {
         return United {
             code: 1,
             united: false,

@@ -1,7 +1,4 @@
-pub mod TableLaws
+pub mod FindLaws
 pub mod RestLaws
-pub mod TrialLaws
-pub mod FaultLaws
-pub mod UnitLaws
+pub mod WriteLaws
 pub mod StageLaws
-pub mod PotentialLaws

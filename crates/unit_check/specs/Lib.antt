@@ -1,5 +1,5 @@
--- Defined here: what the functions of the unit stage ask and promise: a unit at all offsets (`Trials`), the list of one that fits nowhere
--- (`Faults`), the units in order (`Units`). The stage itself is `unitFault` of shape/specs/Shape.antt, for each unit in order.
-pub mod Trials
-pub mod Faults
+-- Defined here: what finding the first unit that fits nowhere asks and promises (`Find`), what writing its list does (`Write`), and the
+-- stage (`Units`). A unit's fault is `unitFault` of shape/specs/Shape.antt.
+pub mod Find
+pub mod Write
 pub mod Units

@@ -12,7 +12,6 @@ use answers::Plain;
 use board::Board;
 use city_count::CityCountConstraint;
 use grid::Grid;
-use hand_over::Handed;
 use puzzle::Puzzle;
 use union_find::UnionFind;
 
@@ -104,31 +103,16 @@ pub fn on_puzzle(d: Desk, c: Command) -> Desk {
     next
 }
 
-fn of_handed(handed: Handed) -> Plain {
-    match handed {
-        Handed::Written(length) => Plain {
-            code: 0,
-            fault: false,
-            length,
-        },
-        Handed::Refused(code) => Plain {
-            code,
-            fault: false,
-            length: 0,
-        },
-    }
-}
-
 // A list, handed over into so many places.
 fn hand_over_lent(q: Queue, places: usize, buffer: &mut [u16]) -> Plain {
     let items = q.items;
     let n = queue::within(&items, q.len);
     let m = queue::within(buffer, places);
-    of_handed(hand_over::hand_over(&items[..n], &mut buffer[..m]))
+    answers::of_listed(hand_over::hand_over(&items[..n], &mut buffer[..m]))
 }
 
 fn hand_over_list(q: Queue, places: usize) {
-    let mut buffer = [0u16; 1984];
+    let mut buffer = [0u16; limits::BORDERS];
     let a = hand_over_lent(q, places, &mut buffer);
     say::plain(a, &buffer);
 }

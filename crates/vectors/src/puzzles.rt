@@ -64,7 +64,7 @@ fn ask_lent(p: Puzzle, places: usize, buffer: &mut [u16]) -> Plain {
 }
 
 fn ask(p: Puzzle, places: usize) {
-    let mut buffer = [0u16; 9216];
+    let mut buffer = [0u16; limits::ENTRIES];
     let a = ask_lent(p, places, &mut buffer);
     say::plain(a, &buffer);
 }

@@ -2,13 +2,13 @@
 ghost use Rattle.io.specs.Counts.{Counts};
 
 pub struct Queue {
-    pub items: [u16; 1984],
+    pub items: [u16; limits::BORDERS],
     pub len: usize,
 }
 
 pub fn empty() -> Queue {
     Queue {
-        items: [0u16; 1984],
+        items: [0u16; limits::BORDERS],
         len: 0,
     }
 }
@@ -25,7 +25,7 @@ fn narrow(x: usize) -> u16 {
 pub fn put(q: Queue, x: usize) -> Queue {
     let mut items = q.items;
     let len = q.len;
-    if len < 1984 {
+    if len < limits::BORDERS {
         items[len] = narrow(x);
         return Queue {
             items,

@@ -28,7 +28,7 @@ pub fn make(n: usize, count: usize, first: Queue, second: Queue) -> CityCountCon
 }
 
 fn ask(r: CityCountConstraint) {
-    let mut buffer = [0u16; 1984];
+    let mut buffer = [0u16; limits::BORDERS];
     let a = answers::of_answer(city_count::ask(r, &mut buffer));
     say::plain(a, &buffer);
 }

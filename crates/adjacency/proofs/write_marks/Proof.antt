@@ -14,9 +14,6 @@ Inv-loop list from to mark marks₀ i₀ marks i = (from ≤ i) × (i ≤ to) ×
 abbrev μ-loop : tie.MeasureT-loop
 μ-loop list from to mark marks₀ i₀ marks i = to - i
 
-loop-holds : tie.Need-loop-holds Inv-loop μ-loop
-loop-holds c = (omega arith, omega arith, written-none _ _ _ _)
-
 slice-write-marks : tie.Need-slice-write-marks Inv-loop μ-loop
 slice-write-marks c =
     let l = c .before .before .before in
@@ -31,9 +28,6 @@ loop-again c =
     let h = p .1 (l .loop .i) (l .loop .inv .0) (c .before .before .loop-test .taken) in
     (omega arith, omega arith, written-turn _ _ _ _ _ _ _ (l .loop .inv .2) (l .loop .inv .0) (c .wide .ensures) (omega (arith, c .wide .ensures, h)))
 
-same-length : tie.Need-same-length Inv-loop μ-loop
-same-length c = c .before .loop .inv .2 .long
-
 returns : tie.Need-returns Inv-loop μ-loop
 returns c =
     let l = c .before .loop in
@@ -42,17 +36,5 @@ returns c =
 
 pub write-marks-spec : {M : Type 1} → statement M
 write-marks-spec =
-    tie.close
-    (tie.spec
-    Inv-loop
-    μ-loop
-    loop-holds
-    (λ c. omega arith)
-    (λ c. omega arith)
-    (λ c κs. search needs)
-    slice-write-marks
-    (λ c. omega arith)
-    (λ c. omega arith)
-    loop-again
-    same-length
-    returns)
+    tie.close (tie.spec Inv-loop μ-loop (λ c. (omega arith, omega arith, written-none _ _ _ _)) (λ c. omega arith) (λ c. omega arith)
+    (λ c κs. search needs) slice-write-marks (λ c. omega arith) (λ c. omega arith) loop-again (λ c. c .before .loop .inv .2 .long) returns)

@@ -3,17 +3,5 @@ use borrow.Author.Needs.{needs}
 use Rattle.answers.proofs.of_answer.Statement.{statement}
 use Rattle.answers.proofs.of_answer.Tie as tie
 
-enum-told : tie.Need-enum-told
-enum-told c = search needs
-
-returns : tie.Need-returns
-returns c = rw (c .enum-told .given .1)
-
-returns-2 : tie.Need-returns-2
-returns-2 c = rw (c .before .answer .given .1)
-
-returns-3 : tie.Need-returns-3
-returns-3 c = rw (c .before .answer2 .given .1)
-
 pub of-answer-spec : {M : Type 1} → statement M
-of-answer-spec = tie.close (tie.spec enum-told (λ c. search needs) (λ c. search needs) returns returns-2 returns-3)
+of-answer-spec = tie.close (tie.spec (λ c. search needs) (λ c. search needs) (λ c. search needs) (λ c. rw (c .enum-told .given .1)) (λ c. rw (c .before .answer .given .1)) (λ c. rw (c .before .answer2 .given .1)))

@@ -3,11 +3,5 @@ use borrow.Author.Needs.{needs}
 use Rattle.answers.proofs.of_listed.Statement.{statement}
 use Rattle.answers.proofs.of_listed.Tie as tie
 
-returns : tie.Need-returns
-returns c = rw (c .before .answer .given .1)
-
-returns-2 : tie.Need-returns-2
-returns-2 c = rw (c .before .answer2 .given .1)
-
 pub of-listed-spec : {M : Type 1} → statement M
-of-listed-spec = tie.close (tie.spec (λ c. search needs) (λ c. search needs) returns returns-2)
+of-listed-spec = tie.close (tie.spec (λ c. search needs) (λ c. search needs) (λ c. rw (c .before .answer .given .1)) (λ c. rw (c .before .answer2 .given .1)))

@@ -62,12 +62,4 @@ returns-3 c =
 
 pub check-parts-spec : {M : Type 1} → statement M
 check-parts-spec =
-    tie.close
-    (tie.spec
-    (λ c κs. search needs)
-    returns
-    border-count-requires
-    (λ c. search needs)
-    book-holds-requires
-    returns-2
-    returns-3)
+    tie.close (tie.spec (λ c κs. search needs) returns border-count-requires (λ c. search needs) book-holds-requires returns-2 returns-3)

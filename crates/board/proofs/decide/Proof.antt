@@ -75,14 +75,6 @@ returns-3 c =
 
 pub decide-spec : {M : Type 1} → statement M
 decide-spec =
-    tie.close
-    (tie.spec
-    (λ c κs. search needs)
-    returns
-    border-count-requires
-    decide-code-requires
-    returns-2
-    (λ c κs. fits (c .before) .state-fits)
+    tie.close (tie.spec (λ c κs. search needs) returns border-count-requires decide-code-requires returns-2 (λ c κs. fits (c .before) .state-fits)
     (λ c κs. let f = fits (c .before .before .before) in (f .name-fits, f .state-fits))
-    (λ c. omega (arith, fits (c .before .before .before .before) .name-fits))
-    returns-3)
+    (λ c. omega (arith, fits (c .before .before .before .before) .name-fits)) returns-3)

@@ -41,9 +41,6 @@ name-at-requires c κs =
     let names : length (board (e .before .before .before) .book .names) ≡ mostBorders = search needs in
     omega (arith, last e .some, last e .len-fits)
 
-clear-state-requires : tie.Need-clear-state-requires
-clear-state-requires c κs = rw (c .before .name-at .ensures) (last (c .before .before .before .before .before) .last-fits)
-
 clear-name-requires : tie.Need-clear-name-requires
 clear-name-requires c κs =
     let f = last (c .before .before .before .before .before .before .before) in
@@ -60,14 +57,5 @@ returns-3 c =
 
 pub undo-spec : {M : Type 1} → statement M
 undo-spec =
-    tie.close
-    (tie.spec
-    (λ c κs. search needs)
-    returns
-    (λ c κs. search needs)
-    returns-2
-    (λ c. omega (arith, last c .some))
-    name-at-requires
-    clear-state-requires
-    clear-name-requires
-    returns-3)
+    tie.close (tie.spec (λ c κs. search needs) returns (λ c κs. search needs) returns-2 (λ c. omega (arith, last c .some)) name-at-requires
+    (λ c κs. rw (c .before .name-at .ensures) (last (c .before .before .before .before .before) .last-fits)) clear-name-requires returns-3)

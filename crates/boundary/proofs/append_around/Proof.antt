@@ -12,15 +12,12 @@ use Rattle.boundary.proofs.append_around.Statement.{statement}
 use Rattle.boundary.proofs.append_around.Tie as tie
 
 abbrev Inv-loop : tie.InvT-loop
-Inv-loop states ids m kind buf₀ at order n₀ i₀ buf n i =
+Inv-loop m states ids kind buffer₀ at order n₀ i₀ buffer n i =
     let f = listedAt states ids m kind in
-    (length order ≡ 4) × Rest buf₀ at (gather f order) buf n (gather f (drop i order))
+    (length order ≡ 4) × Rest buffer₀ at (gather f order) buffer n (gather f (drop i order))
 
 abbrev μ-loop : tie.MeasureT-loop
-μ-loop states ids m kind buf₀ at order n₀ i₀ buf n i = 4 - i
-
-loop-holds : tie.Need-loop-holds Inv-loop μ-loop
-loop-holds c = (search needs, rest-all _ _ _)
+μ-loop m states ids kind buffer₀ at order n₀ i₀ buffer n i = 4 - i
 
 append-entry-requires : tie.Need-append-entry-requires Inv-loop μ-loop
 append-entry-requires c κs =
@@ -35,23 +32,8 @@ loop-again c =
     let l = a .before .before .before .before .loop in
     (l .inv .0, turn-on _ _ Up (l .i) (l .inv .1) (omega arith) (a .append-entry .ensures))
 
-same-length : tie.Need-same-length Inv-loop μ-loop
-same-length c = c .before .loop .inv .1 .long
-
-returns : tie.Need-returns Inv-loop μ-loop
-returns c = let l = c .before .loop in turns-end _ _ Up (l .i) (l .inv .1) (omega arith)
-
 pub append-around-spec : {M : Type 1} → statement M
 append-around-spec =
-    tie.close
-    (tie.spec
-    Inv-loop
-    μ-loop
-    loop-holds
-    (λ c. omega arith)
-    append-entry-requires
-    (λ c. omega arith)
-    (λ c. omega arith)
-    loop-again
-    same-length
-    returns)
+    tie.close (tie.spec Inv-loop μ-loop (λ c. (search needs, rest-all _ _ _)) (λ c. omega arith) append-entry-requires (λ c. omega arith)
+    (λ c. omega arith) loop-again (λ c. c .before .loop .inv .1 .long)
+    (λ c. let l = c .before .loop in turns-end _ _ Up (l .i) (l .inv .1) (omega arith)))

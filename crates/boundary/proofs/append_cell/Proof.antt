@@ -48,13 +48,5 @@ returns-2 c =
 
 pub append-cell-spec : {M : Type 1} → statement M
 append-cell-spec =
-    tie.close
-    (tie.spec
-    append-around-requires
-    (λ c. search needs)
-    returns
-    append-entry-requires
-    append-entry-requires-2
-    append-around-requires-2
-    (λ c. search needs)
-    returns-2)
+    tie.close (tie.spec append-around-requires (λ c. search needs) returns append-entry-requires append-entry-requires-2 append-around-requires-2
+    (λ c. search needs) returns-2)

@@ -6,9 +6,6 @@ use Rattle.case_file.proofs.ReadLaws.{call-out, call-undo, call-ask, ca
 use Rattle.case_file.proofs.call_at.Statement.{statement}
 use Rattle.case_file.proofs.call_at.Tie as tie
 
-returns : tie.Need-returns
-returns c = let a = c .before .before .args in simp (call-out (a .file .now) (a .at) (c .if1 .taken))
-
 returns-2 : tie.Need-returns-2
 returns-2 c =
     let k = c .before .before in
@@ -42,18 +39,6 @@ returns-6 c =
 
 pub call-at-spec : {M : Type 1} → statement M
 call-at-spec =
-    tie.close
-    (tie.spec
-    returns
-    (λ c. search needs)
-    (λ c. search needs)
-    returns-2
-    (λ c. search needs)
-    returns-3
-    returns-4
-    (λ c. search needs)
-    returns-5
-    (λ c. search needs)
-    (λ c κs. search needs)
-    (λ c. search needs)
-    returns-6)
+    tie.close (tie.spec (λ c. let a = c .before .before .args in simp (call-out (a .file .now) (a .at) (c .if1 .taken))) (λ c. search needs)
+    (λ c. search needs) returns-2 (λ c. search needs) returns-3 returns-4 (λ c. search needs) returns-5 (λ c. search needs) (λ c κs. search needs)
+    (λ c. search needs) returns-6)

@@ -15,12 +15,6 @@ Inv-loop file at count next₀ k₀ next k = Walking file (at + 2) count next k
 abbrev μ-loop : tie.MeasureT-loop
 μ-loop file at count next₀ k₀ next k = count - k
 
-returns : tie.Need-returns Inv-loop μ-loop
-returns c = let a = c .before .before .args in simp (calls-none (a .file .now) (a .at) (omega arith))
-
-loop-holds : tie.Need-loop-holds Inv-loop μ-loop
-loop-holds c = record { within = omega arith; inside = omega arith; left = simp sub-zero }
-
 enum-told : tie.Need-enum-told Inv-loop μ-loop
 enum-told c = search needs
 
@@ -48,21 +42,7 @@ returns-3 c =
 
 pub calls-at-spec : {M : Type 1} → statement M
 calls-at-spec =
-    tie.close
-    (tie.spec
-    Inv-loop
-    μ-loop
-    (λ c. search needs)
-    returns
-    (λ c κs. omega arith)
-    (λ c. omega arith)
-    loop-holds
-    (λ c κs. search needs)
-    (λ c. search needs)
-    enum-told
-    returns-2
-    (λ c. omega arith)
-    (λ c. omega arith)
-    loop-again
-    (λ c. omega arith)
-    returns-3)
+    tie.close (tie.spec Inv-loop μ-loop (λ c. search needs)
+    (λ c. let a = c .before .before .args in simp (calls-none (a .file .now) (a .at) (omega arith))) (λ c κs. omega arith) (λ c. omega arith)
+    (λ c. record { within = omega arith; inside = omega arith; left = simp sub-zero }) (λ c κs. search needs) (λ c. search needs) enum-told returns-2
+    (λ c. omega arith) (λ c. omega arith) loop-again (λ c. omega arith) returns-3)

@@ -5,12 +5,6 @@ use Rattle.case_file.proofs.FileLaws.{front-short, front-version, front
 use Rattle.case_file.proofs.decode.Statement.{statement}
 use Rattle.case_file.proofs.decode.Tie as tie
 
-returns : tie.Need-returns
-returns c = front-short (c .before .before .args .file .now) (c .if1 .taken)
-
-returns-2 : tie.Need-returns-2
-returns-2 c = let k = c .before .before in front-version (k .before .before .args .file .now) (k .if1 .left) (c .if2 .taken)
-
 returns-3 : tie.Need-returns-3
 returns-3 c =
     let w = c .before in
@@ -34,14 +28,6 @@ returns-5 c =
 
 pub decode-spec : {M : Type 1} → statement M
 decode-spec =
-    tie.close
-    (tie.spec
-    returns
-    (λ c. search needs)
-    returns-2
-    (λ c κs. search needs)
-    (λ c. search needs)
-    returns-3
-    returns-4
-    (λ c κs. search needs)
-    returns-5)
+    tie.close (tie.spec (λ c. front-short (c .before .before .args .file .now) (c .if1 .taken)) (λ c. search needs)
+    (λ c. let k = c .before .before in front-version (k .before .before .args .file .now) (k .if1 .left) (c .if2 .taken)) (λ c κs. search needs)
+    (λ c. search needs) returns-3 returns-4 (λ c κs. search needs) returns-5)

@@ -18,15 +18,6 @@ returns c =
 inside : (c : tie.Else1) → let a = c .before .before .before .args in a .list .at + 2 * a .k + 1 < length (a .file .now)
 inside c = let a = c .before .before .before .args in number-in (a .file .now) (a .list .at) (a .list .count) (a .k) (rw (c .before .reach .ensures) at (c .if1 .left))
 
-mul-word : tie.Need-mul-word
-mul-word c = omega (arith, inside c)
-
-add-word : tie.Need-add-word
-add-word c = omega (arith, inside c)
-
-word-requires : tie.Need-word-requires
-word-requires c κs = inside c
-
 returns-2 : tie.Need-returns-2
 returns-2 c =
     let e = c .before in
@@ -34,4 +25,4 @@ returns-2 c =
     c .word .ensures .0 ∙ sym (number-at (a .file .now) (a .list .at) (a .list .count) (a .k) (rw (e .before .reach .ensures) at (e .if1 .left)))
 
 pub number-spec : {M : Type 1} → statement M
-number-spec = tie.close (tie.spec (λ c κs. search needs) returns mul-word add-word word-requires returns-2)
+number-spec = tie.close (tie.spec (λ c κs. search needs) returns (λ c. omega (arith, inside c)) (λ c. omega (arith, inside c)) (λ c κs. inside c) returns-2)

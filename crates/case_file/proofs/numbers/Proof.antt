@@ -31,9 +31,6 @@ entered c = c .before .before .before
 returns : tie.Need-returns Inv-loop μ-loop
 returns c = rw (lt-leb (length (list (c .before))) (length (start (c .before) .args .buffer .now)) (omega (arith, c .if1 .taken, c .before .reach .ensures))) (refl, refl)
 
-loop-holds : tie.Need-loop-holds Inv-loop μ-loop
-loop-holds c = record { within = omega arith; long = refl; left = refl }
-
 -- the number of a turn is one of the list
 below : (c : tie.In-loop Inv-loop μ-loop) → c .before .loop .k < length (list (entered c))
 below c = omega (arith, c .loop-test .taken, entered c .reach .ensures)
@@ -57,21 +54,7 @@ returns-2 c =
 
 pub numbers-spec : {M : Type 1} → statement M
 numbers-spec =
-    tie.close
-    (tie.spec
-    Inv-loop
-    μ-loop
-    (λ c κs. search needs)
-    returns
-    loop-holds
-    (λ c. omega (arith, inside c))
-    (λ c. omega (arith, inside c))
-    (λ c κs. inside c)
-    (λ c. omega (arith, c .word .ensures .1))
-    (λ c. omega (arith, inside (c .before)))
-    slice-write-buffer
-    (λ c. omega arith)
-    (λ c. omega arith)
-    loop-again
-    (λ c. c .before .loop .inv .long)
+    tie.close (tie.spec Inv-loop μ-loop (λ c κs. search needs) returns (λ c. record { within = omega arith; long = refl; left = refl })
+    (λ c. omega (arith, inside c)) (λ c. omega (arith, inside c)) (λ c κs. inside c) (λ c. omega (arith, c .word .ensures .1))
+    (λ c. omega (arith, inside (c .before))) slice-write-buffer (λ c. omega arith) (λ c. omega arith) loop-again (λ c. c .before .loop .inv .long)
     returns-2)

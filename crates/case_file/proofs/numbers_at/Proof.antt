@@ -6,12 +6,6 @@ use Rattle.case_file.proofs.ListLaws.{numbers-none, numbers-cut, number
 use Rattle.case_file.proofs.numbers_at.Statement.{statement}
 use Rattle.case_file.proofs.numbers_at.Tie as tie
 
-returns : tie.Need-returns
-returns c = let a = c .before .before .args in simp (numbers-none (a .file .now) (a .at) (omega arith))
-
-mul-if2 : tie.Need-mul-if2
-mul-if2 c = omega (arith, c .word .ensures .1)
-
 returns-2 : tie.Need-returns-2
 returns-2 c = let a = c .before .before .before .before .args in simp (numbers-cut (a .file .now) (a .at) (omega arith) (omega (arith, c .before .word .ensures .0)))
 
@@ -22,15 +16,6 @@ returns-3 c =
 
 pub numbers-at-spec : {M : Type 1} → statement M
 numbers-at-spec =
-    tie.close
-    (tie.spec
-    (λ c. search needs)
-    returns
-    (λ c κs. search needs)
-    mul-if2
-    returns-2
-    (λ c. search needs)
-    (λ c. search needs)
-    (λ c. search needs)
-    (λ c. search needs)
-    returns-3)
+    tie.close (tie.spec (λ c. search needs) (λ c. let a = c .before .before .args in simp (numbers-none (a .file .now) (a .at) (omega arith)))
+    (λ c κs. search needs) (λ c. omega (arith, c .word .ensures .1)) returns-2 (λ c. search needs) (λ c. search needs) (λ c. search needs)
+    (λ c. search needs) returns-3)

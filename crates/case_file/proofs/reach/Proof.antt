@@ -6,14 +6,5 @@ use Rattle.case_file.proofs.NumberLaws.{numbers-count}
 use Rattle.case_file.proofs.reach.Statement.{statement}
 use Rattle.case_file.proofs.reach.Tie as tie
 
-returns : tie.Need-returns
-returns c = let a = c .before .args in omega (arith, numbers-count (a .file .now) (a .at) (a .count))
-
-returns-2 : tie.Need-returns-2
-returns-2 c = let a = c .before .before .args in omega (arith, numbers-count (a .file .now) (a .at) (a .count))
-
-returns-3 : tie.Need-returns-3
-returns-3 c = let a = c .before .before .args in omega (arith, numbers-count (a .file .now) (a .at) (a .count))
-
 pub reach-spec : {M : Type 1} → statement M
-reach-spec = tie.close (tie.spec returns (λ c. search needs) returns-2 returns-3)
+reach-spec = tie.close (tie.spec (λ c. let a = c .before .args in omega (arith, numbers-count (a .file .now) (a .at) (a .count))) (λ c. search needs) (λ c. let a = c .before .before .args in omega (arith, numbers-count (a .file .now) (a .at) (a .count))) (λ c. let a = c .before .before .args in omega (arith, numbers-count (a .file .now) (a .at) (a .count))))

@@ -44,9 +44,6 @@ calls-found c =
     let at = c .before .before .before .before .before .clues .given .0 .1 .0 in
     found bs at (callListOf (drop at bs)) _ _ (list-within bs at) (sym (c .before .calls .given .1) ∙ c .before .before .before .calls-at .ensures)
 
-returns : tie.Need-returns
-returns c = simp (rest-short (c .before .before .args .file .now) (c .if1 .taken))
-
 enum-told : tie.Need-enum-told
 enum-told c = search needs
 
@@ -56,9 +53,6 @@ returns-2 c =
     let bs = bytes (k .before) in
     no-walls bs (k .before .if1 .left) (missing bs 5 (numbersOf (drop 5 bs)) (sym (c .enum-told .given .1) ∙ k .numbers-at .ensures))
 
-numbers-at-requires-2 : tie.Need-numbers-at-requires-2
-numbers-at-requires-2 c κs = walls-found c .inside
-
 returns-3 : tie.Need-returns-3
 returns-3 c =
     let k = c .before .before in
@@ -67,9 +61,6 @@ returns-3 c =
     let at = o .before .walls .given .0 .1 .0 in
     no-clues bs (o .before .before .before .before .if1 .left) (walls-found o)
     (missing bs at (numbersOf (drop at bs)) (sym (c .enum-told2 .given .1) ∙ k .numbers-at2 .ensures))
-
-calls-at-requires : tie.Need-calls-at-requires
-calls-at-requires c κs = clues-found c .inside
 
 returns-4 : tie.Need-returns-4
 returns-4 c =
@@ -99,24 +90,7 @@ returns-6 c =
 
 pub rest-spec : {M : Type 1} → statement M
 rest-spec =
-    tie.close
-    (tie.spec
-    returns
-    (λ c κs. search needs)
-    (λ c. search needs)
-    enum-told
-    returns-2
-    numbers-at-requires-2
-    (λ c. search needs)
-    (λ c. search needs)
-    returns-3
-    calls-at-requires
-    (λ c. search needs)
-    (λ c. search needs)
-    returns-4
-    returns-5
-    (λ c. search needs)
-    (λ c κs. search needs)
-    (λ c. search needs)
-    (λ c κs. search needs)
+    tie.close (tie.spec (λ c. simp (rest-short (c .before .before .args .file .now) (c .if1 .taken))) (λ c κs. search needs) (λ c. search needs)
+    enum-told returns-2 (λ c κs. walls-found c .inside) (λ c. search needs) (λ c. search needs) returns-3 (λ c κs. clues-found c .inside)
+    (λ c. search needs) (λ c. search needs) returns-4 returns-5 (λ c. search needs) (λ c κs. search needs) (λ c. search needs) (λ c κs. search needs)
     returns-6)

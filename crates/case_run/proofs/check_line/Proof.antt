@@ -3,14 +3,6 @@ use borrow.Author.Needs.{needs}
 use Rattle.case_run.proofs.check_line.Statement.{statement}
 use Rattle.case_run.proofs.check_line.Tie as tie
 
-returns-2 : tie.Need-returns-2
-returns-2 c = rw (c .before .check .given .1)
-
 pub check-line-spec : {M : Type 1} → statement M
 check-line-spec =
-    tie.close
-    (tie.spec
-    (λ c. search needs)
-    (λ c. search needs)
-    (λ c. search needs)
-    returns-2)
+    tie.close (tie.spec (λ c. search needs) (λ c. search needs) (λ c. search needs) (λ c. rw (c .before .check .given .1)))

@@ -20,5 +20,4 @@ returns-2 c =
 
 pub code-line-spec : {M : Type 1} → statement M
 code-line-spec =
-    tie.close
-    (tie.spec (λ c κs. search needs) (λ c. search needs) returns (λ c κs. search needs) (λ c. search needs) returns-2)
+    tie.close (tie.spec (λ c κs. search needs) (λ c. search needs) returns (λ c κs. search needs) (λ c. search needs) returns-2)

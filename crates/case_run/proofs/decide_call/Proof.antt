@@ -13,9 +13,4 @@ returns c =
 
 pub decide-call-spec : {M : Type 1} → statement M
 decide-call-spec =
-    tie.close
-    (tie.spec
-    (λ c κs. search needs)
-    (λ c κs. search needs)
-    (λ c. search needs)
-    returns)
+    tie.close (tie.spec (λ c κs. search needs) (λ c κs. search needs) (λ c. search needs) returns)

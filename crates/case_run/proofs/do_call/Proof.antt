@@ -28,17 +28,5 @@ returns-3 c =
 
 pub do-call-spec : {M : Type 1} → statement M
 do-call-spec =
-    tie.close
-    (tie.spec
-    enum-told
-    (λ c κs. search needs)
-    (λ c. search needs)
-    (λ c κs. search needs)
-    (λ c. search needs)
-    (λ c κs. search needs)
-    (λ c. search needs)
-    returns
-    (λ c. search needs)
-    returns-2
-    (λ c. search needs)
-    returns-3)
+    tie.close (tie.spec enum-told (λ c κs. search needs) (λ c. search needs) (λ c κs. search needs) (λ c. search needs) (λ c κs. search needs)
+    (λ c. search needs) returns (λ c. search needs) returns-2 (λ c. search needs) returns-3)

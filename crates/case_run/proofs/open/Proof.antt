@@ -42,18 +42,6 @@ module _ (c : tie.After-clues2) where
   unfolding places
   clues = clues-read bytes (decoded .decode .result) layout is-sound (decoded .decode .ensures .0) (c .before .numbers2 .last .1 .1 .0) (c .before .numbers2 .ensures .1)
 
-array-share-prefix-walls : tie.Need-array-share-prefix-walls
-array-share-prefix-walls c = walls c .within
-
-slice-aggregate-make : tie.Need-slice-aggregate-make
-slice-aggregate-make c = walls (c .before) .long
-
-array-share-prefix-clues : tie.Need-array-share-prefix-clues
-array-share-prefix-clues c = clues (c .before) .within
-
-slice-aggregate-make-2 : tie.Need-slice-aggregate-make-2
-slice-aggregate-make-2 c = clues (c .before .before) .long
-
 -- the puzzle of these lists is the file's
 made : (c : tie.After-make)
     → let t = c .before .before .before in openedAs (c .make .result) (layout t .calls .at) (layout t .calls .count) ≡ openedOf (decodeOf (bytes t))
@@ -61,29 +49,10 @@ made c =
     let t = c .before .before .before in
     made-file (bytes t) (decoded t .decode .result) (layout t) (is-sound t) (decoded t .decode .ensures .0) (c .make .result) _ _ (walls t .is) (clues t .is) (c .make .ensures)
 
-returns-2 : tie.Need-returns-2
-returns-2 c = let m = c .before .before .before in opened-refused (m .make .result) _ _ (c .if1 .taken) (made m)
-
-returns-3 : tie.Need-returns-3
-returns-3 c = let m = c .before .before .before in opened-made (m .make .result) _ _ (c .if1 .left) (made m)
-
 pub open-spec : {M : Type 1} → statement M
 open-spec =
-    tie.close
-    (tie.spec
-    (λ c κs. search needs)
-    (λ c. search needs)
-    enum-told
-    (λ c κs. search needs)
-    returns
-    (λ c. search needs)
-    (λ c κs. search needs)
-    (λ c. search needs)
-    (λ c κs. search needs)
-    array-share-prefix-walls
-    slice-aggregate-make
-    array-share-prefix-clues
-    slice-aggregate-make-2
-    (λ c κs. search needs)
-    returns-2
-    returns-3)
+    tie.close (tie.spec (λ c κs. search needs) (λ c. search needs) enum-told (λ c κs. search needs) returns (λ c. search needs) (λ c κs. search needs)
+    (λ c. search needs) (λ c κs. search needs) (λ c. walls c .within) (λ c. walls (c .before) .long) (λ c. clues (c .before) .within)
+    (λ c. clues (c .before .before) .long) (λ c κs. search needs)
+    (λ c. let m = c .before .before .before in opened-refused (m .make .result) _ _ (c .if1 .taken) (made m))
+    (λ c. let m = c .before .before .before in opened-made (m .make .result) _ _ (c .if1 .left) (made m)))

@@ -29,9 +29,6 @@ sub-do-call c = let i = c .before .before .before .before in omega (arith, part-
 part-do-call-start : tie.Need-part-do-call-start Inv-loop μ-loop
 part-do-call-start c = let i = c .before .before .before .before in omega (arith, part-room (i .before .loop .inv) (i .loop-test .taken))
 
-do-call-requires : tie.Need-do-call-requires Inv-loop μ-loop
-do-call-requires c κs = let i = c .before .before .before .before .before in part-long (i .before .loop .inv) (i .loop-test .taken)
-
 add-len : tie.Need-add-len Inv-loop μ-loop
 add-len c =
     let k = c .before .before .before .before in
@@ -49,15 +46,6 @@ loop-again c =
     let r = i .before .loop .inv in
     running-next r _ _ (k .do-call .result) (i .loop-test .taken) (sym (t .before .call .given .1) ∙ t .before .before .before .call-at .ensures) (k .do-call .ensures .0) (part-back r (lineBy (i .before .loop .puzzle) (t .before .call .given .0 .0)) _ (i .loop-test .taken) (k .do-call .ensures .1))
 
-same-length : tie.Need-same-length Inv-loop μ-loop
-same-length c = c .before .loop .inv .long
-
-returns-2 : tie.Need-returns-2 Inv-loop μ-loop
-returns-2 c = counted (c .before .loop .inv) (c .loop-test .left)
-
-same-length-2 : tie.Need-same-length-2 Inv-loop μ-loop
-same-length-2 c = c .before .before .before .before .loop .inv .long
-
 returns-3 : tie.Need-returns-3 Inv-loop μ-loop
 returns-3 c =
     let s = c .before .before in
@@ -65,24 +53,7 @@ returns-3 c =
 
 pub run-calls-spec : {M : Type 1} → statement M
 run-calls-spec =
-    tie.close
-    (tie.spec
-    Inv-loop
-    μ-loop
-    returns
-    loop-holds
-    (λ c κs. search needs)
-    (λ c. search needs)
-    enum-told
-    sub-do-call
-    part-do-call-start
-    (λ c. search needs)
-    do-call-requires
-    (λ c. omega arith)
-    add-len
-    loop-less
-    loop-again
-    same-length
-    returns-2
-    same-length-2
-    returns-3)
+    tie.close (tie.spec Inv-loop μ-loop returns loop-holds (λ c κs. search needs) (λ c. search needs) enum-told sub-do-call part-do-call-start
+    (λ c. search needs) (λ c κs. let i = c .before .before .before .before .before in part-long (i .before .loop .inv) (i .loop-test .taken))
+    (λ c. omega arith) add-len loop-less loop-again (λ c. c .before .loop .inv .long) (λ c. counted (c .before .loop .inv) (c .loop-test .left))
+    (λ c. c .before .before .before .before .loop .inv .long) returns-3)

@@ -9,11 +9,4 @@ returns c = not-sound (c .before .make .result) (c .before .make .ensures)
 
 pub unsound-spec : {M : Type 1} → statement M
 unsound-spec =
-    tie.close
-    (tie.spec
-    (λ c. search needs)
-    (λ c. search needs)
-    (λ c. search needs)
-    (λ c. search needs)
-    (λ c κs. search needs)
-    returns)
+    tie.close (tie.spec (λ c. search needs) (λ c. search needs) (λ c. search needs) (λ c. search needs) (λ c κs. search needs) returns)

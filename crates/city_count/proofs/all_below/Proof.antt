@@ -14,9 +14,6 @@ Inv-loop n m xs end fine₀ i₀ fine i = Testing n m xs fine i
 abbrev μ-loop : tie.MeasureT-loop
 μ-loop n m xs end fine₀ i₀ fine i = m - i
 
-loop-holds : tie.Need-loop-holds Inv-loop μ-loop
-loop-holds c = testing-none (c .args .n) (c .args .m) (now (c .args .xs))
-
 loop-again : tie.Need-loop-again Inv-loop μ-loop
 loop-again c =
     let k = c .before .before in
@@ -35,15 +32,5 @@ returns c =
 
 pub all-below-spec : {M : Type 1} → statement M
 all-below-spec =
-    tie.close
-    (tie.spec
-    Inv-loop
-    μ-loop
-    (λ c. omega arith)
-    loop-holds
-    (λ c. omega arith)
-    (λ c. omega arith)
-    (λ c. omega arith)
-    (λ c. omega arith)
-    loop-again
-    returns)
+    tie.close (tie.spec Inv-loop μ-loop (λ c. omega arith) (λ c. testing-none (c .args .n) (c .args .m) (now (c .args .xs))) (λ c. omega arith)
+    (λ c. omega arith) (λ c. omega arith) (λ c. omega arith) loop-again returns)

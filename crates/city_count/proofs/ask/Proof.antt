@@ -50,16 +50,5 @@ returns-4 c =
 
 pub ask-spec : {M : Type 1} → statement M
 ask-spec =
-    tie.close
-    (tie.spec
-    (λ c κs. search needs)
-    returns
-    returns-2
-    (λ c. search needs)
-    find-requires
-    (λ c. search needs)
-    (λ c. search needs)
-    returns-3
-    (λ c. search needs)
-    (λ c. search needs)
-    returns-4)
+    tie.close (tie.spec (λ c κs. search needs) returns returns-2 (λ c. search needs) find-requires (λ c. search needs) (λ c. search needs) returns-3
+    (λ c. search needs) (λ c. search needs) returns-4)

@@ -62,13 +62,4 @@ returns-5 c =
 
 pub check-parts-spec : {M : Type 1} → statement M
 check-parts-spec =
-    tie.close
-    (tie.spec
-    returns
-    returns-2
-    (λ c κs. search needs)
-    returns-3
-    (λ c. search needs)
-    book-holds-requires
-    returns-4
-    returns-5)
+    tie.close (tie.spec returns returns-2 (λ c κs. search needs) returns-3 (λ c. search needs) book-holds-requires returns-4 returns-5)

@@ -1,5 +1,4 @@
 -- `city_count::decide` meets its contract: a refusal's number, or places for an undecided edge and its name. Assumes nothing.
-use Prim.Native.Nat.{_≤_}
 use mathlib.Core.Path.{_≡_}
 use native.Mathlib.Omega.{arith}
 use borrow.Author.Needs.{needs}
@@ -63,13 +62,6 @@ returns-3 c =
 
 pub decide-spec : {M : Type 1} → statement M
 decide-spec =
-    tie.close
-    (tie.spec
-    (λ c κs. search needs)
-    returns
-    decide-code-requires
-    returns-2
-    (λ c κs. fits (c .before) .state-fits)
+    tie.close (tie.spec (λ c κs. search needs) returns decide-code-requires returns-2 (λ c κs. fits (c .before) .state-fits)
     (λ c κs. let f = fits (c .before .before .before) in (f .name-fits, f .state-fits))
-    (λ c. omega (arith, fits (c .before .before .before .before) .name-fits))
-    returns-3)
+    (λ c. omega (arith, fits (c .before .before .before .before) .name-fits)) returns-3)

@@ -23,9 +23,6 @@ loop-holds c =
     let s = c .before .before in
     listing-none (entryOf (s .args .wall)) (stateFor (s .args .wall)) (s .args .m) (statesIn (now (s .args .states))) (now (s .args .buffer))
 
-slice-write-buffer : tie.Need-slice-write-buffer Inv-loop μ-loop
-slice-write-buffer c = let a = c .before .before .before .before .before in omega (arith, a .loop .inv .size, a .loop .inv .few)
-
 loop-again : tie.Need-loop-again Inv-loop μ-loop
 loop-again c =
     let k = c .before .before .before in
@@ -36,9 +33,6 @@ loop-again c =
     (λ w. rw (w .2, w .3) (listing-more (entryOf (s .args .wall)) (stateFor (s .args .wall)) (s .args .m) (statesIn (now (s .args .states))) (now (s .args .buffer)) (a .loop .buffer) (a .loop .n) (a .loop .i) (a .loop .inv) (k .loop-test .taken) (t .result) (t .ensures) (w .1 .result) (w .0 .taken) (w .1 .ensures)))
     (λ w. rw (w .1, w .2) (listing-same (entryOf (s .args .wall)) (stateFor (s .args .wall)) (s .args .m) (statesIn (now (s .args .states))) (now (s .args .buffer)) (a .loop .buffer) (a .loop .n) (a .loop .i) (a .loop .inv) (k .loop-test .taken) (t .result) (t .ensures) (w .0 .left)))
     (c .if1 .came)
-
-same-length : tie.Need-same-length Inv-loop μ-loop
-same-length c = c .before .loop .inv .size
 
 returns : tie.Need-returns Inv-loop μ-loop
 returns c =
@@ -51,19 +45,6 @@ returns c =
 
 pub list-spec : {M : Type 1} → statement M
 list-spec =
-    tie.close
-    (tie.spec
-    Inv-loop
-    μ-loop
-    loop-holds
-    (λ c. omega arith)
-    (λ c κs. search needs)
-    (λ c κs. omega arith)
-    (λ c. omega arith)
-    slice-write-buffer
-    (λ c. omega arith)
-    (λ c. omega arith)
-    (λ c. omega arith)
-    loop-again
-    same-length
-    returns)
+    tie.close (tie.spec Inv-loop μ-loop loop-holds (λ c. omega arith) (λ c κs. search needs) (λ c κs. omega arith) (λ c. omega arith)
+    (λ c. let a = c .before .before .before .before .before in omega (arith, a .loop .inv .size, a .loop .inv .few)) (λ c. omega arith)
+    (λ c. omega arith) (λ c. omega arith) loop-again (λ c. c .before .loop .inv .size) returns)

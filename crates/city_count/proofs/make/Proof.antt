@@ -47,19 +47,5 @@ returns-5 c =
 
 pub make-spec : {M : Type 1} → statement M
 make-spec =
-    tie.close
-    (tie.spec
-    (λ c κs. search needs)
-    returns
-    (λ c κs. search needs)
-    returns-2
-    (λ c κs. search needs)
-    returns-3
-    (λ c κs. search needs)
-    (λ c κs. search needs)
-    returns-4
-    (λ c. search needs)
-    (λ c κs. search needs)
-    (λ c. search needs)
-    (λ c κs. search needs)
-    returns-5)
+    tie.close (tie.spec (λ c κs. search needs) returns (λ c κs. search needs) returns-2 (λ c κs. search needs) returns-3 (λ c κs. search needs)
+    (λ c κs. search needs) returns-4 (λ c. search needs) (λ c κs. search needs) (λ c. search needs) (λ c κs. search needs) returns-5)

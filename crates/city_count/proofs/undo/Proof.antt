@@ -40,22 +40,19 @@ last c =
 
 name-at-requires : tie.Need-name-at-requires
 name-at-requires c κs =
-    let e = c .before .before .before .before in
+    let e = c .before .before .before in
     let names : length (room (e .before .before .before) .book .names) ≡ mostBorders = search needs in
     omega (arith, last e .some, last e .len-fits)
 
-clear-state-requires : tie.Need-clear-state-requires
-clear-state-requires c κs = rw (c .before .name-at .ensures) (last (c .before .before .before .before .before .before) .last-fits)
-
 clear-name-requires : tie.Need-clear-name-requires
 clear-name-requires c κs =
-    let f = last (c .before .before .before .before .before .before .before .before) in
+    let f = last (c .before .before .before .before .before .before .before) in
     omega (arith, f .some, f .len-fits)
 
 returns-3 : tie.Need-returns-3
 returns-3 c =
     let n = c .before .before .before .before .before in
-    let e = n .before .before .before .before .before in
+    let e = n .before .before .before .before in
     let d = e .before in
     let k = d .before .before in
     rw (c .before .clear-name .ensures, c .before .before .before .clear-state .ensures, n .name-at .ensures)
@@ -63,14 +60,5 @@ returns-3 c =
 
 pub undo-spec : {M : Type 1} → statement M
 undo-spec =
-    tie.close
-    (tie.spec
-    (λ c κs. search needs)
-    returns
-    (λ c κs. search needs)
-    returns-2
-    (λ c. omega (arith, last (c .before) .some))
-    name-at-requires
-    clear-state-requires
-    clear-name-requires
-    returns-3)
+    tie.close (tie.spec (λ c κs. search needs) returns (λ c κs. search needs) returns-2 (λ c. omega (arith, last c .some)) name-at-requires
+    (λ c κs. rw (c .before .name-at .ensures) (last (c .before .before .before .before .before) .last-fits)) clear-name-requires returns-3)

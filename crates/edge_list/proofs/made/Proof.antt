@@ -20,11 +20,4 @@ slice-aggregate-make-2 c =
 
 pub made-spec : {M : Type 1} → statement M
 made-spec =
-    tie.close
-    (tie.spec
-    (λ c. search needs)
-    slice-aggregate-make
-    (λ c. search needs)
-    slice-aggregate-make-2
-    (λ c κs. search needs)
-    (λ c. search needs))
+    tie.close (tie.spec (λ c. search needs) slice-aggregate-make (λ c. search needs) slice-aggregate-make-2 (λ c κs. search needs) (λ c. search needs))

@@ -20,13 +20,5 @@ returns-2 c =
 
 pub inner-cell-spec : {M : Type 1} → statement M
 inner-cell-spec =
-    tie.close
-    (tie.spec
-    (λ c κs. search needs)
-    (λ c. search needs)
-    (λ c. search needs)
-    returns
-    enum-told
-    (λ c κs. search needs)
-    (λ c. search needs)
+    tie.close (tie.spec (λ c κs. search needs) (λ c. search needs) (λ c. search needs) returns enum-told (λ c κs. search needs) (λ c. search needs)
     returns-2)

@@ -19,12 +19,6 @@ Inv-loop g states ids buffer₀ n cell₀ buffer cell =
 abbrev μ-loop : tie.MeasureT-loop
 μ-loop g states ids buffer₀ n cell₀ buffer cell = n - cell
 
-mul-n : tie.Need-mul-n Inv-loop μ-loop
-mul-n c = let p = c .before .before .before .before .pre in omega (arith, cells-le _ (p .limits))
-
-loop-holds : tie.Need-loop-holds Inv-loop μ-loop
-loop-holds c = searched-none _ _ _
-
 inner-cell-requires : tie.Need-inner-cell-requires Inv-loop μ-loop
 inner-cell-requires c κs =
     let l = c .before .before in
@@ -53,28 +47,12 @@ loop-again c =
     let i = t .before .before in
     search-on _ _ (i .before .loop .inv) (i .loop-test .taken) (t .inner-cell .ensures) (c .enum-told .given .1)
 
-same-length-2 : tie.Need-same-length-2 Inv-loop μ-loop
-same-length-2 c = ap length (c .before .loop .inv .same)
-
 returns-2 : tie.Need-returns-2 Inv-loop μ-loop
 unfolding innerWall
 returns-2 c = search-over _ _ (c .before .loop .inv) (c .loop-test .left)
 
 pub inner-wall-spec : {M : Type 1} → statement M
 inner-wall-spec =
-    tie.close
-    (tie.spec
-    Inv-loop
-    μ-loop
-    mul-n
-    loop-holds
-    inner-cell-requires
-    (λ c. search needs)
-    same-length
-    returns
-    enum-told
-    (λ c. omega arith)
-    (λ c. omega arith)
-    loop-again
-    same-length-2
-    returns-2)
+    tie.close (tie.spec Inv-loop μ-loop (λ c. let p = c .before .before .before .before .pre in omega (arith, cells-le _ (p .limits)))
+    (λ c. searched-none _ _ _) inner-cell-requires (λ c. search needs) same-length returns enum-told (λ c. omega arith) (λ c. omega arith) loop-again
+    (λ c. ap length (c .before .loop .inv .same)) returns-2)

@@ -14,7 +14,7 @@ returns c =
     let k = c .before .before .before in
     let s = k .before .before .before .before .before in
     let l = take (s .args .len) (now (s .args .names)) in
-    let law = holds-by-marks (s .args .n) (now (s .args .states)) (now (s .args .marks)) l (s .pre .marks-long) (s .pre .marks-given) in
+    let law = holds-by-marks (s .args .n) (now (s .args .states)) (now (s .args .marks)) l (s .pre .0 .marks-long) (s .pre .0 .marks-given) in
     let t = not-true (k .mark-names .result) (c .if1 .taken) in
     rw (law, sym (k .mark-names .ensures .answer) ∙ t)
 
@@ -23,11 +23,10 @@ returns-2 c =
     let k = c .before .before .before .before .before in
     let s = k .before .before .before .before .before in
     let l = take (s .args .len) (now (s .args .names)) in
-    let law = holds-by-marks (s .args .n) (now (s .args .states)) (now (s .args .marks)) l (s .pre .marks-long) (s .pre .marks-given) in
+    let law = holds-by-marks (s .args .n) (now (s .args .states)) (now (s .args .marks)) l (s .pre .0 .marks-long) (s .pre .0 .marks-given) in
     let t = not-false (k .mark-names .result) (c .before .before .if1 .left) in
     rw (law, sym (k .mark-names .ensures .answer) ∙ t) (c .all-fit .ensures ∙ ap (fitAll (s .args .n) (now (s .args .states))) (k .mark-names .ensures .marks t))
 
 pub holds-spec : {M : Type 1} → statement M
 holds-spec =
-    tie.close
-    (tie.spec (λ c κs. search needs) (λ c. search needs) returns (λ c κs. search needs) (λ c. search needs) returns-2)
+    tie.close (tie.spec (λ c κs. search needs) (λ c. search needs) returns (λ c κs. search needs) (λ c. search needs) returns-2)

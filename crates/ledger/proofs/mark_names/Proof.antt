@@ -23,9 +23,6 @@ returns c =
     let o = sym (k .inside .ensures) ∙ not-true (k .inside .result) (c .if1 .taken) in
     walk-out (now (s .args .names)) (s .args .len) (s .pre .0) (s .args .n) (now (s .args .marks)) (s .pre .1) o
 
-loop-holds : tie.Need-loop-holds Inv-loop μ-loop
-loop-holds c = record { within = omega arith; same = refl; answer = refl; marks = refl }
-
 slice-read-free : tie.Need-slice-read-free Inv-loop μ-loop
 slice-read-free c =
     let v = c .before in
@@ -35,9 +32,6 @@ slice-read-free c =
     let b = sym (k .inside .ensures) ∙ not-false (k .inside .result) (a .before .if1 .left) in
     let e : v .wide .result < s .args .n = name-below (now (s .args .names)) (s .args .len) (s .pre .0) (s .args .n) (a .loop .i) (v .wide .result) (v .before .before .loop-test .taken) (v .wide .ensures) b in
     omega (arith, a .loop .inv .same, s .pre .1)
-
-slice-write-marks : tie.Need-slice-write-marks Inv-loop μ-loop
-slice-write-marks c = slice-read-free (c .before)
 
 loop-again : tie.Need-loop-again Inv-loop μ-loop
 loop-again c =
@@ -50,9 +44,6 @@ loop-again c =
     let e = name-below names (s .args .len) (s .pre .0) (s .args .n) (a .loop .i) (v .wide .result) (v .before .before .loop-test .taken) (v .wide .ensures) b in
     walk-on names (s .args .len) (s .pre .0) (s .args .n) (now (s .args .marks)) (a .loop .marks) (a .loop .i) (v .wide .result) (a .loop .new) (c .free .result) (a .loop .inv) (v .before .before .loop-test .taken) (v .wide .ensures) e (c .free .ensures) (simp length-set (a .loop .inv .same))
 
-same-length : tie.Need-same-length Inv-loop μ-loop
-same-length c = c .before .loop .inv .same
-
 returns-2 : tie.Need-returns-2 Inv-loop μ-loop
 returns-2 c =
     let a = c .before in
@@ -62,21 +53,7 @@ returns-2 c =
 
 pub mark-names-spec : {M : Type 1} → statement M
 mark-names-spec =
-    tie.close
-    (tie.spec
-    Inv-loop
-    μ-loop
-    (λ c κs. search needs)
-    returns
-    loop-holds
-    (λ c. omega arith)
-    (λ c. omega arith)
-    (λ c κs. search needs)
-    slice-read-free
-    (λ c κs. search needs)
-    slice-write-marks
-    (λ c. omega arith)
-    (λ c. omega arith)
-    loop-again
-    same-length
-    returns-2)
+    tie.close (tie.spec Inv-loop μ-loop (λ c κs. search needs) returns
+    (λ c. record { within = omega arith; same = refl; answer = refl; marks = refl }) (λ c. omega arith) (λ c. omega arith) (λ c κs. search needs)
+    slice-read-free (λ c κs. search needs) (λ c. slice-read-free (c .before)) (λ c. omega arith) (λ c. omega arith) loop-again
+    (λ c. c .before .loop .inv .same) returns-2)

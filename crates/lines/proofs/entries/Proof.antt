@@ -15,15 +15,6 @@ Inv-loop list buffer₀ at next₀ i₀ buffer next i = Spacing list buffer₀ a
 abbrev μ-loop : tie.MeasureT-loop
 μ-loop list buffer₀ at next₀ i₀ buffer next i = length list - i
 
-loop-holds : tie.Need-loop-holds Inv-loop μ-loop
-loop-holds c = record { within = omega arith; long = refl; most = omega arith; count = refl; left = refl }
-
-slice-write-buffer : tie.Need-slice-write-buffer Inv-loop μ-loop
-slice-write-buffer c = let t = c .before .before in omega (arith, t .loop-test .taken, t .before .loop .inv .most)
-
-add-digits : tie.Need-add-digits Inv-loop μ-loop
-add-digits c = let t = c .before .before .before in omega (arith, t .loop-test .taken, t .before .loop .inv .most)
-
 digits-requires : tie.Need-digits-requires Inv-loop μ-loop
 digits-requires c κs =
     let t = c .before .before .before in
@@ -36,27 +27,13 @@ loop-again c =
     let t = w .before .before in
     spacing-next (t .before .loop .inv) (t .loop-test .taken) (w .wide .ensures .0) (w .wide .ensures .1) (d .digits .ensures .0) (d .digits .ensures .1)
 
-same-length : tie.Need-same-length Inv-loop μ-loop
-same-length c = c .before .loop .inv .long
-
 returns : tie.Need-returns Inv-loop μ-loop
 returns c = let f = c .before .loop .inv in ((spacing-end f (c .loop-test .left), omega (arith, f .most, f .within)), spacing-all f (c .loop-test .left))
 
 pub entries-spec : {M : Type 1} → statement M
 entries-spec =
-    tie.close
-    (tie.spec
-    Inv-loop
-    μ-loop
-    loop-holds
-    (λ c. omega arith)
-    (λ c. omega arith)
-    (λ c κs. search needs)
-    slice-write-buffer
-    add-digits
-    digits-requires
-    (λ c. omega arith)
-    (λ c. omega arith)
-    loop-again
-    same-length
-    returns)
+    tie.close (tie.spec Inv-loop μ-loop (λ c. record { within = omega arith; long = refl; most = omega arith; count = refl; left = refl })
+    (λ c. omega arith) (λ c. omega arith) (λ c κs. search needs)
+    (λ c. let t = c .before .before in omega (arith, t .loop-test .taken, t .before .loop .inv .most))
+    (λ c. let t = c .before .before .before in omega (arith, t .loop-test .taken, t .before .loop .inv .most)) digits-requires (λ c. omega arith)
+    (λ c. omega arith) loop-again (λ c. c .before .loop .inv .long) returns)

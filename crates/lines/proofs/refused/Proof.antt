@@ -36,12 +36,4 @@ returns c =
 
 pub refused-spec : {M : Type 1} → statement M
 refused-spec =
-    tie.close
-    (tie.spec
-    (λ c. search needs)
-    (λ c κs. search needs)
-    digits-requires
-    (λ c. search needs)
-    put-requires-2
-    (λ c. search needs)
-    returns)
+    tie.close (tie.spec (λ c. search needs) (λ c κs. search needs) digits-requires (λ c. search needs) put-requires-2 (λ c. search needs) returns)

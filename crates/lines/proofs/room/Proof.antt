@@ -69,15 +69,5 @@ returns c =
 
 pub room-spec : {M : Type 1} → statement M
 room-spec =
-    tie.close
-    (tie.spec
-    (λ c. search needs)
-    (λ c κs. search needs)
-    digits-requires
-    (λ c. search needs)
-    put-requires-2
-    entries-requires
-    (λ c. search needs)
-    put-requires-3
-    (λ c. search needs)
-    returns)
+    tie.close (tie.spec (λ c. search needs) (λ c κs. search needs) digits-requires (λ c. search needs) put-requires-2 entries-requires
+    (λ c. search needs) put-requires-3 (λ c. search needs) returns)

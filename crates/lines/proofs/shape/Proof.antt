@@ -21,12 +21,5 @@ returns c =
 
 pub shape-spec : {M : Type 1} → statement M
 shape-spec =
-    tie.close
-    (tie.spec
-    (λ c. search needs)
-    (λ c κs. search needs)
-    (λ c κs. search needs)
-    (λ c. search needs)
-    put-requires-2
-    (λ c. search needs)
+    tie.close (tie.spec (λ c. search needs) (λ c κs. search needs) (λ c κs. search needs) (λ c. search needs) put-requires-2 (λ c. search needs)
     returns)

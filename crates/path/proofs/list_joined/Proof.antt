@@ -25,12 +25,4 @@ returns-2 c =
 
 pub list-joined-spec : {M : Type 1} → statement M
 list-joined-spec =
-    tie.close
-    (tie.spec
-    (λ c κs. search needs)
-    (λ c. search needs)
-    enum-told
-    (λ c. search needs)
-    returns
-    (λ c. search needs)
-    returns-2)
+    tie.close (tie.spec (λ c κs. search needs) (λ c. search needs) enum-told (λ c. search needs) returns (λ c. search needs) returns-2)

@@ -6,115 +6,65 @@ use Rattle.path.proofs.Trace.{border-fits, entry-fits, cell-small, cell
 use Rattle.path.proofs.look.Statement.{statement}
 use Rattle.path.proofs.look.Tie as tie
 
-returns : tie.Need-returns
-returns c = look-end (c .before .before .before .before .before .before .pre) _ (end-told _ _ _ (c .before .step .ensures) (c .match .keys2))
+-- the places of the code: the start, the step, what lies beyond, and the two tests
+abbrev start : tie.After-step → tie.Start
+start c = c .before .before .before .before .before
 
-shared-slice-read-if1 : tie.Need-shared-slice-read-if1
-shared-slice-read-if1 c =
-    let a = c .before .before in
-    let s = a .before .before in
-    border-fits (s .before .before .before .before .before .pre) _ (s .step .ensures) (a .next .given .1)
+abbrev step : tie.After-next → tie.After-step
+step c = c .before .before
+
+abbrev there : tie.Else1 → tie.After-next
+there c = c .before .before .before
+
+abbrev first : tie.Else2 → tie.Else1
+first c = c .before .before
 
 returns-2 : tie.Need-returns-2
-returns-2 c =
-    let a = c .before .before .before in
-    let s = a .before .before in
-    look-apart (s .before .before .before .before .before .pre) _ (s .step .ensures) (a .next .given .1) (c .if1 .taken)
+returns-2 c = let a = c .before .before .before in look-apart (start (step a) .pre) _ (step a .step .ensures) (a .next .given .1) (c .if1 .taken)
 
 mul-if2 : tie.Need-mul-if2
-mul-if2 c =
-    let a = c .before .before .before in
-    let s = a .before .before in
-    omega (arith, cell-small (s .before .before .before .before .before .pre) _ (s .step .ensures) (a .next .given .1))
-
-slice-read-if2 : tie.Need-slice-read-if2
-slice-read-if2 c =
-    let a = c .before .before .before .before in
-    let s = a .before .before in
-    cell-fits (s .before .before .before .before .before .pre) _ (s .step .ensures) (a .next .given .1) .0
+mul-if2 c = let a = there c in omega (arith, cell-small (start (step a) .pre) _ (step a .step .ensures) (a .next .given .1))
 
 returns-3 : tie.Need-returns-3
 returns-3 c =
-    let a = c .before .before .before .before .before in
-    let s = a .before .before in
-    look-old (s .before .before .before .before .before .pre) _ (s .step .ensures) (a .next .given .1) (c .before .before .if1 .left) (c .if2 .taken)
+    let t = c .before .before in
+    let a = there t in
+    look-old (start (step a) .pre) _ (step a .step .ensures) (a .next .given .1) (t .if1 .left) (c .if2 .taken)
 
 mul-finders : tie.Need-mul-finders
-mul-finders c =
-    let a = c .before .before .before .before .before in
-    let s = a .before .before in
-    omega (arith, cell-small (s .before .before .before .before .before .pre) _ (s .step .ensures) (a .next .given .1))
+mul-finders c = let a = there (first c) in omega (arith, cell-small (start (step a) .pre) _ (step a .step .ensures) (a .next .given .1))
 
 slice-write-finders : tie.Need-slice-write-finders
-slice-write-finders c =
-    let a = c .before .before .before .before .before in
-    let s = a .before .before in
-    cell-fits (s .before .before .before .before .before .pre) _ (s .step .ensures) (a .next .given .1) .0
+slice-write-finders c = let a = there (first c) in cell-fits (start (step a) .pre) _ (step a .step .ensures) (a .next .given .1) .0
+
+entry-requires : tie.Need-entry-requires
+entry-requires c κs = let a = there (first c) in entry-fits (start (step a) .pre) _ (step a .step .ensures) (a .next .given .1)
 
 mul-entries : tie.Need-mul-entries
-mul-entries c =
-    let a = c .before .before .before .before .before in
-    let s = a .before .before in
-    omega (arith, entry-fits (s .before .before .before .before .before .pre) _ (s .step .ensures) (a .next .given .1))
-
-cast-entries : tie.Need-cast-entries
-cast-entries c =
-    let a = c .before .before .before .before .before in
-    let s = a .before .before in
-    omega (arith, entry-fits (s .before .before .before .before .before .pre) _ (s .step .ensures) (a .next .given .1))
-
-mul-entries-2 : tie.Need-mul-entries-2
-mul-entries-2 c =
-    let a = c .before .before .before .before .before in
-    let s = a .before .before in
-    omega (arith, cell-small (s .before .before .before .before .before .pre) _ (s .step .ensures) (a .next .given .1))
+mul-entries c = let a = there (first (c .before)) in omega (arith, cell-small (start (step a) .pre) _ (step a .step .ensures) (a .next .given .1))
 
 slice-write-entries : tie.Need-slice-write-entries
-slice-write-entries c =
-    let a = c .before .before .before .before .before in
-    let s = a .before .before in
-    cell-fits (s .before .before .before .before .before .pre) _ (s .step .ensures) (a .next .given .1) .1
-
-mul-queue : tie.Need-mul-queue
-mul-queue c = omega (arith, tail-small (c .before .before .before .before .before .before .before .before .before .before .before .before .pre))
+slice-write-entries c = let a = there (first (c .before)) in cell-fits (start (step a) .pre) _ (step a .step .ensures) (a .next .given .1) .1
 
 slice-write-queue : tie.Need-slice-write-queue
 slice-write-queue c =
-    let a = c .before .before .before .before .before in
-    let s = a .before .before in
-    queue-fits (s .before .before .before .before .before .pre) _ (s .step .ensures) (a .next .given .1) (c .before .before .if1 .left) (c .if2 .left)
-
-add-result : tie.Need-add-result
-add-result c = omega (arith, tail-small (c .before .before .before .before .before .before .before .before .before .before .before .before .pre))
+    let t = first (c .before) in
+    let a = there t in
+    queue-fits (start (step a) .pre) _ (step a .step .ensures) (a .next .given .1) (t .if1 .left) (c .before .if2 .left)
 
 returns-4 : tie.Need-returns-4
 returns-4 c =
-    let a = c .before .before .before .before .before in
-    let s = a .before .before in
-    look-new (s .before .before .before .before .before .pre) _ (s .step .ensures) (a .next .given .1) (c .before .before .if1 .left) (c .if2 .left)
+    let t = first (c .before) in
+    let a = there t in
+    look-new (start (step a) .pre) _ (step a .step .ensures) (a .next .given .1) (t .if1 .left) (c .before .if2 .left) (c .entry .ensures)
 
 pub look-spec : {M : Type 1} → statement M
 look-spec =
-    tie.close
-    (tie.spec
-    (λ c κs. search needs)
-    (λ c. search needs)
-    returns
-    shared-slice-read-if1
-    returns-2
-    mul-if2
-    slice-read-if2
-    returns-3
-    mul-finders
-    slice-write-finders
-    mul-entries
-    cast-entries
-    mul-entries-2
-    slice-write-entries
-    mul-queue
-    slice-write-queue
-    add-result
-    (λ c. search needs)
-    (λ c. search needs)
-    (λ c. search needs)
+    tie.close (tie.spec (λ c κs. search needs) (λ c. search needs)
+    (λ c. look-end (start (c .before) .pre) _ (end-told _ _ _ (c .before .step .ensures) (c .match .keys2)))
+    (λ c. let a = c .before .before in border-fits (start (step a) .pre) _ (step a .step .ensures) (a .next .given .1)) returns-2 mul-if2
+    (λ c. let a = there (c .before) in cell-fits (start (step a) .pre) _ (step a .step .ensures) (a .next .given .1) .0) returns-3 mul-finders
+    slice-write-finders entry-requires mul-entries slice-write-entries
+    (λ c. omega (arith, tail-small (start (step (there (first (c .before)))) .pre))) slice-write-queue
+    (λ c. omega (arith, tail-small (start (step (there (first (c .before)))) .pre))) (λ c. search needs) (λ c. search needs) (λ c. search needs)
     returns-4)

@@ -8,44 +8,39 @@ use Rattle.path.proofs.look_round.Statement.{statement}
 use Rattle.path.proofs.look_round.Tie as tie
 
 abbrev Inv-loop : tie.InvT-loop
-Inv-loop states g cell finders₀ entries₀ queue₀ tail order end₀ i₀ finders entries queue end i =
-    Round g states cell order finders₀ entries₀ queue₀ tail i finders entries queue end
+Inv-loop from states finders₀ entries₀ queue₀ tail order end₀ i₀ finders entries queue end i =
+    Round (from .grid) states (from .cell) order finders₀ entries₀ queue₀ tail i finders entries queue end
 
 abbrev μ-loop : tie.MeasureT-loop
-μ-loop states g cell finders₀ entries₀ queue₀ tail order end₀ i₀ finders entries queue end i = 4 - i
+μ-loop from states finders₀ entries₀ queue₀ tail order end₀ i₀ finders entries queue end i = 4 - i
 
-loop-holds : tie.Need-loop-holds Inv-loop μ-loop
-loop-holds c = round-start
+-- the places of the code: the start, the loop's head, and the look
+abbrev start : tie.At-loop Inv-loop μ-loop → tie.Start Inv-loop μ-loop
+start c = c .before .before .before .before .before
 
-look-requires : tie.Need-look-requires Inv-loop μ-loop
-look-requires c κs =
-    let k = c .before .before .before .before .before in
-    let a = k .before .before .before .before .before .pre in
-    looks-on a (k .loop .inv .follows)
+abbrev head : tie.After-look Inv-loop μ-loop → tie.At-loop Inv-loop μ-loop
+head c = c .before .before .before .before .before .before
 
 loop-again : tie.Need-loop-again Inv-loop μ-loop
-loop-again c =
-    let k = c .before .before .before .before .before .before .before .before .before .before .before .before in
-    let a = k .before .before .before .before .before .pre in
-    round-on (k .loop .inv) (omega arith) (c .before .before .before .before .before .before .look .ensures)
+loop-again c = let l = c .before .before .before .before .before .before in round-on (head l .loop .inv) (omega arith) (l .look .ensures)
 
 same-length : tie.Need-same-length Inv-loop μ-loop
 same-length c =
     let k = c .before in
-    let a = k .before .before .before .before .before .pre in
-    looks-on a (k .loop .inv .follows) .looking .kept .traced .finders-long ∙ sym (a .looking .kept .traced .finders-long)
+    let p = start k .pre in
+    looks-on p (k .loop .inv .follows) .looking .kept .traced .finders-long ∙ sym (p .looking .kept .traced .finders-long)
 
 same-length-2 : tie.Need-same-length-2 Inv-loop μ-loop
 same-length-2 c =
     let k = c .before in
-    let a = k .before .before .before .before .before .pre in
-    looks-on a (k .loop .inv .follows) .looking .kept .traced .entries-long ∙ sym (a .looking .kept .traced .entries-long)
+    let p = start k .pre in
+    looks-on p (k .loop .inv .follows) .looking .kept .traced .entries-long ∙ sym (p .looking .kept .traced .entries-long)
 
 same-length-3 : tie.Need-same-length-3 Inv-loop μ-loop
 same-length-3 c =
     let k = c .before in
-    let a = k .before .before .before .before .before .pre in
-    looks-on a (k .loop .inv .follows) .looking .kept .queue-long ∙ sym (a .looking .kept .queue-long)
+    let p = start k .pre in
+    looks-on p (k .loop .inv .follows) .looking .kept .queue-long ∙ sym (p .looking .kept .queue-long)
 
 returns : tie.Need-returns Inv-loop μ-loop
 unfolding lookAll
@@ -53,17 +48,6 @@ returns c = round-end (c .before .loop .inv) (omega arith)
 
 pub look-round-spec : {M : Type 1} → statement M
 look-round-spec =
-    tie.close
-    (tie.spec
-    Inv-loop
-    μ-loop
-    loop-holds
-    (λ c. omega arith)
-    look-requires
-    (λ c. omega arith)
-    (λ c. omega arith)
-    loop-again
-    same-length
-    same-length-2
-    same-length-3
-    returns)
+    tie.close (tie.spec Inv-loop μ-loop (λ c. round-start) (λ c. omega arith)
+    (λ c κs. let k = c .before .before .before .before .before in looks-on (start k .pre) (k .loop .inv .follows)) (λ c. omega arith)
+    (λ c. omega arith) loop-again same-length same-length-2 same-length-3 returns)

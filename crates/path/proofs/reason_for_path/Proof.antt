@@ -4,6 +4,8 @@ use denote.Ref.{now}
 use native.Mathlib.Omega.{arith}
 use borrow.Author.Needs.{needs}
 use lib.ListN.{length}
+use Rattle.limits.specs.Limits.{mostBorders}
+use Rattle.grid.specs.Grid.{Limits}
 use Rattle.grid.proofs.Geometry.{cells-le, borderCount-le}
 use Rattle.board.specs.Board.{sizeOf}
 use Rattle.board.proofs.Laws.{board-ready}
@@ -11,75 +13,75 @@ use Rattle.path.proofs.Answers.{gives-number, refused-record, refused-s
 use Rattle.path.proofs.reason_for_path.Statement.{statement}
 use Rattle.path.proofs.reason_for_path.Tie as tie
 
+-- the places of the code: the start, the board's check, and the tests
+abbrev sized : tie.After-check-parts → tie.After-g
+sized c = c .before .before .before .before .before .before
+
 abbrev start : tie.After-check-parts → tie.Start
-start k = k .before .before .before .before .before .before .before .before
+start c = sized c .before .before
+
+abbrev first : tie.After-struct-known → tie.Else1
+first c = c .before
+
+abbrev last : tie.After-list-arg3 → tie.Else4
+last c = c .before .before .before .before
+
+-- the board that is accepted is within the limits
+fits : (c : tie.Else1) → Limits (sizeOf (start (c .before) .args .t1))
+fits c = board-ready (start (c .before) .args .t1) (c .before .check-parts .result) (c .before .check-parts .ensures) (c .if1 .left) .limits
 
 returns : tie.Need-returns
 returns c =
     let k = c .before in
-    let s = start k in
-    gives-number _ _ (now (s .args .buffer)) (refused-record (s .args .t1) (s .args .start) (s .args .target) _ (k .check-parts .result) (k .check-parts .ensures) (c .if1 .taken))
-
-mul-cells : tie.Need-mul-cells
-mul-cells c =
-    let k = c .before in
-    let s = start k in
-    let z = c .if1 .left in
-    let limits = board-ready (s .args .t1) (k .check-parts .result) (k .check-parts .ensures) z .limits in
-    omega (arith, cells-le (sizeOf (s .args .t1)) limits)
+    let a = start k .args in
+    gives-number _ _ (now (a .buffer)) (refused-record (a .t1) (a .start) (a .target) _ (k .check-parts .result) (k .check-parts .ensures) (c .if1 .taken))
 
 returns-2 : tie.Need-returns-2
 returns-2 c =
-    let k = c .before .before in
-    let s = start k in
-    gives-number _ 3 (now (s .args .buffer)) (refused-start (s .args .t1) (s .args .start) (s .args .target) _ (k .check-parts .result) (k .check-parts .ensures) (c .before .if1 .left) (c .if2 .taken))
+    let e = first (c .before) in
+    let k = e .before in
+    let a = start k .args in
+    gives-number _ 3 (now (a .buffer)) (refused-start (a .t1) (a .start) (a .target) _ (k .check-parts .result) (k .check-parts .ensures) (e .if1 .left) (c .if2 .taken))
 
 returns-3 : tie.Need-returns-3
 returns-3 c =
-    let k = c .before .before .before in
-    let s = start k in
-    gives-number _ 3 (now (s .args .buffer)) (refused-target (s .args .t1) (s .args .start) (s .args .target) _ (k .check-parts .result) (k .check-parts .ensures) (c .before .before .if1 .left) (c .before .if2 .left) (c .if3 .taken))
-
-mul-if4 : tie.Need-mul-if4
-mul-if4 c =
-    let k = c .before .before .before in
-    let s = start k in
-    let z = c .before .before .if1 .left in
-    let limits = board-ready (s .args .t1) (k .check-parts .result) (k .check-parts .ensures) z .limits in
-    omega (arith, cells-le (sizeOf (s .args .t1)) limits)
+    let s = c .before in
+    let e = first (s .before) in
+    let k = e .before in
+    let a = start k .args in
+    gives-number _ 3 (now (a .buffer)) (refused-target (a .t1) (a .start) (a .target) _ (k .check-parts .result) (k .check-parts .ensures) (e .if1 .left) (s .if2 .left) (c .if3 .taken))
 
 returns-4 : tie.Need-returns-4
 returns-4 c =
-    let k = c .before .before .before .before in
-    let s = start k in
-    gives-number _ 6 (now (s .args .buffer)) (refused-buffer (s .args .t1) (s .args .start) (s .args .target) _ (k .check-parts .result) (k .check-parts .ensures) (c .before .before .before .if1 .left) (c .before .before .if2 .left) (c .before .if3 .left) (c .if4 .taken))
+    let t = c .before in
+    let s = t .before in
+    let e = first (s .before) in
+    let k = e .before in
+    let a = start k .args in
+    gives-number _ 6 (now (a .buffer))
+    (refused-buffer (a .t1) (a .start) (a .target) _ (k .check-parts .result) (k .check-parts .ensures) (e .if1 .left) (s .if2 .left) (t .if3 .left) (c .if4 .taken))
 
 list-requires : tie.Need-list-requires
 list-requires c κs =
-    let k = c .before .before .before .before .before .before .before .before in
-    let s = start k in
-    let z = c .before .before .before .before .before .before .before .if1 .left in
-    let limits = board-ready (s .args .t1) (k .check-parts .result) (k .check-parts .ensures) z .limits in
-    let long : length (s .args .t1 .book .states) ≡ 1984 = search needs in
-    (record { limits = limits; states-long = omega (arith, borderCount-le (sizeOf (s .args .t1)) limits); start-cell = c .before .before .before .before .before .before .if2 .left; target-cell = c .before .before .before .before .before .if3 .left }, omega (arith, c .before .before .before .before .if4 .left))
+    let l = last c in
+    let t = l .before in
+    let s = t .before in
+    let e = first (s .before) in
+    let long : length (start (e .before) .args .t1 .book .states) ≡ mostBorders = search needs in
+    (record { limits = fits e; states-long = omega (arith, borderCount-le _ (fits e)); start-cell = s .if2 .left; target-cell = t .if3 .left }, omega (arith, l .if4 .left))
 
 returns-5 : tie.Need-returns-5
 returns-5 c =
-    let k = c .before .before .before .before .before .before .before .before .before .before .before in
-    let s = start k in
-    rw (answered (s .args .t1) (s .args .start) (s .args .target) _ (k .check-parts .result) (k .check-parts .ensures) (c .before .before .before .before .before .before .before .before .before .before .if1 .left) (c .before .before .before .before .before .before .before .before .before .if2 .left) (c .before .before .before .before .before .before .before .before .if3 .left) (c .before .before .before .before .before .before .before .if4 .left)) (c .before .before .list .ensures)
+    let o = c .before .before in
+    let l = last (o .before) in
+    let t = l .before in
+    let s = t .before in
+    let e = first (s .before) in
+    let k = e .before in
+    let a = start k .args in
+    rw (answered (a .t1) (a .start) (a .target) _ (k .check-parts .result) (k .check-parts .ensures) (e .if1 .left) (s .if2 .left) (t .if3 .left) (l .if4 .left)) (o .list .ensures)
 
 pub reason-for-path-spec : {M : Type 1} → statement M
 reason-for-path-spec =
-    tie.close
-    (tie.spec
-    (λ c κs. search needs)
-    returns
-    mul-cells
-    returns-2
-    returns-3
-    mul-if4
-    returns-4
-    list-requires
-    (λ c. search needs)
-    returns-5)
+    tie.close (tie.spec (λ c κs. search needs) returns (λ c. omega (arith, cells-le _ (fits (first c)))) returns-2 returns-3
+    (λ c. omega (arith, cells-le _ (fits (first (c .before .before))))) returns-4 list-requires (λ c. search needs) returns-5)

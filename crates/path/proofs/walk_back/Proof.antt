@@ -1,8 +1,9 @@
 -- `path::walk_back` meets its contract: the invariant `Walking`, one law of `Walk` for the start, a turn and the end.
 -- Assumes nothing.
-use Prim.Native.Nat.{_-_}
+use Prim.Native.Nat.{_-_, _<_}
 use native.Mathlib.Omega.{arith}
 use lib.ListN.{length}
+use Rattle.limits.specs.Limits.{mostCells}
 use Rattle.path.proofs.Walk.{Walking, walking-start, walking-fits, walking-on, walking-end}
 use Rattle.path.proofs.walk_back.Statement.{statement}
 use Rattle.path.proofs.walk_back.Tie as tie
@@ -13,81 +14,17 @@ Inv-loop start target finders entries buffer₀ n₀ cell₀ buffer n cell = Wal
 abbrev μ-loop : tie.MeasureT-loop
 μ-loop start target finders entries buffer₀ n₀ cell₀ buffer n cell = length buffer₀ - n
 
-loop-holds : tie.Need-loop-holds Inv-loop μ-loop
-loop-holds c = walking-start (c .pre)
-
-mul-buffer : tie.Need-mul-buffer Inv-loop μ-loop
-mul-buffer c =
-    let k = c .before in
-    let o = walking-fits (k .loop .inv) (c .loop-test .taken) in
-    omega (arith, o .0)
-
-shared-slice-read-buffer : tie.Need-shared-slice-read-buffer Inv-loop μ-loop
-shared-slice-read-buffer c =
-    let k = c .before .before in
-    let o = walking-fits (k .loop .inv) (c .before .loop-test .taken) in
-    omega (arith, o .0, k .before .pre .entries-long)
-
-mul-buffer-2 : tie.Need-mul-buffer-2 Inv-loop μ-loop
-mul-buffer-2 c =
-    let k = c .before .before in
-    let o = walking-fits (k .loop .inv) (c .before .loop-test .taken) in
-    omega (arith, o .1, k .loop .inv .long)
-
-slice-write-buffer : tie.Need-slice-write-buffer Inv-loop μ-loop
-slice-write-buffer c =
-    let k = c .before .before in
-    let o = walking-fits (k .loop .inv) (c .before .loop-test .taken) in
-    o .1
-
-add-n : tie.Need-add-n Inv-loop μ-loop
-add-n c =
-    let k = c .before .before in
-    let o = walking-fits (k .loop .inv) (c .before .loop-test .taken) in
-    omega (arith, o .1, k .loop .inv .long)
-
-mul-cell : tie.Need-mul-cell Inv-loop μ-loop
-mul-cell c =
-    let k = c .before .before in
-    let o = walking-fits (k .loop .inv) (c .before .loop-test .taken) in
-    omega (arith, o .0)
-
-shared-slice-read-cell : tie.Need-shared-slice-read-cell Inv-loop μ-loop
-shared-slice-read-cell c =
-    let k = c .before .before .before in
-    let o = walking-fits (k .loop .inv) (c .before .before .loop-test .taken) in
-    omega (arith, o .0, k .before .pre .finders-long)
-
-loop-less : tie.Need-loop-less Inv-loop μ-loop
-loop-less c =
-    let k = c .before .before .before in
-    let o = walking-fits (k .loop .inv) (c .before .before .loop-test .taken) in
-    omega (arith, o .1, k .loop .inv .long)
-
-loop-again : tie.Need-loop-again Inv-loop μ-loop
-loop-again c = walking-on (c .before .before .before .loop .inv) (c .before .before .loop-test .taken)
-
-same-length : tie.Need-same-length Inv-loop μ-loop
-same-length c = c .before .loop .inv .long
-
-returns : tie.Need-returns Inv-loop μ-loop
-returns c = walking-end (c .before .loop .inv) (c .loop-test .left)
+-- where the loop goes on, the cell is on the arrays and the entry has its place
+fits : (c : tie.In-loop Inv-loop μ-loop) → (c .before .loop .cell < mostCells) × (c .before .loop .n < length (c .before .loop .buffer))
+fits c = walking-fits (c .before .loop .inv) (c .loop-test .taken)
 
 pub walk-back-spec : {M : Type 1} → statement M
 walk-back-spec =
-    tie.close
-    (tie.spec
-    Inv-loop
-    μ-loop
-    loop-holds
-    mul-buffer
-    shared-slice-read-buffer
-    mul-buffer-2
-    slice-write-buffer
-    add-n
-    mul-cell
-    shared-slice-read-cell
-    loop-less
-    loop-again
-    same-length
-    returns)
+    tie.close (tie.spec Inv-loop μ-loop (λ c. walking-start (c .pre)) (λ c. omega (arith, fits c .0))
+    (λ c. omega (arith, fits (c .before) .0, c .before .before .before .pre .entries-long))
+    (λ c. omega (arith, fits (c .before) .1, c .before .before .loop .inv .long)) (λ c. fits (c .before) .1)
+    (λ c. omega (arith, fits (c .before) .1, c .before .before .loop .inv .long)) (λ c. omega (arith, fits (c .before) .0))
+    (λ c. omega (arith, fits (c .before .before) .0, c .before .before .before .before .pre .finders-long))
+    (λ c. let t = c .before .before in omega (arith, fits t .1, t .before .loop .inv .long))
+    (λ c. walking-on (c .before .before .before .loop .inv) (c .before .before .loop-test .taken)) (λ c. c .before .loop .inv .long)
+    (λ c. walking-end (c .before .loop .inv) (c .loop-test .left)))

@@ -27,12 +27,6 @@ loop-holds c = let a = c .before .before .before .args in printing (a .opened .p
 line-in : (c : tie.After-run-calls Inv-loop μ-loop) → Lined (c .run-calls .result .len) (c .run-calls .last .1 .1 .1 .1 .0)
 line-in c = lined (c .run-calls .result .len) (c .run-calls .last .1 .1 .1 .1 .0) (omega (arith, c .run-calls .ensures .1 .1, c .run-calls .kept .1 .1 .1 .1 .0))
 
-returns : tie.Need-returns Inv-loop μ-loop
-returns c = stopped (turn (ran (c .before)) .before .before .loop .inv)
-
-loop-less : tie.Need-loop-less Inv-loop μ-loop
-loop-less c = omega (arith, turn (ran (c .before .before)) .if1 .taken)
-
 loop-again : tie.Need-loop-again Inv-loop μ-loop
 loop-again c =
     let k = ran (c .before .before) in
@@ -40,19 +34,7 @@ loop-again c =
 
 pub print-calls-spec : {M : Type 1} → statement M
 print-calls-spec =
-    tie.close
-    (tie.spec
-    Inv-loop
-    μ-loop
-    (λ c κs. search needs)
-    loop-holds
-    (λ c. sym (c .before .before .before .loop .inv .long))
-    (λ c κs. search needs)
-    (λ c. line-in (c .before) .within)
-    (λ c. line-in (c .before .before) .long)
-    (λ c κs. search needs)
-    returns
-    (λ c. omega (arith, turn (ran (c .before .before)) .if1 .taken))
-    loop-less
-    loop-again
-    (λ c. finished (c .before .before .loop .inv) (c .if1 .left)))
+    tie.close (tie.spec Inv-loop μ-loop (λ c κs. search needs) loop-holds (λ c. sym (c .before .before .before .loop .inv .long))
+    (λ c κs. search needs) (λ c. line-in (c .before) .within) (λ c. line-in (c .before .before) .long) (λ c κs. search needs)
+    (λ c. stopped (turn (ran (c .before)) .before .before .loop .inv)) (λ c. omega (arith, turn (ran (c .before .before)) .if1 .taken))
+    (λ c. omega (arith, turn (ran (c .before .before)) .if1 .taken)) loop-again (λ c. finished (c .before .before .loop .inv) (c .if1 .left)))

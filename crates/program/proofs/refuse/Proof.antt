@@ -13,14 +13,5 @@ line-in c =
 
 pub refuse-spec : {M : Type 1} → statement M
 refuse-spec =
-    tie.close
-    (tie.spec
-    (λ c κs. search needs)
-    (λ c. search needs)
-    (λ c. search needs)
-    (λ c. search needs)
-    (λ c κs. search needs)
-    (λ c. line-in (c .before) .within)
-    (λ c. line-in (c .before .before) .long)
-    (λ c κs. search needs)
-    (λ c. search needs))
+    tie.close (tie.spec (λ c κs. search needs) (λ c. search needs) (λ c. search needs) (λ c. search needs) (λ c κs. search needs)
+    (λ c. line-in (c .before) .within) (λ c. line-in (c .before .before) .long) (λ c κs. search needs) (λ c. search needs))

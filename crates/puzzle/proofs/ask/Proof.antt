@@ -1,112 +1,73 @@
--- `puzzle::ask` meets its contract: a law for each refusal, and what `find` ensures. Assumes nothing.
+-- `puzzle::ask` meets its contract: a law of `Answers` for each answer. Assumes nothing.
 use mathlib.Core.Path.{_≡_, sym, _∙_}
 use native.Mathlib.Omega.{arith}
+use borrow.Author.Needs.{needs}
 use denote.Ref.{now}
 use lib.ListN.{length}
+use Rattle.limits.specs.Limits.{mostBorders, mostCells}
 use Rattle.grid.proofs.Geometry.{cells-le}
-use Rattle.puzzle.specs.Puzzle.{gridOf, noClues}
-use Rattle.puzzle.proofs.ListsCode.{arrays-lent}
+use Rattle.puzzle.specs.Puzzle.{noClues}
 use Rattle.puzzle.proofs.Answers.{ask-refused, ask-short, ask-found}
-use Rattle.puzzle.proofs.Ready.{ready, ready-finding}
-use borrow.Author.Needs.{needs}
+use Rattle.puzzle.proofs.Ready.{Ready, ready, ready-finding}
 use Rattle.puzzle.proofs.ask.Statement.{statement}
 use Rattle.puzzle.proofs.ask.Tie as tie
 
--- the array fields' lengths, from the arguments alone
-given-long : (s : tie.Start) → length (s .args .t1 .given) ≡ 1984
-given-long s = search needs
+-- the places of the code: at questions 1 and 2, the start; at the buffer's test, the questions
+abbrev start : tie.After-code-of → tie.Start
+start c = c .before .before .before .before .before .before .before .before .before .before .before .before .before .before
 
-clues-long : (s : tie.Start) → length (s .args .t1 .clues) ≡ 1024
-clues-long s = search needs
+abbrev coded : tie.After-flat2 → tie.After-code-of
+coded c = c .before .before
 
-states-long : (s : tie.Start) → length (s .args .t1 .board .book .states) ≡ 1984
-states-long s = search needs
+abbrev long : tie.After-find-arg7 → tie.Else2
+long c = c .before .before .before .before .before .before .before .before .before .before
 
-ledger-long : (s : tie.Start) → length (s .args .t1 .board .book .names) ≡ 1984
-ledger-long s = search needs
+given-are : (s : tie.Start) → length (s .args .t1 .given) ≡ mostBorders
+given-are s = search needs
 
-code-of-requires : tie.Need-code-of-requires
-unfolding noClues
-code-of-requires c κs = let s = c .before .before .before .before .before .before .before .before .before .before .before .before .before in (record { states-long = states-long s; names-long = ledger-long s; given-long = given-long s; clues-long = clues-long s }, arrays-lent)
+clues-are : (s : tie.Start) → length (s .args .t1 .clues) ≡ mostCells
+clues-are s = search needs
+
+states-are : (s : tie.Start) → length (s .args .t1 .board .book .states) ≡ mostBorders
+states-are s = search needs
+
+accepted : (c : tie.Else1) → Ready (start (coded (c .before)) .args .t1)
+accepted c = let k = coded (c .before) in ready (start k .args .t1) (sym (k .code-of .ensures .0) ∙ c .if1 .left)
 
 returns : tie.Need-returns
 returns c =
-    let s = c .before .before .before .before .before .before .before .before .before .before .before .before .before .before .before .before .before .before in
-    let p = s .args .t1 in
-    let k = c .before .before .before .before in
-    let code = k .code-of .result in
-    let q = k .code-of .ensures .0 in
-    ask-refused p code q (now (s .args .buf)) (c .if1 .taken)
-
-mul-if2 : tie.Need-mul-if2
-mul-if2 c =
-    let s = c .before .before .before .before .before .before .before .before .before .before .before .before .before .before .before .before .before .before in
-    let p = s .args .t1 in
-    let k = c .before .before .before .before in
-    let code = k .code-of .result in
-    let q = k .code-of .ensures .0 in
-    let z = c .if1 .left in
-    let r = ready p (sym q ∙ z) in
-    omega (arith, cells-le (gridOf p) (r .limits))
-
-mul-if2-2 : tie.Need-mul-if2-2
-mul-if2-2 c =
-    let s = c .before .before .before .before .before .before .before .before .before .before .before .before .before .before .before .before .before .before in
-    let p = s .args .t1 in
-    let k = c .before .before .before .before in
-    let code = k .code-of .result in
-    let q = k .code-of .ensures .0 in
-    let z = c .if1 .left in
-    let r = ready p (sym q ∙ z) in
-    omega (arith, cells-le (gridOf p) (r .limits))
+    let k = coded (c .before) in
+    let s = start k in
+    ask-refused (s .args .t1) (k .code-of .result) (k .code-of .ensures .0) (now (s .args .buffer)) (c .if1 .taken)
 
 returns-2 : tie.Need-returns-2
 returns-2 c =
-    let s = c .before .before .before .before .before .before .before .before .before .before .before .before .before .before .before .before .before .before .before in
-    let p = s .args .t1 in
-    let k = c .before .before .before .before .before in
-    let code = k .code-of .result in
-    let q = k .code-of .ensures .0 in
-    let z = c .before .if1 .left in
-    ask-short p code q (now (s .args .buf)) z (c .if2 .taken)
+    let e = c .before .before in
+    let k = coded (e .before) in
+    let s = start k in
+    ask-short (s .args .t1) (k .code-of .result) (k .code-of .ensures .0) (now (s .args .buffer)) (e .if1 .left) (c .if2 .taken)
 
 find-requires : tie.Need-find-requires
 unfolding noClues
 find-requires c κs =
-    let s = c .before .before .before .before .before .before .before .before .before .before .before .before .before .before .before .before .before .before .before .before .before .before .before .before .before .before .before .before .before .before in
-    let p = s .args .t1 in
-    let k = c .before .before .before .before .before .before .before .before .before .before .before .before .before .before .before .before in
-    let code = k .code-of .result in
-    let q = k .code-of .ensures .0 in
-    let z = c .before .before .before .before .before .before .before .before .before .before .before .before .if1 .left in
-    let r = ready p (sym q ∙ z) in
-    (ready-finding p r (given-long s) (clues-long s) (states-long s) _ (c .before .before .before .before .before .before .before .before .before .before .before .if2 .left), (k .code-of .ensures .1 z, omega (arith, r .clues-fit, clues-long s)))
+    let l = long c in
+    let e = l .before .before in
+    let k = coded (e .before) in
+    let s = start k in
+    let r = accepted e in
+    ((omega (arith, r .given-fits, given-are s), omega (arith, r .clues-fit, clues-are s)), (ready-finding (s .args .t1) r (states-are s) (now (s .args .buffer)) (l .if2 .left), k .code-of .ensures .1 (e .if1 .left)))
 
 returns-3 : tie.Need-returns-3
 returns-3 c =
-    let s = c .before .before .before .before .before .before .before .before .before .before .before .before .before .before .before .before .before .before .before .before .before .before .before .before .before .before .before .before .before .before .before .before .before in
-    let p = s .args .t1 in
-    let k = c .before .before .before .before .before .before .before .before .before .before .before .before .before .before .before .before .before .before .before in
-    let code = k .code-of .result in
-    let q = k .code-of .ensures .0 in
-    let z = c .before .before .before .before .before .before .before .before .before .before .before .before .before .before .before .if1 .left in
-    ask-found p code q (now (s .args .buf)) z (c .before .before .before .before .before .before .before .before .before .before .before .before .before .before .if2 .left) (c .before .before .find .result) _ (c .before .before .find .ensures)
+    let o = c .before .before in
+    let l = long (o .before) in
+    let e = l .before .before in
+    let k = coded (e .before) in
+    let s = start k in
+    ask-found (s .args .t1) (k .code-of .result) (k .code-of .ensures .0) (now (s .args .buffer)) (e .if1 .left) (l .if2 .left) (o .find .result) _ (o .find .ensures)
 
 pub ask-spec : {M : Type 1} → statement M
 ask-spec =
-    tie.close
-    (tie.spec
-    (λ c. search needs)
-    (λ c. search needs)
-    (λ c. search needs)
-    code-of-requires
-    returns
-    mul-if2
-    mul-if2-2
-    returns-2
-    (λ c. search needs)
-    (λ c. search needs)
-    (λ c. search needs)
-    find-requires
-    (λ c. search needs)
-    returns-3)
+    tie.close (tie.spec (λ c. search needs) (λ c. search needs) (λ c κs. search needs) returns
+    (λ c. omega (arith, cells-le _ (accepted (c .before) .limits))) (λ c. omega (arith, cells-le _ (accepted (c .before) .limits))) returns-2
+    (λ c. search needs) (λ c. search needs) find-requires (λ c. search needs) returns-3)

@@ -1,81 +1,41 @@
--- `puzzle::check_rooms` meets its contract: the invariant says what the rooms from this one on give, and that the buffer is as it was. Assumes nothing.
+-- `puzzle::check_rooms` meets its contract: one law of `RoomChecks` a turn. Assumes nothing.
 use Prim.Native.Nat.{_-_, _≤_}
-use mathlib.Core.Path.{_≡_, refl, sym, ap, _∙_}
-use native.Mathlib.Omega.{arith}
+use mathlib.Core.Path.{_≡_}
 use borrow.Author.Needs.{needs}
-use denote.Ref.{now}
+use native.Mathlib.Omega.{arith}
 use lib.ListN.{length}
 use Rattle.borders.specs.Border.{stateOf}
-use Rattle.city_count.proofs.RoomLaws.{nothing-found}
 use Rattle.rooms.specs.Lent.{markedIn}
-use Rattle.puzzle.specs.Lists.{roomsFault}
-use Rattle.puzzle.proofs.RoomChecks.{rest, rest-all, rest-end, is-clear, kept-long, fault-here, clear-here}
+use Rattle.puzzle.specs.Lists.{partAt, roomsFault}
+use Rattle.puzzle.proofs.RoomChecks.{rest, rest-all, checks-none, checks-at, rest-turn}
 use Rattle.puzzle.proofs.check_rooms.Statement.{statement}
 use Rattle.puzzle.proofs.check_rooms.Tie as tie
 
 abbrev Inv-loop : tie.InvT-loop
-Inv-loop g marks ids vertex starts flat count states clues buf₀ room₀ buf room =
-    (room ≤ count) × (buf ≡ buf₀) × (rest g (markedIn marks) ids clues (stateOf states) count room ≡ roomsFault g (markedIn marks) ids clues count (stateOf states))
+Inv-loop g marks states starts flat clues room₀ room =
+    (room ≤ length clues) × (rest g (markedIn marks) (partAt g starts flat (length clues)) clues (stateOf states) room ≡ roomsFault g (markedIn marks) (partAt g starts flat (length clues)) clues (stateOf states))
 
 abbrev μ-loop : tie.MeasureT-loop
-μ-loop g marks ids vertex starts flat count states clues buf₀ room₀ buf room = count - room
+μ-loop g marks states starts flat clues room₀ room = length clues - room
 
-loop-holds : tie.Need-loop-holds Inv-loop μ-loop
-loop-holds c =
-    let s = c .before .before .before .before .before .before .before .before in
-    (omega arith, refl, rest-all (s .args .g) (markedIn (now (s .args .marks))) (now (s .args .ids)) (now (s .args .clues)) (stateOf (now (s .args .states))) (s .args .count))
-
-check-room-requires : tie.Need-check-room-requires Inv-loop μ-loop
-check-room-requires c κs =
-    let s = c .before .before .before .before .before .before .before .before .before .before .before in
-    let a = c .before .before in
-    (s .pre .0, (rw (a .loop .inv .1) (s .pre .1), c .before .loop-test .taken))
-
-same-length : tie.Need-same-length Inv-loop μ-loop
-same-length c =
-    let s = c .before .before .before .before .before .before .before .before .before .before .before .before .before .before .before .before .before in
-    let a = c .before .before .before .before .before .before .before .before in
-    let k = c .before .before .before .before .before in
-    kept-long (s .args .g) (markedIn (now (s .args .marks))) (now (s .args .ids)) (now (s .args .clues)) (stateOf (now (s .args .states))) (s .args .count) (a .loop .room) (c .before .before .before .before .before .before .before .loop-test .taken) (k .check-room .result) (now (s .args .buf)) (a .loop .buf) _ (a .loop .inv .1) (a .loop .inv .2) (k .check-room .ensures)
+-- the places of the code: at the loop's head, the start
+abbrev start : tie.At-loop Inv-loop μ-loop → tie.Start Inv-loop μ-loop
+start c = c .before .before .before .before .before .before
 
 returns : tie.Need-returns Inv-loop μ-loop
 returns c =
-    let s = c .before .before .before .before .before .before .before .before .before .before .before .before .before .before .before .before .before in
-    let a = c .before .before .before .before .before .before .before .before in
-    let k = c .before .before .before .before .before in
-    fault-here (s .args .g) (markedIn (now (s .args .marks))) (now (s .args .ids)) (now (s .args .clues)) (stateOf (now (s .args .states))) (s .args .count) (a .loop .room) (c .before .before .before .before .before .before .before .loop-test .taken) (k .check-room .result) (now (s .args .buf)) (a .loop .buf) _ (a .loop .inv .1) (a .loop .inv .2) (k .check-room .ensures) (c .before .found .given .0 .0) (c .before .found .given .1)
+    let k = c .before .before .before in
+    let t = k .before in
+    checks-at _ _ _ _ _ (t .before .loop .room) (t .loop-test .taken) (t .before .loop .inv .1) (k .check-room .result) (k .check-room .ensures) _ (c .before .side .given .1)
 
 loop-again : tie.Need-loop-again Inv-loop μ-loop
 loop-again c =
-    let s = c .before .before .before .before .before .before .before .before .before .before .before .before .before .before .before .before in
-    let a = c .before .before .before .before .before .before .before in
-    let k = c .before .before .before .before in
-    let o = clear-here (s .args .g) (markedIn (now (s .args .marks))) (now (s .args .ids)) (now (s .args .clues)) (stateOf (now (s .args .states))) (s .args .count) (a .loop .room) (c .before .before .before .before .before .before .loop-test .taken) (k .check-room .result) (now (s .args .buf)) (a .loop .buf) _ (a .loop .inv .1) (a .loop .inv .2) (k .check-room .ensures) (nothing-found (k .check-room .result) (c .before .match .keys2)) in
-    (omega arith, o .0, o .1)
-
-same-length-2 : tie.Need-same-length-2 Inv-loop μ-loop
-same-length-2 c = ap length (c .before .loop .inv .1)
-
-returns-2 : tie.Need-returns-2 Inv-loop μ-loop
-returns-2 c =
-    let s = c .before .before .before .before .before .before .before .before .before .before in
-    let a = c .before in
-    is-clear _ (now (s .args .buf)) _ (sym (a .loop .inv .2) ∙ rest-end (s .args .g) (markedIn (now (s .args .marks))) (now (s .args .ids)) (now (s .args .clues)) (stateOf (now (s .args .states))) (s .args .count) (a .loop .room) (c .loop-test .left)) (a .loop .inv .1)
+    let k = c .before .before in
+    let t = k .before in
+    (omega arith, rest-turn _ _ _ _ _ (t .before .loop .room) (t .loop-test .taken) (t .before .loop .inv .1) (k .check-room .result) (k .check-room .ensures) (c .enum-told .given .1))
 
 pub check-rooms-spec : {M : Type 1} → statement M
 check-rooms-spec =
-    tie.close
-    (tie.spec
-    Inv-loop
-    μ-loop
-    loop-holds
-    check-room-requires
-    (λ c. search needs)
-    same-length
-    returns
-    (λ c. search needs)
-    (λ c. search needs)
-    (λ c. search needs)
-    loop-again
-    same-length-2
-    returns-2)
+    tie.close (tie.spec Inv-loop μ-loop (λ c. (omega arith, rest-all _ _ _ _ _)) (λ c κs. (start (c .before) .pre, c .loop-test .taken))
+    (λ c. search needs) returns (λ c. search needs) (λ c. search needs) (λ c. search needs) loop-again
+    (λ c. checks-none _ _ _ _ _ (c .before .loop .room) (c .loop-test .left) (c .before .loop .inv .1)))

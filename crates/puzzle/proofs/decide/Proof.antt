@@ -1,120 +1,84 @@
--- `puzzle::decide` meets its contract: a law for each answer, and a free place in the ledger for an undecided border. Assumes nothing.
-use Prim.Native.Nat.{_<_}
-use mathlib.Core.Path.{_≡_, sym, ap, _∙_}
+-- `puzzle::decide` meets its contract: a refusal's number, or a free place in the ledger for an undecided border. Assumes nothing.
+use mathlib.Core.Path.{_≡_, ap, sym, _∙_}
 use native.Mathlib.Omega.{arith}
-use lib.ListN.{length}
-use Rattle.grid.proofs.Geometry.{borderCount-le}
-use Rattle.board.specs.Board.{bordersOf}
-use Rattle.puzzle.specs.Puzzle.{answer, gridOf, onto}
-use Rattle.puzzle.proofs.Answers.{refused, no-border, not-free, decided}
-use Rattle.puzzle.proofs.Ready.{ready, place-free}
 use borrow.Author.Needs.{needs}
+use lib.ListN.{length}
+use Rattle.limits.specs.Limits.{mostBorders}
+use Rattle.grid.proofs.Geometry.{borderCount-le}
+use Rattle.ledger.specs.Ledger.{decideCode}
+use Rattle.ledger.specs.Books.{stateAt, placed}
+use Rattle.ledger.proofs.BookLaws.{Places, Placeable, placeable}
+use Rattle.rooms.specs.Rooms.{isGiven}
+use Rattle.puzzle.specs.Puzzle.{gridOf, bookOf, bordersOf, givenOf}
+use Rattle.puzzle.proofs.Answers.{refused, not-now, done}
+use Rattle.puzzle.proofs.Ready.{Ready, ready}
 use Rattle.puzzle.proofs.decide.Statement.{statement}
 use Rattle.puzzle.proofs.decide.Tie as tie
 
--- the array fields' lengths, from the arguments alone
-given-long : (s : tie.Start) → length (s .args .t1 .given) ≡ 1984
-given-long s = search needs
+-- the places of the code: at questions 1 and 2, the start
+abbrev start : tie.After-parts-code → tie.Start
+start c = c .before .before .before .before .before .before .before .before .before .before .before
 
-clues-long : (s : tie.Start) → length (s .args .t1 .clues) ≡ 1024
-clues-long s = search needs
+-- the arrays' lengths
+states-are : (s : tie.Start) → length (s .args .p .board .book .states) ≡ mostBorders
+states-are s = search needs
 
-states-long : (s : tie.Start) → length (s .args .t1 .board .book .states) ≡ 1984
-states-long s = search needs
+names-are : (s : tie.Start) → length (s .args .p .board .book .names) ≡ mostBorders
+names-are s = search needs
 
-ledger-long : (s : tie.Start) → length (s .args .t1 .board .book .names) ≡ 1984
-ledger-long s = search needs
+accepted : (c : tie.Else1) → Ready (start (c .before) .args .p)
+accepted c = ready (start (c .before) .args .p) (sym (c .before .parts-code .ensures) ∙ c .if1 .left)
 
-parts-code-requires : tie.Need-parts-code-requires
-parts-code-requires c κs = let s = c .before .before .before .before .before .before .before .before .before .before .before in record { states-long = states-long s; names-long = ledger-long s; given-long = given-long s; clues-long = clues-long s }
+places : (c : tie.Else1) → Places (bordersOf (start (c .before) .args .p)) (bookOf (start (c .before) .args .p))
+places c =
+    let s = start (c .before) in
+    record { few = borderCount-le (gridOf (s .args .p)) (accepted c .limits); states-are = states-are s; names-are = names-are s }
+
+-- the ledger's number is that of the puzzle's borders
+abbrev first : tie.After-border-count → tie.Else1
+first c = c .before .before .before .before
+
+numbered : (c : tie.After-decide-code) → (let s = start (first (c .before) .before) in
+    c .decide-code .result ≡ decideCode (bordersOf (s .args .p)) (stateAt (bookOf (s .args .p) .states)) (s .args .border))
+numbered c =
+    let s = start (first (c .before) .before) in
+    c .decide-code .ensures ∙ ap (λ n. decideCode n (stateAt (bookOf (s .args .p) .states)) (s .args .border)) (c .before .border-count .ensures)
+
+fits : (c : tie.Else2) → (let s = start (first (c .before .before) .before) in Placeable (bookOf (s .args .p)) (s .args .border))
+fits c =
+    let e = first (c .before .before) in
+    let s = start (e .before) in
+    placeable (bordersOf (s .args .p)) (isGiven (givenOf (s .args .p))) (bookOf (s .args .p)) (accepted e .holds) (places e) (s .args .border) (sym (numbered (c .before)) ∙ c .if2 .left)
 
 returns : tie.Need-returns
 returns c =
-    let s = c .before .before .before .before .before .before .before .before .before .before .before .before .before in
-    let p = s .args .t1 in
     let k = c .before in
-    let code = k .parts-code .result in
-    let q = k .parts-code .ensures in
-    refused p code q _ (c .if1 .taken)
-
-border-count-requires : tie.Need-border-count-requires
-border-count-requires c κs =
-    let s = c .before .before .before .before .before .before .before .before .before .before .before .before .before in
-    let p = s .args .t1 in
-    let k = c .before in
-    let code = k .parts-code .result in
-    let q = k .parts-code .ensures in
-    let z = c .if1 .left in
-    let r = ready p (sym q ∙ z) in
-    r .limits
+    let a = start k .args in
+    refused (a .p) (k .parts-code .result) (k .parts-code .ensures) (decideCode (bordersOf (a .p)) (stateAt (bookOf (a .p) .states)) (a .border)) (placed (bookOf (a .p)) (a .border) (a .wall)) (c .if1 .taken)
 
 returns-2 : tie.Need-returns-2
 returns-2 c =
-    let s = c .before .before .before .before .before .before .before .before .before .before .before .before .before .before .before in
-    let p = s .args .t1 in
-    let k = c .before .before .before in
-    let code = k .parts-code .result in
-    let q = k .parts-code .ensures in
-    let z = c .before .before .if1 .left in
-    no-border p code q z (s .args .border) (s .args .wall) (rw (c .before .border-count .ensures) at (c .if2 .taken))
-
-element-copy-out-if3 : tie.Need-element-copy-out-if3
-element-copy-out-if3 c =
-    let s = c .before .before .before .before .before .before .before .before .before .before .before .before .before .before .before in
-    let p = s .args .t1 in
-    let k = c .before .before .before in
-    let code = k .parts-code .result in
-    let q = k .parts-code .ensures in
-    let z = c .before .before .if1 .left in
-    let h : s .args .border < bordersOf (p .board) = rw (c .before .border-count .ensures) at (c .if2 .left) in
-    let r = ready p (sym q ∙ z) in
-    omega (arith, borderCount-le (gridOf p) (r .limits))
+    let k = c .before in
+    let e = first (k .before) in
+    let a = start (e .before) .args in
+    rw (numbered k)
+    (not-now (a .p) (e .before .parts-code .result) (e .before .parts-code .ensures) (decideCode (bordersOf (a .p)) (stateAt (bookOf (a .p) .states)) (a .border)) (placed (bookOf (a .p)) (a .border) (a .wall)) (e .if1 .left)
+    (λ q. c .if2 .taken (numbered k ∙ q)))
 
 returns-3 : tie.Need-returns-3
 returns-3 c =
-    let s = c .before .before .before .before .before .before .before .before .before .before .before .before .before .before .before .before .before in
-    let p = s .args .t1 in
-    let k = c .before .before .before .before .before in
-    let code = k .parts-code .result in
-    let q = k .parts-code .ensures in
-    let z = c .before .before .before .before .if1 .left in
-    let h : s .args .border < bordersOf (p .board) = rw (c .before .before .before .border-count .ensures) at (c .before .before .if2 .left) in
-    not-free p code q z (s .args .border) (s .args .wall) h (c .if3 .taken)
-
-place-requires : tie.Need-place-requires
-place-requires c κs =
-    let s = c .before .before .before .before .before .before .before .before .before .before .before .before .before .before .before .before .before in
-    let p = s .args .t1 in
-    let k = c .before .before .before .before .before in
-    let code = k .parts-code .result in
-    let q = k .parts-code .ensures in
-    let z = c .before .before .before .before .if1 .left in
-    let h : s .args .border < bordersOf (p .board) = rw (c .before .before .before .border-count .ensures) at (c .before .before .if2 .left) in
-    let r = ready p (sym q ∙ z) in
-    let long = ledger-long s in
-    (omega (arith, borderCount-le (gridOf p) (r .limits)), place-free p r long (s .args .border) h (c .if3 .left))
-
-returns-4 : tie.Need-returns-4
-returns-4 c =
-    let s = c .before .before .before .before .before .before .before .before .before .before .before .before .before .before .before .before .before .before .before in
-    let p = s .args .t1 in
-    let k = c .before .before .before .before .before .before .before in
-    let code = k .parts-code .result in
-    let q = k .parts-code .ensures in
-    let z = c .before .before .before .before .before .before .if1 .left in
-    let h : s .args .border < bordersOf (p .board) = rw (c .before .before .before .before .before .border-count .ensures) at (c .before .before .before .before .if2 .left) in
-    ap (answer 0) (c .onto .ensures ∙ ap (onto p) (c .before .place .ensures)) ∙ decided p code q z (s .args .border) (s .args .wall) h (c .before .before .if3 .left)
+    let n = c .before in
+    let t = n .before .before in
+    let l = t .before .before in
+    let e = first (l .before .before) in
+    let a = start (e .before) .args in
+    rw (n .place-name .ensures, t .place-state .ensures)
+    (done (a .p) (e .before .parts-code .result) (e .before .parts-code .ensures) (decideCode (bordersOf (a .p)) (stateAt (bookOf (a .p) .states)) (a .border)) (placed (bookOf (a .p)) (a .border) (a .wall)) (e .if1 .left)
+    (sym (numbered (l .before)) ∙ l .if2 .left))
 
 pub decide-spec : {M : Type 1} → statement M
 decide-spec =
-    tie.close
-    (tie.spec
-    parts-code-requires
-    returns
-    border-count-requires
-    returns-2
-    element-copy-out-if3
-    returns-3
-    place-requires
-    (λ c κs. search needs)
-    returns-4)
+    tie.close (tie.spec (λ c κs. search needs) returns (λ c κs. accepted (c .before .before .before) .limits)
+    (λ c κs. let p = places (first c) in omega (arith, c .border-count .ensures, p .few, p .states-are)) returns-2
+    (λ c κs. fits (c .before) .state-fits) (λ c κs. let f = fits (c .before .before .before) in (f .name-fits, f .state-fits))
+    (λ c. omega (arith, fits (c .before .before .before .before) .name-fits)) (λ c. search needs) returns-3)

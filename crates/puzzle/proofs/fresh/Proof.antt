@@ -11,15 +11,8 @@ returns : tie.Need-returns
 unfolding zeros noClues
 returns c =
     let s = c .before .before .before .before .before .before .before .before .before in
-    puzzle-is (s .args .g .height) (s .args .g .width) (now (s .args .given)) (now (s .args .clues)) _ _ (c .fresh-board .result) (c .fresh-board .ensures) (c .before .before .before .before .before .copy .ensures) (c .before .before .copy2 .ensures)
+    puzzle-is (s .args .g) (now (s .args .given)) (now (s .args .clues)) _ _ (c .fresh-board .result) (c .fresh-board .ensures) (c .before .before .before .before .before .copy .ensures) (c .before .before .copy2 .ensures)
 
 pub fresh-spec : {M : Type 1} → statement M
 fresh-spec =
-    tie.close
-    (tie.spec
-    (λ c. search needs)
-    (λ c κs. search needs)
-    (λ c. search needs)
-    (λ c κs. search needs)
-    (λ c κs. search needs)
-    returns)
+    tie.close (tie.spec (λ c. search needs) (λ c κs. search needs) (λ c. search needs) (λ c κs. search needs) (λ c κs. search needs) returns)

@@ -1,10 +1,9 @@
 -- `puzzle::fresh_board` meets its contract: Wall at each given wall, and nothing else. Assumes nothing.
-use mathlib.Core.Path.{_∙_}
+use borrow.Author.Needs.{needs}
 use denote.Ref.{now}
 use Rattle.ledger.specs.Books.{zeros}
 use Rattle.rooms.specs.Lent.{unmarked}
-use Rattle.puzzle.proofs.Making.{fresh-states, board-is}
-use borrow.Author.Needs.{needs}
+use Rattle.puzzle.proofs.Making.{board-is}
 use Rattle.puzzle.proofs.fresh_board.Statement.{statement}
 use Rattle.puzzle.proofs.fresh_board.Tie as tie
 
@@ -12,7 +11,7 @@ returns : tie.Need-returns
 unfolding zeros unmarked
 returns c =
     let s = c .before .before .before .before in
-    board-is (s .args .g .height) (s .args .g .width) (now (s .args .given)) _ (c .before .put .ensures ∙ fresh-states (now (s .args .given)) (s .pre))
+    board-is (s .args .g) (now (s .args .given)) _ (s .pre) (c .before .put .ensures)
 
 pub fresh-board-spec : {M : Type 1} → statement M
 fresh-board-spec = tie.close (tie.spec (λ c. search needs) (λ c κs. search needs) returns)

@@ -1,82 +1,76 @@
--- `puzzle::undo` meets its contract: a law for each answer; the ledger's last name is a border. Assumes nothing.
-use Prim.Native.Nat.{_<_}
-use mathlib.Core.Path.{_≡_, sym, ap, _∙_}
+-- `puzzle::undo` meets its contract: a refusal's number, or the ledger's last border is undecided again. Assumes nothing.
+use mathlib.Core.Path.{_≡_, sym, _∙_}
 use native.Mathlib.Omega.{arith}
-use lib.ListN.{length}
-use Rattle.grid.proofs.Geometry.{borderCount-le}
-use Rattle.puzzle.specs.Puzzle.{answer, gridOf, onto}
-use Rattle.puzzle.proofs.Answers.{refused, nothing-left, undone}
-use Rattle.puzzle.proofs.Ready.{ready, last-name}
 use borrow.Author.Needs.{needs}
+use lib.ListN.{length}
+use Rattle.limits.specs.Limits.{mostBorders}
+use Rattle.grid.proofs.Geometry.{borderCount-le}
+use Rattle.ledger.specs.Ledger.{undoCode}
+use Rattle.ledger.specs.Books.{taken}
+use Rattle.ledger.proofs.BookLaws.{Places, Takeable, takeable}
+use Rattle.rooms.specs.Rooms.{isGiven}
+use Rattle.puzzle.specs.Puzzle.{gridOf, bookOf, bordersOf, givenOf}
+use Rattle.puzzle.proofs.Answers.{refused, done, nothing-left, some-left}
+use Rattle.puzzle.proofs.Ready.{Ready, ready}
 use Rattle.puzzle.proofs.undo.Statement.{statement}
 use Rattle.puzzle.proofs.undo.Tie as tie
 
--- the array fields' lengths, from the arguments alone
-given-long : (s : tie.Start) → length (s .args .t1 .given) ≡ 1984
-given-long s = search needs
+-- the places of the code: at questions 1 and 2, the start
+abbrev start : tie.After-parts-code → tie.Start
+start c = c .before .before .before .before .before .before .before .before .before .before .before
 
-clues-long : (s : tie.Start) → length (s .args .t1 .clues) ≡ 1024
-clues-long s = search needs
+-- the arrays' lengths
+states-are : (s : tie.Start) → length (s .args .p .board .book .states) ≡ mostBorders
+states-are s = search needs
 
-states-long : (s : tie.Start) → length (s .args .t1 .board .book .states) ≡ 1984
-states-long s = search needs
+names-are : (s : tie.Start) → length (s .args .p .board .book .names) ≡ mostBorders
+names-are s = search needs
 
-ledger-long : (s : tie.Start) → length (s .args .t1 .board .book .names) ≡ 1984
-ledger-long s = search needs
+accepted : (c : tie.Else1) → Ready (start (c .before) .args .p)
+accepted c = ready (start (c .before) .args .p) (sym (c .before .parts-code .ensures) ∙ c .if1 .left)
 
-parts-code-requires : tie.Need-parts-code-requires
-parts-code-requires c κs = let s = c .before .before .before .before .before .before .before .before .before in record { states-long = states-long s; names-long = ledger-long s; given-long = given-long s; clues-long = clues-long s }
+places : (c : tie.Else1) → Places (bordersOf (start (c .before) .args .p)) (bookOf (start (c .before) .args .p))
+places c =
+    let s = start (c .before) in
+    record { few = borderCount-le (gridOf (s .args .p)) (accepted c .limits); states-are = states-are s; names-are = names-are s }
+
+fits : (c : tie.Else2) → Takeable (bookOf (start (c .before .before) .args .p))
+fits c =
+    let e = c .before in
+    let p = start (e .before) .args .p in
+    takeable (bordersOf p) (isGiven (givenOf p)) (bookOf p) (accepted e .holds) (places e) (some-left p (c .if2 .left))
+
+abbrev left : tie.After-name-at-arg2 → tie.Else2
+left c = c .before .before .before
 
 returns : tie.Need-returns
 returns c =
-    let s = c .before .before .before .before .before .before .before .before .before .before .before in
-    let p = s .args .t1 in
     let k = c .before in
-    let code = k .parts-code .result in
-    let q = k .parts-code .ensures in
-    refused p code q _ (c .if1 .taken)
+    let a = start k .args in
+    refused (a .p) (k .parts-code .result) (k .parts-code .ensures) (undoCode (bookOf (a .p) .len)) (taken (bookOf (a .p))) (c .if1 .taken)
 
 returns-2 : tie.Need-returns-2
 returns-2 c =
-    let s = c .before .before .before .before .before .before .before .before .before .before .before .before .before .before in
-    let p = s .args .t1 in
-    let k = c .before .before .before .before in
-    let code = k .parts-code .result in
-    let q = k .parts-code .ensures in
-    let z = c .before .before .before .if1 .left in
-    nothing-left p code q z (c .if2 .taken)
+    let e = c .before in
+    let k = e .before in
+    nothing-left (start k .args .p) (k .parts-code .result) (k .parts-code .ensures) (e .if1 .left) (c .if2 .taken)
 
-take-back-requires : tie.Need-take-back-requires
-take-back-requires c κs =
-    let s = c .before .before .before .before .before .before .before .before .before .before .before .before .before .before in
-    let p = s .args .t1 in
-    let k = c .before .before .before .before in
-    let code = k .parts-code .result in
-    let q = k .parts-code .ensures in
-    let z = c .before .before .before .if1 .left in
-    let r = ready p (sym q ∙ z) in
-    let long = ledger-long s in
-    let some : 0 < p .board .book .len = omega (arith, c .if2 .left) in
-    let n = borderCount-le (gridOf p) (r .limits) in
-    (some, omega (arith, r .short), omega (arith, last-name p r long some))
+clear-name-requires : tie.Need-clear-name-requires
+clear-name-requires c κs = let f = fits (left (c .before .before .before .before)) in omega (arith, f .some, f .len-fits)
 
 returns-3 : tie.Need-returns-3
 returns-3 c =
-    let s = c .before .before .before .before .before .before .before .before .before .before .before .before .before .before .before .before in
-    let p = s .args .t1 in
-    let k = c .before .before .before .before .before .before in
-    let code = k .parts-code .result in
-    let q = k .parts-code .ensures in
-    let z = c .before .before .before .before .before .if1 .left in
-    ap (answer 0) (c .onto .ensures ∙ ap (onto p) (c .before .take-back .ensures)) ∙ undone p code q z (c .before .before .if2 .left)
+    let n = c .before in
+    let t = n .before .before in
+    let m = t .before .before in
+    let l = left (m .before) in
+    let k = l .before .before in
+    let p = start k .args .p in
+    rw (n .clear-name .ensures, t .clear-state .ensures, m .name-at .ensures)
+    (done p (k .parts-code .result) (k .parts-code .ensures) (undoCode (bookOf p .len)) (taken (bookOf p)) (l .before .if1 .left) (some-left p (l .if2 .left)))
 
 pub undo-spec : {M : Type 1} → statement M
 undo-spec =
-    tie.close
-    (tie.spec
-    parts-code-requires
-    returns
-    returns-2
-    take-back-requires
-    (λ c κs. search needs)
-    returns-3)
+    tie.close (tie.spec (λ c κs. search needs) returns returns-2 (λ c. search needs)
+    (λ c κs. let e = left c in let f = fits e in omega (arith, f .some, f .len-fits, names-are (start (e .before .before))))
+    (λ c κs. rw (c .before .name-at .ensures) (fits (left (c .before .before)) .last-fits)) clear-name-requires (λ c. search needs) returns-3)

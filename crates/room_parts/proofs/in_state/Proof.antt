@@ -43,15 +43,5 @@ returns c =
 
 pub in-state-spec : {M : Type 1} → statement M
 in-state-spec =
-    tie.close
-    (tie.spec
-    Inv-loop
-    μ-loop
-    loop-holds
-    (λ c. omega arith)
-    add-r
-    (λ c. omega arith)
-    (λ c. omega arith)
-    loop-again
-    (λ c κs. search needs)
+    tie.close (tie.spec Inv-loop μ-loop loop-holds (λ c. omega arith) add-r (λ c. omega arith) (λ c. omega arith) loop-again (λ c κs. search needs)
     returns)

@@ -33,17 +33,9 @@ fits c =
     let y = v-below (s .args .n) (s .args .m) (now (s .args .us)) (now (s .args .vs)) (now (s .args .states)) (s .pre) (a .loop .head) (a .loop .next) (a .loop .to) (a .loop .arcs) (a .loop .i) (a .loop .inv) (k .loop-test .taken) (c .before .before .wide .result) (c .wide2 .result) (c .before .before .wide .ensures) (c .wide2 .ensures) in
     (room (s .args .n) (s .args .m) (now (s .args .us)) (now (s .args .vs)) (now (s .args .states)) (s .pre) (a .loop .head) (a .loop .next) (a .loop .to) (a .loop .arcs) (a .loop .i) (a .loop .inv) (k .loop-test .taken), omega arith, omega arith)
 
-link-requires : tie.Need-link-requires Inv-loop μ-loop
-link-requires c κs = let f = fits (c .before .before .before) in (omega (arith, f .0), f .1, f .2)
-
-add-link : tie.Need-add-link Inv-loop μ-loop
-add-link c = omega (arith, fits (c .before .before .before .before .before .before .before) .0)
-
-link-requires-2 : tie.Need-link-requires-2 Inv-loop μ-loop
-link-requires-2 c κs = let f = fits (c .before .before .before .before .before .before .before) in (f .0, f .2, f .1)
-
-add-arcs : tie.Need-add-arcs Inv-loop μ-loop
-add-arcs c = omega (arith, fits (c .before .before .before .before .before .before .before .before) .0)
+-- the place of the second link: behind it stand the edge's ends
+abbrev ends : tie.After-to2 Inv-loop μ-loop → tie.After-wide2 Inv-loop μ-loop
+ends c = c .before .before .before .before .before .before .before
 
 loop-again : tie.Need-loop-again Inv-loop μ-loop
 loop-again c =
@@ -78,24 +70,7 @@ returns c =
 
 pub joined-parts-spec : {M : Type 1} → statement M
 joined-parts-spec =
-    tie.close
-    (tie.spec
-    Inv-loop
-    μ-loop
-    loop-holds
-    (λ c. omega arith)
-    (λ c. omega arith)
-    (λ c. omega arith)
-    (λ c κs. search needs)
-    (λ c. omega arith)
-    (λ c. omega arith)
-    (λ c κs. search needs)
-    link-requires
-    add-link
-    link-requires-2
-    add-arcs
-    (λ c. omega arith)
-    (λ c. omega arith)
-    loop-again
-    sweep-requires
-    returns)
+    tie.close (tie.spec Inv-loop μ-loop loop-holds (λ c. omega arith) (λ c. omega arith) (λ c. omega arith) (λ c κs. search needs) (λ c. omega arith)
+    (λ c. omega arith) (λ c κs. search needs) (λ c κs. let f = fits (c .before .before .before) in (omega (arith, f .0), f .1, f .2))
+    (λ c. omega (arith, fits (ends c) .0)) (λ c κs. let f = fits (ends c) in (f .0, f .2, f .1)) (λ c. omega (arith, fits (ends (c .before)) .0))
+    (λ c. omega arith) (λ c. omega arith) loop-again sweep-requires returns)

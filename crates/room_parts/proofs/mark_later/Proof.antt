@@ -6,12 +6,6 @@ use borrow.Author.Tests.{eq-eqb, ne-eqb, lt-ltb, le-ltb}
 use Rattle.room_parts.proofs.mark_later.Statement.{statement}
 use Rattle.room_parts.proofs.mark_later.Tie as tie
 
-returns : tie.Need-returns
-returns c = simp (eq-eqb _ _ (c .if1 .taken)) refl
-
-returns-2 : tie.Need-returns-2
-returns-2 c = simp (ne-eqb _ _ (c .before .if1 .left), lt-ltb _ _ (c .if2 .taken)) refl
-
 returns-3 : tie.Need-returns-3
 returns-3 c = simp (ne-eqb _ _ (c .before .before .if1 .left), le-ltb _ _ (c .before .if2 .left), lt-ltb _ _ (c .if3 .taken)) refl
 
@@ -20,5 +14,5 @@ returns-4 c = simp (ne-eqb _ _ (c .before .before .if1 .left), le-ltb _ _ (c .be
 
 pub mark-later-spec : {M : Type 1} → statement M
 mark-later-spec =
-    tie.close
-    (tie.spec returns (λ c. search needs) returns-2 (λ c. search needs) returns-3 returns-4)
+    tie.close (tie.spec (λ c. simp (eq-eqb _ _ (c .if1 .taken)) refl) (λ c. search needs)
+    (λ c. simp (ne-eqb _ _ (c .before .if1 .left), lt-ltb _ _ (c .if2 .taken)) refl) (λ c. search needs) returns-3 returns-4)

@@ -51,21 +51,5 @@ returns c =
 
 pub most-parts-spec : {M : Type 1} → statement M
 most-parts-spec =
-    tie.close
-    (tie.spec
-    Inv-loop
-    μ-loop
-    loop-holds
-    (λ c. omega arith)
-    (λ c. omega arith)
-    (λ c. omega arith)
-    (λ c κs. search needs)
-    (λ c. omega arith)
-    (λ c. omega arith)
-    (λ c κs. search needs)
-    mark-later-requires
-    (λ c. omega arith)
-    (λ c. omega arith)
-    loop-again
-    (λ c κs. omega arith)
-    returns)
+    tie.close (tie.spec Inv-loop μ-loop loop-holds (λ c. omega arith) (λ c. omega arith) (λ c. omega arith) (λ c κs. search needs) (λ c. omega arith)
+    (λ c. omega arith) (λ c κs. search needs) mark-later-requires (λ c. omega arith) (λ c. omega arith) loop-again (λ c κs. omega arith) returns)

@@ -10,6 +10,10 @@ use Rattle.room_parts.proofs.BoundLaws.{passing-le, joined-least, above
 use Rattle.room_parts.proofs.outnumber.Statement.{statement}
 use Rattle.room_parts.proofs.outnumber.Tie as tie
 
+-- the place of the code before the upper bound
+abbrev start : tie.After-most-parts → tie.Start
+start c = c .before .before .before .before .before .before .before
+
 sub-left-by : tie.Need-sub-left-by
 sub-left-by c =
     let s = c .before .before .before .before in
@@ -24,22 +28,9 @@ returns c =
     above-least (s .args .count) (l .left-by .result) (c .if1 .taken) b
 
 returns-2 : tie.Need-returns-2
-returns-2 c =
-    let p = c .before in
-    below-most (p .before .before .before .before .before .before .before .args .count) (p .most-parts .result) (c .if2 .taken) (p .most-parts .ensures)
-
-returns-3 : tie.Need-returns-3
-returns-3 c = ap (ltb (c .before .before .before .before .before .before .before .before .before .args .count)) (c .joined-parts .ensures)
+returns-2 c = let p = c .before in below-most (start p .args .count) (p .most-parts .result) (c .if2 .taken) (p .most-parts .ensures)
 
 pub outnumber-spec : {M : Type 1} → statement M
 outnumber-spec =
-    tie.close
-    (tie.spec
-    (λ c κs. search needs)
-    sub-left-by
-    (λ c κs. search needs)
-    returns
-    (λ c κs. search needs)
-    returns-2
-    (λ c κs. search needs)
-    returns-3)
+    tie.close (tie.spec (λ c κs. search needs) sub-left-by (λ c κs. search needs) returns (λ c κs. search needs) returns-2 (λ c κs. search needs)
+    (λ c. ap (ltb (start (c .before .before) .args .count)) (c .joined-parts .ensures)))

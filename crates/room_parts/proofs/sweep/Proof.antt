@@ -17,9 +17,6 @@ abbrev μ-loop : tie.MeasureT-loop
 loop-holds : tie.Need-loop-holds Inv-loop μ-loop
 loop-holds c = sweep-none (c .args .n) (now (c .args .head)) (now (c .args .next)) (now (c .args .to)) (now (c .args .seen)) (c .pre)
 
-element-copy-out-if1 : tie.Need-element-copy-out-if1 Inv-loop μ-loop
-element-copy-out-if1 c = omega (arith, c .before .before .pre .arcs .few)
-
 walk-requires : tie.Need-walk-requires Inv-loop μ-loop
 walk-requires c κs =
     let k = c .before .before .before in
@@ -60,15 +57,5 @@ returns c =
 
 pub sweep-spec : {M : Type 1} → statement M
 sweep-spec =
-    tie.close
-    (tie.spec
-    Inv-loop
-    μ-loop
-    loop-holds
-    element-copy-out-if1
-    walk-requires
-    add-parts
-    (λ c. omega arith)
-    (λ c. omega arith)
-    loop-again
-    returns)
+    tie.close (tie.spec Inv-loop μ-loop loop-holds (λ c. omega (arith, c .before .before .pre .arcs .few)) walk-requires add-parts (λ c. omega arith)
+    (λ c. omega arith) loop-again returns)

@@ -6,11 +6,5 @@ use borrow.Author.Tests.{eq-eqb, ne-eqb}
 use Rattle.room_parts.proofs.take_edge.Statement.{statement}
 use Rattle.room_parts.proofs.take_edge.Tie as tie
 
-returns : tie.Need-returns
-returns c = simp (eq-eqb _ _ (c .before .before .if1 .taken)) (c .unite-in .ensures)
-
-returns-2 : tie.Need-returns-2
-returns-2 c = simp (ne-eqb _ _ (c .if1 .left)) (refl, refl)
-
 pub take-edge-spec : {M : Type 1} → statement M
-take-edge-spec = tie.close (tie.spec (λ c κs. search needs) returns returns-2)
+take-edge-spec = tie.close (tie.spec (λ c κs. search needs) (λ c. simp (eq-eqb _ _ (c .before .before .if1 .taken)) (c .unite-in .ensures)) (λ c. simp (ne-eqb _ _ (c .if1 .left)) (refl, refl)))

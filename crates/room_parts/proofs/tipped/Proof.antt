@@ -17,8 +17,5 @@ returns c =
     let b = connected-least (s .args .n) (s .args .m) (now (s .args .us)) (now (s .args .vs)) (now (s .args .states)) (s .pre) (l .left-by .result) (k .in-state .result) (l .left-by .ensures) (k .in-state .ensures) in
     not-tipped (graph (s .args .n) (s .args .m) (now (s .args .us)) (now (s .args .vs))) (s .args .count) (statesIn (now (s .args .states))) (omega (arith, c .if1 .taken, b))
 
-returns-2 : tie.Need-returns-2
-returns-2 c = c .counts-below .ensures
-
 pub tipped-spec : {M : Type 1} → statement M
-tipped-spec = tie.close (tie.spec (λ c κs. search needs) (λ c κs. search needs) returns (λ c κs. search needs) returns-2)
+tipped-spec = tie.close (tie.spec (λ c κs. search needs) (λ c κs. search needs) returns (λ c κs. search needs) (λ c. c .counts-below .ensures))

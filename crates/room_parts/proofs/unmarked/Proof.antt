@@ -41,15 +41,5 @@ returns c =
 
 pub unmarked-spec : {M : Type 1} → statement M
 unmarked-spec =
-    tie.close
-    (tie.spec
-    Inv-loop
-    μ-loop
-    loop-holds
-    (λ c. omega arith)
-    add-k
-    (λ c. omega arith)
-    (λ c. omega arith)
-    loop-again
-    (λ c κs. search needs)
+    tie.close (tie.spec Inv-loop μ-loop loop-holds (λ c. omega arith) add-k (λ c. omega arith) (λ c. omega arith) loop-again (λ c κs. search needs)
     returns)

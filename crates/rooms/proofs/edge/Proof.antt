@@ -1,89 +1,65 @@
 -- `rooms::edge` meets its contract: a law of `EdgeLaws` for each way out. Assumes nothing.
+use mathlib.Core.Path.{sym, _∙_}
 use native.Mathlib.Omega.{arith}
+use borrow.Author.Needs.{needs}
 use denote.Ref.{now}
 use Rattle.grid.proofs.Geometry.{cells-le}
 use Rattle.grid.proofs.Told.{end-told}
-use Rattle.rooms.proofs.EdgeLaws.{at-end, cell-lt, cell-fits, vertex-fits, border-fits, border-small, other-room, wall-there, edge-written}
-use borrow.Author.Needs.{needs}
+use Rattle.rooms.proofs.EdgeLaws.{at-end, cell-lt, border-fits, no-vertex, wall-there, edge-there}
 use Rattle.rooms.proofs.edge.Statement.{statement}
 use Rattle.rooms.proofs.edge.Tie as tie
 
+-- the places of the code: after the step, the start; where there is a neighbour, the step
+abbrev start : tie.After-step → tie.Start
+start c = c .before .before .before
+
+abbrev told : tie.After-known-told → tie.After-step
+told c = c .before .before .before
+
+abbrev first : tie.After-shared-slice-known4 → tie.After-shared-slice-known3
+first c = c .before .before
+
 returns : tie.Need-returns
 returns c =
-    let s = c .before .before .before .before .before .before .before .before in
-    at-end (s .args .g) (now (s .args .marks)) (now (s .args .ids)) (now (s .args .vertex)) (s .args .room) (s .args .cell) (s .args .direction) (now (s .args .us)) (now (s .args .vs)) (now (s .args .borders)) (s .args .m) (end-told _ _ _ (c .before .step .ensures) (c .match .keys2))
+    let a = start (c .before) .args in
+    at-end (a .g) (now (a .marks)) (now (a .vertex)) (a .cell) (a .direction) (end-told _ _ _ (c .before .step .ensures) (c .match .keys2))
 
-mul-wide : tie.Need-mul-wide
-mul-wide c =
-    let s = c .before .before .before .before .before .before .before .before .before .before in
-    omega (arith, cells-le _ (s .pre .0 .limits), cell-lt (s .args .g) (now (s .args .marks)) (now (s .args .ids)) (now (s .args .vertex)) (s .args .room) (s .args .cell) (s .args .direction) (now (s .args .us)) (now (s .args .vs)) (now (s .args .borders)) (s .args .m) (s .pre .0) (s .pre .1 .0 .0) (s .pre .1 .0 .1) (c .before .before .before .step .ensures) (c .before .next .given .1))
+mul-if1 : tie.Need-mul-if1
+mul-if1 c =
+    let s = start (told c) in
+    omega (arith, cells-le _ (s .pre .limits), cell-lt (s .args .g) (now (s .args .marks)) (now (s .args .vertex)) (s .args .cell) (s .args .direction) (s .pre) (told c .step .ensures) (c .before .beyond .given .1))
 
-shared-slice-read-wide : tie.Need-shared-slice-read-wide
-shared-slice-read-wide c =
-    let s = c .before .before .before .before .before .before .before .before .before .before .before in
-    cell-fits (s .args .g) (now (s .args .marks)) (now (s .args .ids)) (now (s .args .vertex)) (s .args .room) (s .args .cell) (s .args .direction) (now (s .args .us)) (now (s .args .vs)) (now (s .args .borders)) (s .args .m) (s .pre .0) (s .pre .1 .0 .0) (s .pre .1 .0 .1) (c .before .before .before .before .step .ensures) (c .before .before .next .given .1)
+shared-slice-read-if1 : tie.Need-shared-slice-read-if1
+shared-slice-read-if1 c =
+    let k = c .before in
+    let s = start (told k) in
+    omega (arith, s .pre .vertex-long, cell-lt (s .args .g) (now (s .args .marks)) (now (s .args .vertex)) (s .args .cell) (s .args .direction) (s .pre) (told k .step .ensures) (k .before .beyond .given .1))
 
 returns-2 : tie.Need-returns-2
 returns-2 c =
-    let s = c .before .before .before .before .before .before .before .before .before .before .before .before .before in
-    other-room (s .args .g) (now (s .args .marks)) (now (s .args .ids)) (now (s .args .vertex)) (s .args .room) (s .args .cell) (s .args .direction) (now (s .args .us)) (now (s .args .vs)) (now (s .args .borders)) (s .args .m) (s .pre .0) (s .pre .1 .0 .0) (s .pre .1 .0 .1) (c .before .before .before .before .before .before .step .ensures) (c .before .before .before .before .next .given .1) (rw (c .before .wide .ensures) at (c .if1 .taken))
+    let k = c .before .before in
+    let s = start (told k) in
+    no-vertex (s .args .g) (now (s .args .marks)) (now (s .args .vertex)) (s .args .cell) (s .args .direction) (s .pre) (told k .step .ensures) (k .before .beyond .given .1) (c .if1 .taken)
 
 shared-slice-read-if2 : tie.Need-shared-slice-read-if2
 shared-slice-read-if2 c =
-    let s = c .before .before .before .before .before .before .before .before .before .before .before .before .before .before in
-    border-fits (s .args .g) (now (s .args .marks)) (now (s .args .ids)) (now (s .args .vertex)) (s .args .room) (s .args .cell) (s .args .direction) (now (s .args .us)) (now (s .args .vs)) (now (s .args .borders)) (s .args .m) (s .pre .0) (s .pre .1 .0 .0) (s .pre .1 .0 .1) (c .before .before .before .before .before .before .before .step .ensures) (c .before .before .before .before .before .next .given .1)
+    let k = first c .before in
+    let s = start (told k) in
+    border-fits (s .args .g) (now (s .args .marks)) (now (s .args .vertex)) (s .args .cell) (s .args .direction) (s .pre) (told k .step .ensures) (k .before .beyond .given .1)
 
 returns-3 : tie.Need-returns-3
 returns-3 c =
-    let s = c .before .before .before .before .before .before .before .before .before .before .before .before .before .before .before in
-    wall-there (s .args .g) (now (s .args .marks)) (now (s .args .ids)) (now (s .args .vertex)) (s .args .room) (s .args .cell) (s .args .direction) (now (s .args .us)) (now (s .args .vs)) (now (s .args .borders)) (s .args .m) (s .pre .0) (s .pre .1 .0 .0) (s .pre .1 .0 .1) (c .before .before .before .before .before .before .before .before .step .ensures) (c .before .before .before .before .before .before .next .given .1) (rw (c .before .before .before .wide .ensures) at (c .before .before .if1 .left)) (c .if2 .taken)
-
-mul-vs : tie.Need-mul-vs
-mul-vs c =
-    let s = c .before .before .before .before .before .before .before .before .before .before .before .before .before .before .before .before in
-    omega (arith, cells-le _ (s .pre .0 .limits), cell-lt (s .args .g) (now (s .args .marks)) (now (s .args .ids)) (now (s .args .vertex)) (s .args .room) (s .args .cell) (s .args .direction) (now (s .args .us)) (now (s .args .vs)) (now (s .args .borders)) (s .args .m) (s .pre .0) (s .pre .1 .0 .0) (s .pre .1 .0 .1) (c .before .before .before .before .before .before .before .before .before .step .ensures) (c .before .before .before .before .before .before .before .next .given .1))
-
-shared-slice-read-vs : tie.Need-shared-slice-read-vs
-shared-slice-read-vs c =
-    let s = c .before .before .before .before .before .before .before .before .before .before .before .before .before .before .before .before .before in
-    vertex-fits (s .args .g) (now (s .args .marks)) (now (s .args .ids)) (now (s .args .vertex)) (s .args .room) (s .args .cell) (s .args .direction) (now (s .args .us)) (now (s .args .vs)) (now (s .args .borders)) (s .args .m) (s .pre .0) (s .pre .1 .0 .0) (s .pre .1 .0 .1) (c .before .before .before .before .before .before .before .before .before .before .step .ensures) (c .before .before .before .before .before .before .before .before .next .given .1)
-
-cast-borders : tie.Need-cast-borders
-cast-borders c =
-    let s = c .before .before .before .before .before .before .before .before .before .before .before .before .before .before .before .before .before in
-    omega (arith, border-small (s .args .g) (now (s .args .marks)) (now (s .args .ids)) (now (s .args .vertex)) (s .args .room) (s .args .cell) (s .args .direction) (now (s .args .us)) (now (s .args .vs)) (now (s .args .borders)) (s .args .m) (s .pre .0) (s .pre .1 .0 .0) (s .pre .1 .0 .1) (c .before .before .before .before .before .before .before .before .before .before .step .ensures) (c .before .before .before .before .before .before .before .before .next .given .1))
+    let k = first (c .before) .before in
+    let s = start (told k) in
+    wall-there (s .args .g) (now (s .args .marks)) (now (s .args .vertex)) (s .args .cell) (s .args .direction) (s .pre) (told k .step .ensures) (k .before .beyond .given .1) (c .before .before .if1 .left) (c .if2 .taken)
 
 returns-4 : tie.Need-returns-4
 returns-4 c =
-    let s = c .before .before .before .before .before .before .before .before .before .before .before .before .before .before .before .before .before in
-    edge-written (s .args .g) (now (s .args .marks)) (now (s .args .ids)) (now (s .args .vertex)) (s .args .room) (s .args .cell) (s .args .direction) (now (s .args .us)) (now (s .args .vs)) (now (s .args .borders)) (s .args .m) (s .pre .0) (s .pre .1 .0 .0) (s .pre .1 .0 .1) (c .before .before .before .before .before .before .before .before .before .before .step .ensures) (c .before .before .before .before .before .before .before .before .next .given .1) (rw (c .before .before .before .before .before .wide .ensures) at (c .before .before .before .before .if1 .left)) (c .before .before .if2 .left)
+    let k = first (c .before) .before in
+    let s = start (told k) in
+    sym (k .before .beyond .given .1) ∙ edge-there (s .args .g) (now (s .args .marks)) (now (s .args .vertex)) (s .args .cell) (s .args .direction) (s .pre) (told k .step .ensures) (k .before .beyond .given .1) (c .before .before .if1 .left) (c .if2 .left)
 
 pub edge-spec : {M : Type 1} → statement M
 edge-spec =
-    tie.close
-    (tie.spec
-    (λ c κs. search needs)
-    (λ c. search needs)
-    returns
-    mul-wide
-    shared-slice-read-wide
-    (λ c κs. search needs)
-    returns-2
-    shared-slice-read-if2
-    returns-3
-    (λ c. search needs)
-    (λ c. search needs)
-    (λ c. search needs)
-    (λ c. search needs)
-    mul-vs
-    shared-slice-read-vs
-    (λ c. search needs)
-    (λ c. search needs)
-    cast-borders
-    (λ c. search needs)
-    (λ c. search needs)
-    (λ c. search needs)
-    (λ c. search needs)
-    (λ c. search needs)
-    (λ c. search needs)
+    tie.close (tie.spec (λ c κs. search needs) (λ c. search needs) returns mul-if1 shared-slice-read-if1 returns-2 shared-slice-read-if2 returns-3
     returns-4)

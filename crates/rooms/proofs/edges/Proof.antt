@@ -1,100 +1,97 @@
 -- `rooms::edges` meets its contract: one law of `EdgesLaws` a turn. Assumes nothing.
-use Prim.Native.Nat.{_-_, _<_}
-use mathlib.Core.Path.{_≡_, ap, _∙_}
+use Prim.Native.Nat.{_*_, _-_, _<_}
+use mathlib.Core.Path.{ap}
+use mathlib.Core.Logic.{⊎-elim}
 use native.Mathlib.Omega.{arith}
 use borrow.Author.Needs.{needs}
 use denote.Ref.{now}
 use lib.ListN.{length, getD}
-use Rattle.grid.specs.declared.Direction.the-variants.{Down}
-use Rattle.grid.proofs.Geometry.{cells-le}
-use Rattle.boundary.proofs.BoundaryLaws.{cells-most}
-use Rattle.groups.specs.Groups.{cellsOf}
-use Rattle.rooms.specs.Lent.{markedIn}
-use Rattle.rooms.proofs.EdgesLaws.{Writing, writing-none, writing-cell, writing-turn, writing-all, space-first, space-second}
+use Rattle.rooms.specs.Lent.{nowhere, markedIn}
+use Rattle.rooms.proofs.EdgesLaws.{Writing, writing-none, writing-skip, writing-one, writing-all}
+use Rattle.rooms.proofs.HouseLaws.{few, cells-below, looking, Seen, seen, none-seen}
 use Rattle.rooms.proofs.edges.Statement.{statement}
 use Rattle.rooms.proofs.edges.Tie as tie
 
 abbrev Inv-loop : tie.InvT-loop
-Inv-loop g marks ids vertex cells room us₀ vs₀ borders₀ m₀ i₀ us vs borders m i =
-    Writing g (markedIn marks) ids room us₀ vs₀ borders₀ us vs borders m i
+Inv-loop g marks states cells us₀ vs₀ here₀ vertex m₀ i₀ us vs here m i = Writing g (markedIn marks) cells states us₀ vs₀ here₀ us vs here m i
 
 abbrev μ-loop : tie.MeasureT-loop
-μ-loop g marks ids vertex cells room us₀ vs₀ borders₀ m₀ i₀ us vs borders m i = length cells - i
+μ-loop g marks states cells us₀ vs₀ here₀ vertex m₀ i₀ us vs here m i = 2 * length cells - i
 
-loop-holds : tie.Need-loop-holds Inv-loop μ-loop
-loop-holds c = writing-none _ _ _ _ _ _ _
+-- the places of the code: the start, the loop's head, and the look
+abbrev start : tie.After-vertex Inv-loop μ-loop → tie.Start Inv-loop μ-loop
+start c = c .before .before .before .before .before .before .before
+
+abbrev begun : tie.At-loop Inv-loop μ-loop → tie.Start Inv-loop μ-loop
+begun c = start (c .before .before .before)
+
+abbrev turn : tie.After-way Inv-loop μ-loop → tie.In-loop Inv-loop μ-loop
+turn c = c .before .before .before .before
+
+abbrev told : tie.After-known-told Inv-loop μ-loop → tie.After-way Inv-loop μ-loop
+told c = c .before .before .before .before
 
 edge-requires : tie.Need-edge-requires Inv-loop μ-loop
+unfolding nowhere
 edge-requires c κs =
-    let s = c .before .before .before .before .before .before .before .before .before .before .before .before .before .before in
-    let a = c .before .before .before .before .before .before in
-    let g = s .args .g in
-    let cs = cellsOf g (now (s .args .ids)) (s .args .room) in
-    let h : a .loop .i < length cs = rw (s .pre .1 .0) at (c .before .before .before .before .before .loop-test .taken) in
-    let e : c .before .before .before .wide .result ≡ getD cs (a .loop .i) 0 = c .before .before .before .wide .ensures ∙ ap (λ l. getD l (a .loop .i) 0) (s .pre .1 .0) in
-    let o = writing-cell (s .args .g) (markedIn (now (s .args .marks))) (now (s .args .ids)) (s .args .room) _ _ _ _ _ _ (a .loop .m) (a .loop .i) (a .loop .inv) h in
-    (s .pre .0, ((rw e (o .0), rw e (o .1)), space-first (s .args .g) (markedIn (now (s .args .marks))) (now (s .args .ids)) (s .args .room) _ _ _ _ _ _ (a .loop .m) (a .loop .i) (a .loop .inv) h (cells-le g (s .pre .0 .limits)) (s .pre .1 .1)))
+    let a = turn c .before in
+    let s = begun a in
+    looking _ _ _ _ (s .pre .0) (a .loop .i) (turn c .loop-test .taken) _ (a .before .before .number .ensures) _ (c .before .before .wide .ensures)
 
-edge-requires-2 : tie.Need-edge-requires-2 Inv-loop μ-loop
-edge-requires-2 c κs =
-    let s = c .before .before .before .before .before .before .before .before .before .before .before .before .before .before .before .before .before .before .before .before .before .before .before .before in
-    let a = c .before .before .before .before .before .before .before .before .before .before .before .before .before .before .before .before in
-    let g = s .args .g in
-    let cs = cellsOf g (now (s .args .ids)) (s .args .room) in
-    let h : a .loop .i < length cs = rw (s .pre .1 .0) at (c .before .before .before .before .before .before .before .before .before .before .before .before .before .before .before .loop-test .taken) in
-    let e : c .before .before .before .before .before .before .before .before .before .before .before .before .before .wide .result ≡ getD cs (a .loop .i) 0 = c .before .before .before .before .before .before .before .before .before .before .before .before .before .wide .ensures ∙ ap (λ l. getD l (a .loop .i) 0) (s .pre .1 .0) in
-    let o = writing-cell (s .args .g) (markedIn (now (s .args .marks))) (now (s .args .ids)) (s .args .room) _ _ _ _ _ _ (a .loop .m) (a .loop .i) (a .loop .inv) h in
-    (s .pre .0, ((rw e (o .0), rw e (o .1)), space-second (s .args .g) (markedIn (now (s .args .marks))) (now (s .args .ids)) (s .args .room) _ _ _ _ _ _ (a .loop .m) (a .loop .i) (a .loop .inv) h (cells-le g (s .pre .0 .limits)) (s .pre .1 .1) (c .before .before .before .before .before .before .before .before .before .before .before .before .before .wide .result) Down _ _ _ _ (c .before .before .before .before .before .before .before .before .before .edge .ensures)))
+-- what the look tells
+seen-edge : (c : tie.After-known-told Inv-loop μ-loop)
+    → (let a = turn (told c) .before in
+    Seen (begun a .args .g) (now (begun a .args .marks)) (now (begun a .args .cells)) (a .before .before .number .last .1 .0) (a .loop .i) (told c .before .before .wide .result) (c .before .beyond .given .0 .0) (c .before .beyond .given .0 .1 .0))
+unfolding nowhere
+seen-edge c =
+    let k = told c in
+    let a = turn k .before in
+    seen _ _ _ _ (begun a .pre .0) (a .loop .i) (turn k .loop-test .taken) _ (a .before .before .number .ensures) _ (k .before .before .wide .ensures) _ (k .way .ensures) (c .before .before .before .edge .ensures) (c .before .beyond .given .1)
 
-add-i : tie.Need-add-i Inv-loop μ-loop
-add-i c =
-    let s = c .before .before .before .before .before .before .before .before .before .before .before .before .before .before .before .before .before .before .before .before .before .before .before .before .before .before .before .before .before .before .before in
-    let a = c .before .before .before .before .before .before .before .before .before .before .before .before .before .before .before .before .before .before .before .before .before .before .before in
-    let g = s .args .g in
-    let h : a .loop .i < length (cellsOf g (now (s .args .ids)) (s .args .room)) = rw (s .pre .1 .0) at (c .before .before .before .before .before .before .before .before .before .before .before .before .before .before .before .before .before .before .before .before .before .before .loop-test .taken) in
-    omega (arith, cells-most g (now (s .args .ids)) (s .args .room), cells-le g (s .pre .0 .limits))
+space : (c : tie.After-known-told Inv-loop μ-loop) → (let a = turn (told c) .before in (a .loop .m < length (a .loop .us)) × (a .loop .m < length (a .loop .vs)) × (a .loop .m < length (a .loop .here)))
+space c =
+    let k = told c in
+    let a = turn k .before in
+    let p = begun a .pre in
+    let w = a .loop .inv in
+    let h = few _ _ _ _ (p .0) in
+    let l = turn k .loop-test .taken in (
+      omega (arith, w .few, w .us-are .long, p .1 .us-long),
+      omega (arith, w .few, w .vs-are .long, p .1 .vs-long),
+      omega (arith, w .few, w .here-are .long, p .1 .here-long),
+    )
+
+mul-us-2 : tie.Need-mul-us-2 Inv-loop μ-loop
+mul-us-2 c = let k = turn (told c) in omega (arith, few _ _ _ _ (begun (k .before) .pre .0), k .before .loop .inv .few)
+
+shared-slice-read-here : tie.Need-shared-slice-read-here Inv-loop μ-loop
+shared-slice-read-here c = omega (arith, seen-edge (c .before) .border-lt, begun (turn (told (c .before)) .before) .pre .0 .states-long)
 
 loop-again : tie.Need-loop-again Inv-loop μ-loop
+unfolding nowhere
 loop-again c =
-    let s = c .before .before .before .before .before .before .before .before .before .before .before .before .before .before .before .before .before .before .before .before .before .before .before .before .before .before .before .before .before .before .before in
-    let a = c .before .before .before .before .before .before .before .before .before .before .before .before .before .before .before .before .before .before .before .before .before .before .before in
-    let g = s .args .g in
-    let cs = cellsOf g (now (s .args .ids)) (s .args .room) in
-    let h : a .loop .i < length cs = rw (s .pre .1 .0) at (c .before .before .before .before .before .before .before .before .before .before .before .before .before .before .before .before .before .before .before .before .before .before .loop-test .taken) in
-    let e : c .before .before .before .before .before .before .before .before .before .before .before .before .before .before .before .before .before .before .before .before .wide .result ≡ getD cs (a .loop .i) 0 = c .before .before .before .before .before .before .before .before .before .before .before .before .before .before .before .before .before .before .before .before .wide .ensures ∙ ap (λ l. getD l (a .loop .i) 0) (s .pre .1 .0) in
-    writing-turn (s .args .g) (markedIn (now (s .args .marks))) (now (s .args .ids)) (s .args .room) _ _ _ _ _ _ (a .loop .m) (a .loop .i) (a .loop .inv) h _ _ _ _ _ _ _ _ (rw e at (c .before .before .before .before .before .before .before .before .before .before .before .before .before .before .before .before .edge .ensures)) (rw e at (c .before .before .before .before .before .before .edge2 .ensures))
-
-same-length : tie.Need-same-length Inv-loop μ-loop
-same-length c = c .before .loop .inv .us-long
-
-same-length-2 : tie.Need-same-length-2 Inv-loop μ-loop
-same-length-2 c = c .before .loop .inv .vs-long
-
-same-length-3 : tie.Need-same-length-3 Inv-loop μ-loop
-same-length-3 c = c .before .loop .inv .borders-long
-
-returns : tie.Need-returns Inv-loop μ-loop
-returns c =
-    let s = c .before .before .before .before .before .before .before .before .before in
-    let a = c .before in
-    writing-all (s .args .g) (markedIn (now (s .args .marks))) (now (s .args .ids)) (s .args .room) _ _ _ _ _ _ (a .loop .m) (a .loop .i) (a .loop .inv) (rw (s .pre .1 .0) at (c .loop-test .left))
+    let k = c .before .before in
+    let a = turn k .before in
+    let h = turn k .loop-test .taken in
+    ⊎-elim
+    (λ w.
+    let o = seen-edge (record { before = record { before = record { before = c .before; match = w .0 }; beyond = w .1 }; known-told = w .2 }) in
+    rw
+    (w .4, w .5, w .6, w .7)
+    (writing-one _ _ _ _ _ _ _ _ _ _ _ _ (a .loop .inv) h (o .there) _ _ _ (omega (arith, o .from-is)) (omega (arith, o .into-is)) (ap (λ e. getD (now (begun a .args .states)) e 0) (o .border-is))))
+    (λ w.
+    rw
+    (w .1, w .2, w .3, w .4)
+    (writing-skip _ _ _ _ _ _ _ _ _ _ _ _ (a .loop .inv) h
+    (none-seen _ _ _ _ (begun a .pre .0) (a .loop .i) h _ (a .before .before .number .ensures) _ (k .before .before .wide .ensures) _ (k .way .ensures) (c .before .edge .ensures) (w .0 .keys2))))
+    (c .match .came)
 
 pub edges-spec : {M : Type 1} → statement M
 edges-spec =
-    tie.close
-    (tie.spec
-    Inv-loop
-    μ-loop
-    loop-holds
-    (λ c. omega arith)
-    (λ c. omega arith)
-    (λ c κs. search needs)
-    edge-requires
-    edge-requires-2
-    add-i
-    (λ c. omega arith)
-    loop-again
-    same-length
-    same-length-2
-    same-length-3
-    returns)
+    tie.close (tie.spec Inv-loop μ-loop (λ c. search needs) (λ c κs. let s = start c in (cells-below _ _ _ _ (s .pre .0), few _ _ _ _ (s .pre .0)))
+    (λ c. writing-none _ _ _ _ _ _ _) (λ c. let s = begun c in omega (arith, few _ _ _ _ (s .pre .0))) (λ c. search needs) (λ c. search needs)
+    (λ c κs. search needs) (λ c. search needs) (λ c κs. search needs) edge-requires (λ c. search needs) (λ c. omega (arith, seen-edge c .cell-lt))
+    (λ c. seen-edge c .cell-lt) (λ c. omega (arith, seen-edge c .from-is)) mul-us-2 (λ c. space c .0) (λ c. omega (arith, seen-edge c .next-lt))
+    (λ c. seen-edge c .next-lt) (λ c. omega (arith, seen-edge c .into-is)) mul-us-2 (λ c. space c .1) shared-slice-read-here
+    (λ c. space (c .before) .2) (λ c. search needs) (λ c. search needs) (λ c. search needs) loop-again (λ c. search needs) (λ c. search needs)
+    (λ c. search needs) (λ c. writing-all _ _ _ _ _ _ _ _ _ _ _ _ (c .before .loop .inv) (c .loop-test .left)))

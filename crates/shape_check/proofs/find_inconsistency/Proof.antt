@@ -3,6 +3,7 @@ use mathlib.Core.Path.{_≡_}
 use native.Mathlib.Omega.{arith}
 use denote.Ref.{now}
 use lib.ListN.{length}
+use Rattle.limits.specs.Limits.{mostBorders}
 use Rattle.grid.proofs.Geometry.{cells-le}
 use Rattle.board.specs.Board.{sizeOf}
 use Rattle.shape_check.proofs.AnswerLaws.{refused-record, limits, refused-buffer, fits, is-clear, is-fault}
@@ -10,8 +11,15 @@ use borrow.Author.Needs.{needs}
 use Rattle.shape_check.proofs.find_inconsistency.Statement.{statement}
 use Rattle.shape_check.proofs.find_inconsistency.Tie as tie
 
+-- the places of the code: the start, the record's questions, and the fault's
 abbrev start : tie.After-check-parts → tie.Start
-start k = k .before .before .before .before .before .before .before .before
+start c = c .before .before .before .before .before .before .before .before
+
+abbrev ready : tie.After-shape-fault-arg3 → tie.Else2
+ready c = c .before .before .before .before
+
+abbrev asked : tie.After-slice-known2 → tie.After-shape-fault
+asked c = c .before .before
 
 returns : tie.Need-returns
 returns c =
@@ -39,39 +47,29 @@ returns-2 c =
 
 shape-fault-requires : tie.Need-shape-fault-requires
 shape-fault-requires c κs =
-    let k = c .before .before .before .before .before .before in
+    let q = ready c in
+    let k = q .before .before in
     let s = start k in
-    let long : length (s .args .t1 .book .states) ≡ 1984 = search needs in
-    (fits (s .args .t1) (k .check-parts .ensures) (now (s .args .buffer)) (c .before .before .before .before .before .if1 .left) long, c .before .before .before .before .if2 .left)
-
-enum-told : tie.Need-enum-told
-enum-told c = search needs
+    let long : length (s .args .t1 .book .states) ≡ mostBorders = search needs in
+    (fits (s .args .t1) (k .check-parts .ensures) (now (s .args .buffer)) (q .before .if1 .left) long, q .if2 .left)
 
 returns-3 : tie.Need-returns-3
 returns-3 c =
-    let k = c .before .before .before .before .before .before .before .before .before .before .before in
+    let a = asked (c .before .before) in
+    let q = ready (a .before) in
+    let k = q .before .before in
     let s = start k in
-    is-clear (s .args .t1) (k .check-parts .ensures) (now (s .args .buffer)) (c .before .before .before .before .before .before .before .before .before .before .if1 .left) (c .before .before .before .before .before .before .before .before .before .if2 .left) (c .before .before .before .before .shape-fault .ensures) (c .enum-told .given .1)
+    is-clear (s .args .t1) (k .check-parts .ensures) (now (s .args .buffer)) (q .before .if1 .left) (q .if2 .left) (a .shape-fault .ensures) (c .enum-told .given .1)
 
 returns-4 : tie.Need-returns-4
 returns-4 c =
-    let k = c .before .before .before .before .before .before .before .before .before .before .before .before in
+    let a = asked (c .before .before .before) in
+    let q = ready (a .before) in
+    let k = q .before .before in
     let s = start k in
-    is-fault (s .args .t1) (k .check-parts .ensures) (now (s .args .buffer)) (c .before .before .before .before .before .before .before .before .before .before .before .if1 .left) (c .before .before .before .before .before .before .before .before .before .before .if2 .left) (c .before .before .before .before .before .shape-fault .ensures) (c .before .n .given .1)
+    is-fault (s .args .t1) (k .check-parts .ensures) (now (s .args .buffer)) (q .before .if1 .left) (q .if2 .left) (a .shape-fault .ensures) (c .before .n .given .1)
 
 pub find-inconsistency-spec : {M : Type 1} → statement M
 find-inconsistency-spec =
-    tie.close
-    (tie.spec
-    (λ c κs. search needs)
-    returns
-    mul-cells
-    mul-if2
-    returns-2
-    shape-fault-requires
-    (λ c. search needs)
-    enum-told
-    (λ c. search needs)
-    returns-3
-    (λ c. search needs)
-    returns-4)
+    tie.close (tie.spec (λ c κs. search needs) returns mul-cells mul-if2 returns-2 shape-fault-requires (λ c. search needs) (λ c. search needs)
+    (λ c. search needs) returns-3 (λ c. search needs) returns-4)

@@ -14,9 +14,6 @@ Inv-loop p₀ n i₀ p i = (i ≤ n) × (left p i n ≡ left p₀ 0 n)
 abbrev μ-loop : tie.MeasureT-loop
 μ-loop p₀ n i₀ p i = n - i
 
-loop-holds : tie.Need-loop-holds Inv-loop μ-loop
-loop-holds c = (omega arith, refl)
-
 loop-again : tie.Need-loop-again Inv-loop μ-loop
 loop-again c =
     let a = c .before in
@@ -29,15 +26,5 @@ returns c =
 
 pub alone-spec : {M : Type 1} → statement M
 alone-spec =
-    tie.close
-    (tie.spec
-    Inv-loop
-    μ-loop
-    loop-holds
-    (λ c. omega arith)
-    (λ c. omega arith)
-    (λ c. omega arith)
-    (λ c. omega arith)
-    (λ c. omega arith)
-    loop-again
-    returns)
+    tie.close (tie.spec Inv-loop μ-loop (λ c. (omega arith, refl)) (λ c. omega arith) (λ c. omega arith) (λ c. omega arith) (λ c. omega arith)
+    (λ c. omega arith) loop-again returns)

@@ -15,9 +15,6 @@ Inv-loop p q₀ n i₀ q i = (i ≤ n) × Looked n p q i
 abbrev μ-loop : tie.MeasureT-loop
 μ-loop p q₀ n i₀ q i = n - i
 
-loop-holds : tie.Need-loop-holds Inv-loop μ-loop
-loop-holds c = (omega arith, look-none (c .args .n) (now (c .args .p)) (c .pre .0) (now (c .args .q)) (c .pre .1))
-
 find-in-requires : tie.Need-find-in-requires Inv-loop μ-loop
 find-in-requires c κs =
     let a = c .before .before in
@@ -31,12 +28,6 @@ root-on c =
     look-on (s .args .n) (now (s .args .p)) (s .pre .0) (a .loop .q) (a .loop .i) (c .find-in .result) (a .loop .inv .1)
     (c .before .before .loop-test .taken)
     (c .find-in .ensures .0)
-
-mul-wide : tie.Need-mul-wide Inv-loop μ-loop
-mul-wide c = omega (arith, root-on c)
-
-element-copy-out-wide : tie.Need-element-copy-out-wide Inv-loop μ-loop
-element-copy-out-wide c = root-on c
 
 returns : tie.Need-returns Inv-loop μ-loop
 returns c =
@@ -70,17 +61,6 @@ returns-2 c =
 
 pub chains-end-spec : {M : Type 1} → statement M
 chains-end-spec =
-    tie.close
-    (tie.spec
-    Inv-loop
-    μ-loop
-    loop-holds
-    find-in-requires
-    mul-wide
-    element-copy-out-wide
-    (λ c κs. search needs)
-    returns
-    (λ c. omega arith)
-    (λ c. omega arith)
-    loop-again
+    tie.close (tie.spec Inv-loop μ-loop (λ c. (omega arith, look-none (c .args .n) (now (c .args .p)) (c .pre .0) (now (c .args .q)) (c .pre .1)))
+    find-in-requires (λ c. omega (arith, root-on c)) (λ c. root-on c) (λ c κs. search needs) returns (λ c. omega arith) (λ c. omega arith) loop-again
     returns-2)

@@ -10,9 +10,6 @@ use Rattle.union_find.proofs.HoldLaws.{holds-parents}
 use Rattle.union_find.proofs.find.Statement.{statement}
 use Rattle.union_find.proofs.find.Tie as tie
 
-returns : tie.Need-returns
-returns c = simp (lt-ltb _ _ (c .if1 .taken))
-
 returns-2 : tie.Need-returns-2
 returns-2 c =
     let u = c .before .before .before .args .u in
@@ -22,9 +19,6 @@ returns-2 c =
 -- question 2 was yes
 good : (c : tie.Else2) → let u = c .before .before .before .args .u in holdsOf (u .n) (u .parent) ≡ true
 good c = sym (c .before .holds .ensures) ∙ not-false _ (c .if2 .left)
-
-returns-3 : tie.Need-returns-3
-returns-3 c = simp (le-ltb _ _ (c .before .before .before .if1 .left), good (c .before), le-leb _ _ (c .if3 .taken))
 
 find-in-requires : tie.Need-find-in-requires
 find-in-requires c κs =
@@ -40,4 +34,5 @@ returns-4 c =
 
 pub find-spec : {M : Type 1} → statement M
 find-spec =
-    tie.close (tie.spec returns (λ c κs. search needs) returns-2 returns-3 find-in-requires returns-4)
+    tie.close (tie.spec (λ c. simp (lt-ltb _ _ (c .if1 .taken))) (λ c κs. search needs) returns-2
+    (λ c. simp (le-ltb _ _ (c .before .before .before .if1 .left), good (c .before), le-leb _ _ (c .if3 .taken))) find-in-requires returns-4)

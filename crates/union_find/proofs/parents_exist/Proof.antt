@@ -15,9 +15,6 @@ Inv-loop p n i₀ i = (i ≤ n) × ((x : ℕ) → x < i → up p x < n)
 abbrev μ-loop : tie.MeasureT-loop
 μ-loop p n i₀ i = n - i
 
-loop-holds : tie.Need-loop-holds Inv-loop μ-loop
-loop-holds c = (omega arith, λ x h. omega arith)
-
 returns : tie.Need-returns Inv-loop μ-loop
 returns c =
     let a = c .before .before .before .before in
@@ -36,16 +33,5 @@ returns-2 c =
 
 pub parents-exist-spec : {M : Type 1} → statement M
 parents-exist-spec =
-    tie.close
-    (tie.spec
-    Inv-loop
-    μ-loop
-    loop-holds
-    (λ c. omega arith)
-    (λ c. omega arith)
-    (λ c κs. search needs)
-    returns
-    (λ c. omega arith)
-    (λ c. omega arith)
-    loop-again
-    returns-2)
+    tie.close (tie.spec Inv-loop μ-loop (λ c. (omega arith, λ x h. omega arith)) (λ c. omega arith) (λ c. omega arith) (λ c κs. search needs) returns
+    (λ c. omega arith) (λ c. omega arith) loop-again returns-2)

@@ -9,9 +9,6 @@ use Rattle.union_find.proofs.HoldLaws.{holds-parents}
 use Rattle.union_find.proofs.unite.Statement.{statement}
 use Rattle.union_find.proofs.unite.Tie as tie
 
-returns : tie.Need-returns
-returns c = simp (lt-ltb _ _ (c .if1 .taken))
-
 returns-2 : tie.Need-returns-2
 returns-2 c =
     let u = c .before .before .before .args .u in
@@ -21,9 +18,6 @@ returns-2 c =
 -- question 2 was yes
 good : (c : tie.Else2) → let u = c .before .before .before .args .u in holdsOf (u .n) (u .parent) ≡ true
 good c = sym (c .before .holds .ensures) ∙ not-false _ (c .if2 .left)
-
-returns-3 : tie.Need-returns-3
-returns-3 c = simp (le-ltb _ _ (c .before .before .before .if1 .left), good (c .before), le-leb _ _ (c .if3 .taken))
 
 returns-4 : tie.Need-returns-4
 returns-4 c =
@@ -50,5 +44,6 @@ returns-5 c =
 
 pub unite-spec : {M : Type 1} → statement M
 unite-spec =
-    tie.close
-    (tie.spec returns (λ c κs. search needs) returns-2 returns-3 returns-4 unite-in-requires returns-5)
+    tie.close (tie.spec (λ c. simp (lt-ltb _ _ (c .if1 .taken))) (λ c κs. search needs) returns-2
+    (λ c. simp (le-ltb _ _ (c .before .before .before .if1 .left), good (c .before), le-leb _ _ (c .if3 .taken))) returns-4 unite-in-requires
+    returns-5)

@@ -37,12 +37,6 @@ cast-p c =
     (second-stays (s .args .n) (now (s .args .p)) (s .pre .0) (s .args .x) (s .args .y) (s .pre .1 .0) (s .pre .1 .1) _ (c .before .before .before .find-in .ensures .1) (s .args .n)) in
     omega arith
 
-mul-p : tie.Need-mul-p
-mul-p c = omega (arith, one-on c)
-
-element-write-p : tie.Need-element-write-p
-element-write-p c = one-on c
-
 returns-2 : tie.Need-returns-2
 returns-2 c =
     let s = c .before .before .before .before .before in
@@ -53,5 +47,4 @@ returns-2 c =
 
 pub unite-in-spec : {M : Type 1} → statement M
 unite-in-spec =
-    tie.close
-    (tie.spec find-in-requires find-in-requires-2 returns cast-p mul-p element-write-p returns-2)
+    tie.close (tie.spec find-in-requires find-in-requires-2 returns cast-p (λ c. omega (arith, one-on c)) (λ c. one-on c) returns-2)

@@ -1,14 +1,14 @@
 -- `exports::boundaries::sendai_potential_unit_boundary` meets its contract: what its two calls ensure, put together. Assumes nothing.
 use mathlib.Core.Path.{ap, _∙_}
 use borrow.Author.Needs.{needs}
-use Rattle.exports.specs.Listings.{boundaryListing}
+use Rattle.answers.specs.Answers.{plainListed}
 use Rattle.exports.proofs.boundaries.sendai_potential_unit_boundary.Statement.{statement}
 use Rattle.exports.proofs.boundaries.sendai_potential_unit_boundary.Tie as tie
 
 returns : tie.Need-returns
 returns c =
     let listed = c .before .before .before .reason-for-potential-unit-boundary .ensures in
-    (c .of-boundary .ensures ∙ ap boundaryListing (listed .0), listed .1)
+    (c .of-listed .ensures ∙ ap plainListed (listed .0), listed .1)
 
 pub sendai-potential-unit-boundary-spec : {M : Type 1} → statement M
 sendai-potential-unit-boundary-spec =

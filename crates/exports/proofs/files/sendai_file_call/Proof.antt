@@ -5,8 +5,5 @@ use Rattle.exports.specs.Files.{stepFields}
 use Rattle.exports.proofs.files.sendai_file_call.Statement.{statement}
 use Rattle.exports.proofs.files.sendai_file_call.Tie as tie
 
-returns : tie.Need-returns
-returns c = c .step-fields .ensures ∙ ap stepFields (c .before .call-at .ensures)
-
 pub sendai-file-call-spec : {M : Type 1} → statement M
-sendai-file-call-spec = tie.close (tie.spec (λ c κs. search needs) (λ c κs. search needs) returns)
+sendai-file-call-spec = tie.close (tie.spec (λ c κs. search needs) (λ c κs. search needs) (λ c. c .step-fields .ensures ∙ ap stepFields (c .before .call-at .ensures)))

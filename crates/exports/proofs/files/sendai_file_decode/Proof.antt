@@ -5,8 +5,5 @@ use Rattle.exports.specs.Files.{partsOf}
 use Rattle.exports.proofs.files.sendai_file_decode.Statement.{statement}
 use Rattle.exports.proofs.files.sendai_file_decode.Tie as tie
 
-returns : tie.Need-returns
-returns c = c .parts-of .ensures ∙ ap partsOf (c .before .decode .ensures .0)
-
 pub sendai-file-decode-spec : {M : Type 1} → statement M
-sendai-file-decode-spec = tie.close (tie.spec (λ c κs. search needs) (λ c κs. search needs) returns)
+sendai-file-decode-spec = tie.close (tie.spec (λ c κs. search needs) (λ c κs. search needs) (λ c. c .parts-of .ensures ∙ ap partsOf (c .before .decode .ensures .0)))

@@ -3,18 +3,9 @@ use borrow.Author.Tests.{ne-eqb}
 use Rattle.exports.proofs.places.direction_of.Statement.{statement}
 use Rattle.exports.proofs.places.direction_of.Tie as tie
 
-returns : tie.Need-returns
-returns c = rw (c .match .keys1)
-
-returns-2 : tie.Need-returns-2
-returns-2 c = rw (c .match .keys2)
-
-returns-3 : tie.Need-returns-3
-returns-3 c = rw (c .match .keys3)
-
 returns-4 : tie.Need-returns-4
 returns-4 c =
     simp (ne-eqb _ _ (c .match .rest .0 .0 .1), ne-eqb _ _ (c .match .rest .0 .1), ne-eqb _ _ (c .match .rest .1))
 
 pub direction-of-spec : {M : Type 1} → statement M
-direction-of-spec = tie.close (tie.spec returns returns-2 returns-3 returns-4)
+direction-of-spec = tie.close (tie.spec (λ c. rw (c .match .keys1)) (λ c. rw (c .match .keys2)) (λ c. rw (c .match .keys3)) returns-4)

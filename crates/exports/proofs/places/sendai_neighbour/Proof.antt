@@ -3,9 +3,6 @@ use borrow.Author.Needs.{needs}
 use Rattle.exports.proofs.places.sendai_neighbour.Statement.{statement}
 use Rattle.exports.proofs.places.sendai_neighbour.Tie as tie
 
-returns : tie.Need-returns
-returns c = cc
-
 pub sendai-neighbour-spec : {M : Type 1} → statement M
 sendai-neighbour-spec =
-    tie.close (tie.spec (λ c κs. search needs) (λ c κs. search needs) (λ c κs. search needs) returns)
+    tie.close (tie.spec (λ c κs. search needs) (λ c κs. search needs) (λ c κs. search needs) (λ c. cc))

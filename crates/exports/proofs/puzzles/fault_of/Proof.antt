@@ -3,14 +3,5 @@ use borrow.Author.Needs.{needs}
 use Rattle.exports.proofs.puzzles.fault_of.Statement.{statement}
 use Rattle.exports.proofs.puzzles.fault_of.Tie as tie
 
-enum-told : tie.Need-enum-told
-enum-told c = search needs
-
-returns : tie.Need-returns
-returns c = rw (c .enum-told .given .1)
-
-returns-2 : tie.Need-returns-2
-returns-2 c = rw (c .before .check .given .1)
-
 pub fault-of-spec : {M : Type 1} → statement M
-fault-of-spec = tie.close (tie.spec enum-told (λ c. search needs) returns returns-2)
+fault-of-spec = tie.close (tie.spec (λ c. search needs) (λ c. search needs) (λ c. rw (c .enum-told .given .1)) (λ c. rw (c .before .check .given .1)))

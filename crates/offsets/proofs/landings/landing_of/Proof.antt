@@ -1,11 +1,10 @@
 -- `offsets::landings::landing_of` meets its contract: the two coordinates are the definition's. Assumes nothing.
 use mathlib.Core.Path.{ap, ap₂, _∙_}
-use borrow.Author.Needs.{sfits-of}
+use borrow.Author.Needs.{sfits-of, needs}
 use mir.Syntax.{w32}
 use mir.ValLaws.{toZ-ofZ}
 use Rattle.offsets.specs.Places.{coordinateOf, landOf}
 use Rattle.offsets.proofs.LandingLaws.{ahead-y, ahead-x, ahead-small}
-use borrow.Author.Needs.{needs}
 use Rattle.offsets.proofs.landings.landing_of.Statement.{statement}
 use Rattle.offsets.proofs.landings.landing_of.Tie as tie
 
@@ -39,5 +38,4 @@ returns c =
 
 pub landing-of-spec : {M : Type 1} → statement M
 landing-of-spec =
-    tie.close
-    (tie.spec (λ c κs. search needs) coordinate-requires coordinate-requires-2 (λ c κs. search needs) returns)
+    tie.close (tie.spec (λ c κs. search needs) coordinate-requires coordinate-requires-2 (λ c κs. search needs) returns)

@@ -5,22 +5,8 @@ use borrow.Author.Needs.{needs}
 use Rattle.offsets.proofs.places.ahead.Statement.{statement}
 use Rattle.offsets.proofs.places.ahead.Tie as tie
 
-enum-told : tie.Need-enum-told
-enum-told c = search needs
-
-returns : tie.Need-returns
-returns c = sym (ap aheadOf (c .enum-told .given .1))
-
-returns-2 : tie.Need-returns-2
-returns-2 c = sym (ap aheadOf (c .enum-told2 .given .1))
-
-returns-3 : tie.Need-returns-3
-returns-3 c = sym (ap aheadOf (c .enum-told3 .given .1))
-
-returns-4 : tie.Need-returns-4
-returns-4 c = sym (ap aheadOf (c .enum-told4 .given .1))
-
 pub ahead-spec : {M : Type 1} → statement M
 ahead-spec =
-    tie.close
-    (tie.spec enum-told (λ c. search needs) (λ c. search needs) (λ c. search needs) returns returns-2 returns-3 returns-4)
+    tie.close (tie.spec (λ c. search needs) (λ c. search needs) (λ c. search needs) (λ c. search needs)
+    (λ c. sym (ap aheadOf (c .enum-told .given .1))) (λ c. sym (ap aheadOf (c .enum-told2 .given .1)))
+    (λ c. sym (ap aheadOf (c .enum-told3 .given .1))) (λ c. sym (ap aheadOf (c .enum-told4 .given .1))))

@@ -60,19 +60,5 @@ returns-4 c =
 
 pub border-at-spec : {M : Type 1} → statement M
 border-at-spec =
-    tie.close
-    (tie.spec
-    (λ c. search needs)
-    (λ c. search needs)
-    returns
-    (λ c. search needs)
-    (λ c. search needs)
-    returns-2
-    mul-cell
-    add-cell
-    step-requires
-    (λ c κs. search needs)
-    returns-3
-    step-requires-2
-    (λ c κs. search needs)
-    returns-4)
+    tie.close (tie.spec (λ c. search needs) (λ c. search needs) returns (λ c. search needs) (λ c. search needs) returns-2 mul-cell add-cell
+    step-requires (λ c κs. search needs) returns-3 step-requires-2 (λ c κs. search needs) returns-4)

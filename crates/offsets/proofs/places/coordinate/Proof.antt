@@ -18,15 +18,5 @@ returns c = coordinate-is (c .args .at) (c .args .ahead) (c .args .from) (c .arg
 
 pub coordinate-spec : {M : Type 1} → statement M
 coordinate-spec =
-    tie.close
-    (tie.spec
-    (λ c. search needs)
-    (λ c. search needs)
-    add-place
-    (λ c. search needs)
-    (λ c. search needs)
-    (λ c. search needs)
-    (λ c. search needs)
-    sub-offset
-    add-result
-    returns)
+    tie.close (tie.spec (λ c. search needs) (λ c. search needs) add-place (λ c. search needs) (λ c. search needs) (λ c. search needs)
+    (λ c. search needs) sub-offset add-result returns)

@@ -38,5 +38,4 @@ returns-3 c =
 
 pub land-spec : {M : Type 1} → statement M
 land-spec =
-    tie.close
-    (tie.spec returns returns-2 cast-border-at cast-border-at-2 (λ c κs. search needs) returns-3)
+    tie.close (tie.spec returns returns-2 cast-border-at cast-border-at-2 (λ c κs. search needs) returns-3)
