@@ -10,7 +10,7 @@ import sys
 TOP = os.path.dirname(os.path.dirname(os.path.abspath(__file__)))
 PAPERS = ["README.md", "compare/README.md"] + ["docs/%s.md" % n for n in ("SPEC", "CLAIMS", "DECISIONS", "DIFFERENCES", "PERFORMANCE")]
 COMMENTS = ["crates/*/src/*.rt", "crates/*/specs/*.antt", "crates/*/proofs/**/*.antt", "compare/**/*.rs", "compare/fuzz/*.c", "bindings/sendai.h"]
-FILE = r"\b([a-z_]+)/(specs|proofs)/([A-Z]\w*)\b"
+FILE = r"\b([a-z][a-z0-9_]*)/(specs|proofs)/([A-Z]\w*)\b"
 
 
 def read(path):
@@ -33,11 +33,11 @@ def names(line):
         for name in re.findall(r"`([^`]+)`", m.group(1)):
             if not defines(text, name):
                 yield "%s in %s" % (name, path)
-    for crate, function in re.findall(r"`([a-z_]+)::([a-z_]+)`", line):
+    for crate, function in re.findall(r"`([a-z][a-z0-9_]*)::([a-z_]+)`", line):
         sources = glob.glob(os.path.join(TOP, "crates", crate, "src", "*.rt"))
         if sources and not any(re.search(r"\bfn %s\b" % function, open(s, encoding="utf-8").read()) for s in sources):
             yield "%s::%s" % (crate, function)
-    for crate, edit in re.findall(r"(?<![\w/])([a-z_]+)/([a-z0-9_]+)(?![\w/.])", line):
+    for crate, edit in re.findall(r"(?<![\w/])([a-z][a-z0-9_]*)/([a-z0-9_]+)(?![\w/.])", line):
         folder = os.path.join(TOP, "crates", crate)
         if os.path.isdir(os.path.join(folder, "must-fail")) and not os.path.exists(os.path.join(folder, edit)):
             if not os.path.exists(os.path.join(folder, "must-fail", edit + ".edit")):

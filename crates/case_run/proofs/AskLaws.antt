@@ -29,8 +29,8 @@ use Rattle.puzzle.specs.declared.Answer.{Answer}
 use Rattle.puzzle.specs.declared.Answer.the-variants.{Clear, Fault, Refused}
 use Rattle.puzzle.specs.Fault.{Found}
 use Rattle.puzzle.specs.Puzzle.{gridOf, bordersOf, givenOf, cluesOf, puzzleCode, longEnough, askCode, faultIn, says, askOf}
-use Rattle.puzzle.specs.Run.{puzzleAfter, replyTo}
-use Rattle.puzzle.proofs.FaultLaws.{fault-most}
+use Rattle.demand_3.specs.Run.{puzzleAfter, replyTo}
+use Rattle.demand_3.proofs.FaultLaws.{fault-most}
 use Rattle.puzzle.proofs.Ready.{ready, Ready}
 use Rattle.case_run.specs.CaseRun.{blank, checkLine, askLine, lineBy, Counts, Turned}
 use Rattle.case_run.specs.declared.Turn.{Turn}

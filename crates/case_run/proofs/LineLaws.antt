@@ -32,7 +32,7 @@ use Rattle.lists.proofs.SetsLaws.{front}
 use Rattle.puzzle.specs.declared.Puzzle.{Puzzle}
 use Rattle.puzzle.specs.declared.Made.{Made}
 use Rattle.puzzle.specs.Puzzle.{decideOf, undoOf}
-use Rattle.puzzle.specs.Run.{puzzleAfter, replyTo}
+use Rattle.demand_3.specs.Run.{puzzleAfter, replyTo}
 use Rattle.case_run.specs.declared.Turn.{Turn}
 use Rattle.puzzle.specs.declared.Check.{Check}
 use Rattle.puzzle.specs.declared.Check.the-variants.{Shape, Room}

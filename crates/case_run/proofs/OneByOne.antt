@@ -13,7 +13,7 @@ use Rattle.case_file.specs.Layout.{sizeOf, layoutOf}
 use Rattle.case_file.proofs.ListLaws.{Whole, call-cases, headed}
 use Rattle.case_file.proofs.UseLaws.{calls-there}
 use Rattle.puzzle.specs.declared.Puzzle.{Puzzle}
-use Rattle.puzzle.specs.Run.{run, replies}
+use Rattle.demand_3.specs.Run.{run, replies}
 use Rattle.case_run.specs.CaseRun.{callsIn, bytesOf, linesOf, runOf, printedBy, lineBy}
 use Rattle.case_run.proofs.RunLaws.{calls-none, calls-some}
 

@@ -19,7 +19,7 @@ use Rattle.case_file.proofs.ListLaws.{Whole, call-cases, step-unsound}
 use Rattle.limits.specs.Limits.{longestLine}
 use Rattle.lists.proofs.SetsLaws.{sets-append}
 use Rattle.puzzle.specs.declared.Puzzle.{Puzzle}
-use Rattle.puzzle.specs.Run.{puzzleAfter, run, replies}
+use Rattle.demand_3.specs.Run.{puzzleAfter, run, replies}
 use Rattle.case_run.specs.declared.Turn.{Turn}
 use Rattle.case_run.specs.declared.Ran.{Ran}
 use Rattle.case_run.specs.CaseRun.{asCall, callsIn, bytesOf, linesOf, runOf, printedBy, lineBy, codeIn, doneIn, ranOf, Turned}

@@ -23,8 +23,8 @@ use Rattle.puzzle.specs.declared.Check.the-variants.{Shape, Room}
 use Rattle.puzzle.specs.declared.Answer.{Answer}
 use Rattle.puzzle.specs.declared.Answer.the-variants.{Clear, Fault, Refused}
 use Rattle.puzzle.specs.Puzzle.{zeroPuzzle, makeOf}
-use Rattle.puzzle.specs.Run as puzzle
-use Rattle.puzzle.specs.Run.{puzzleAfter, run, Reply, coded, asked, replyTo, replies}
+use Rattle.demand_3.specs.Run as puzzle
+use Rattle.demand_3.specs.Run.{puzzleAfter, run, Reply, coded, asked, replyTo, replies}
 use Rattle.case_run.specs.declared.Opened.{Opened}
 use Rattle.case_run.specs.declared.Turn.{Turn}
 use Rattle.case_run.specs.declared.Ran.{Ran}

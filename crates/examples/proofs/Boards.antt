@@ -20,8 +20,8 @@ use Rattle.rooms.specs.Units.{GivenWalls}
 use Rattle.groups.specs.Groups.{cellsIn}
 use Rattle.puzzle.specs.declared.Check.the-variants.{Room}
 use Rattle.puzzle.specs.Fault.{faultOf}
-use Rattle.puzzle.specs.Laws.{RightBoard}
-use Rattle.puzzle.proofs.FaultLaws.{Small, fault-full}
+use Rattle.demand_3.specs.Laws.{RightBoard}
+use Rattle.demand_3.proofs.FaultLaws.{Small, fault-full}
 
 abbrev size : Grid
 size = grid 2 2

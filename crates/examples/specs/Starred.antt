@@ -21,8 +21,8 @@ use Rattle.city_count.specs.Fault.{roomFault}
 use Rattle.hand_over.specs.Sorted.{sortedOnce}
 use Rattle.puzzle.specs.Fault.{faultOf}
 use Rattle.puzzle.specs.Puzzle.{listsCode, together, noClues, statesOf, askOf}
-use Rattle.puzzle.specs.Run.{Call, decide, undo, ask, coded, asked, run, replies}
-use Rattle.puzzle.specs.Demand3.{listOf, freshOf, after}
+use Rattle.demand_3.specs.Run.{Call, decide, undo, ask, coded, asked, run, replies}
+use Rattle.demand_3.specs.Demand3.{listOf, freshOf, after}
 
 pub data Question : Type 0 where
   -- height, width and the borders' states, to the shape check

@@ -11,7 +11,7 @@ use lib.Seq.{length-take-le}
 use Rattle.lines.specs.declared.Line.the-variants as line
 use Rattle.lines.specs.Line.{lineOf}
 use Rattle.puzzle.specs.declared.Puzzle.{Puzzle}
-use Rattle.puzzle.specs.Run.{run}
+use Rattle.demand_3.specs.Run.{run}
 use Rattle.case_run.specs.declared.Opened.{Opened}
 use Rattle.case_run.specs.declared.Ran.{Ran}
 use Rattle.case_run.specs.CaseRun.{callsIn, bytesOf, runOf, codeIn, doneIn, ranOf}

@@ -1,11 +1,6 @@
 pub mod Basics
 pub mod Making
 pub mod Answers
-pub mod Reached
-pub mod FaultLaws
-pub mod Asks
-pub mod Orders
-pub mod Demand3
 pub mod Loops
 pub mod ListsCode
 pub mod Ready

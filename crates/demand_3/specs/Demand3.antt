@@ -13,15 +13,15 @@ use Rattle.frame.specs.Frame.{States}
 use Rattle.grid.specs.Grid.{grid, cells, borderCount}
 use Rattle.borders.specs.Entry.{Standing}
 use Rattle.shape.specs.Laws.{FullBoard}
 use Rattle.puzzle.specs.declared.Puzzle.{Puzzle}
 use Rattle.puzzle.specs.declared.Check.{Check}
 use Rattle.puzzle.specs.declared.Answer.{Answer}
 use Rattle.puzzle.specs.declared.Answer.the-variants.{Clear, Fault, Refused}
 use Rattle.rooms.specs.Rooms.{isGiven}
 use Rattle.puzzle.specs.Fault.{Found, faultOf}
-use Rattle.puzzle.specs.Laws.{RightBoard}
+use Rattle.demand_3.specs.Laws.{RightBoard}
 use Rattle.puzzle.specs.Puzzle.{statesOf, makeOf, says, Asked, askOf}
-use Rattle.puzzle.specs.Run.{Call, decide, run, Reply, coded, replies, stateAfter}
+use Rattle.demand_3.specs.Run.{Call, decide, run, Reply, coded, replies, stateAfter}
 
 -- the buffer is long enough (SPEC 3.6)
 abbrev pub Long : ℕ → ℕ → List ℕ → Type 0

@@ -17,13 +17,13 @@ use Rattle.ledger.specs.Ledger as ledger
 use Rattle.ledger.specs.Ledger.{Decision, stateFor, stateIn, accepted, ledgerOf}
 use Rattle.ledger.proofs.Standing.{standing-named}
 use Rattle.borders.specs.Entry.{Standing}
 use Rattle.puzzle.specs.declared.Puzzle.{Puzzle}
 use Rattle.rooms.specs.Rooms.{isGiven}
 use Rattle.puzzle.specs.Puzzle.{bookOf, decideOf}
-use Rattle.puzzle.specs.Run.{puzzleAfter, Reply, coded, replyTo, replies, onLedger}
-use Rattle.puzzle.specs.Demand3.{decideAs}
+use Rattle.demand_3.specs.Run.{puzzleAfter, Reply, coded, replyTo, replies, onLedger}
+use Rattle.demand_3.specs.Demand3.{decideAs}
 use Rattle.puzzle.proofs.Making.{Accepted}
-use Rattle.puzzle.proofs.Reached.{Reached, reached-after, decide-accepted}
+use Rattle.demand_3.proofs.Reached.{Reached, reached-after, decide-accepted}
 
 -- the decision of an entry
 abbrev pub decisionOf : ℕ → Decision

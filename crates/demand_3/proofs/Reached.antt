@@ -17,12 +17,12 @@ use Rattle.ledger.specs.Ledger as ledger
 use Rattle.ledger.specs.Ledger.{Decision, decideCode, undoCode, firstCode, accepted, ledgerOf}
 use Rattle.ledger.specs.Books.{stateAt, placed, taken, bookAfter}
 use Rattle.ledger.proofs.Reached as book
 use Rattle.puzzle.specs.declared.Puzzle.{Puzzle}
 use Rattle.rooms.specs.Rooms.{isGiven}
 use Rattle.puzzle.specs.Puzzle.{freshState, freshPuzzle, answer, bookOf, together, puzzleCode, onto, answered, decideOf}
-use Rattle.puzzle.specs.Run.{Call, decide, undo, ask, puzzleAfter, run, onLedger, ledgerAfter}
+use Rattle.demand_3.specs.Run.{Call, decide, undo, ask, puzzleAfter, run, onLedger, ledgerAfter}
 use Rattle.puzzle.proofs.Basics.{states-length, states-at}
 use Rattle.puzzle.proofs.Making.{Accepted, given-short, clues-short, given-kept, clues-kept}
 
 -- p has the constants of the making, and in its book exactly the given walls and the decisions of L stand
 pub record Reached (h w : ℕ) (given clues : List ℕ) (L : List Decision) (p : Puzzle) : Type 0 where

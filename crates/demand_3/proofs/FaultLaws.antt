@@ -27,10 +27,10 @@ use Rattle.rooms.specs.Rooms.{isGiven, roomCount, roomCells, clued, clueOf}
 use Rattle.rooms.specs.RoomGraph.{roomList}
 use Rattle.rooms.specs.Units.{GivenWalls}
 use Rattle.rooms.proofs.Theorems.{list-agrees, list-stands, list-again, list-decides, list-short}
 use Rattle.puzzle.specs.declared.Check.{Check}
 use Rattle.puzzle.specs.declared.Check.the-variants.{Shape, Room}
 use Rattle.puzzle.specs.Fault.{Found, foundBy, roomCheck, faultOf}
-use Rattle.puzzle.specs.Laws.{RightBoard}
+use Rattle.demand_3.specs.Laws.{RightBoard}
 
 found-some : (k : Check) (o : Option (List ℕ)) (f : Found) → foundBy k o ≡ some f → (o ≡ some (f .list)) × (f .check ≡ k)
 unfolding foundBy

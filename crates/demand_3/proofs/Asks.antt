@@ -16,18 +16,18 @@ use Rattle.ledger.proofs.Standing.{Sound, named-or-not, standing-named, standin
 use Rattle.borders.specs.Border.{stateOf, StatesOk}
 use Rattle.ledger.specs.declared.Book.{Book}
 use Rattle.ledger.proofs.Reached as book
 use Rattle.puzzle.specs.declared.Puzzle.{Puzzle}
 use Rattle.puzzle.specs.declared.Answer.{Answer}
 use Rattle.puzzle.specs.declared.Answer.the-variants.{Clear, Fault, Refused}
 use Rattle.rooms.specs.Rooms.{isGiven}
 use Rattle.puzzle.specs.Fault.{Found, faultOf}
 use Rattle.puzzle.specs.Puzzle.{statesOf, freshPuzzle, bookOf, onto, puzzleCode, faultIn, askCode, says, writes, Asked, askOf}
-use Rattle.puzzle.specs.Demand3.{Long, lengthOf, listIn, Gives, IsFault}
+use Rattle.demand_3.specs.Demand3.{Long, lengthOf, listIn, Gives, IsFault}
 use Rattle.puzzle.proofs.Basics.{states-length, states-at}
 use Rattle.puzzle.proofs.Making.{Accepted, given-kept, clues-kept, given-inside}
 use Rattle.puzzle.proofs.Answers.{long-buffer, accepted-ask}
-use Rattle.puzzle.proofs.FaultLaws.{fault-agrees, fault-most}
-use Rattle.puzzle.proofs.Reached.{Reached, reached-code}
+use Rattle.demand_3.proofs.FaultLaws.{fault-agrees, fault-most}
+use Rattle.demand_3.proofs.Reached.{Reached, reached-code}
 
 -- ANSWERS
 abbrev isFault : Answer → Bool

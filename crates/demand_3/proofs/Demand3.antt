@@ -16,21 +16,21 @@ use Rattle.borders.specs.Border.{stateOf, StatesOk}
 use Rattle.shape.specs.Laws.{FullBoard}
 use Rattle.ledger.specs.Ledger.{stateIn}
 use Rattle.ledger.proofs.Standing.{standing-named, standing-given}
 use Rattle.puzzle.specs.declared.Made.{Made}
 use Rattle.puzzle.specs.declared.Answer.the-variants.{Clear}
 use Rattle.rooms.specs.Rooms.{isGiven}
 use Rattle.puzzle.specs.Fault.{Found, faultOf}
 use Rattle.rooms.specs.Units.{GivenWalls}
-use Rattle.puzzle.specs.Laws.{RightBoard}
+use Rattle.demand_3.specs.Laws.{RightBoard}
 use Rattle.puzzle.specs.Puzzle.{statesOf, freshPuzzle, makeOf, says, askOf}
-use Rattle.puzzle.specs.Run.{Call, Reply, coded, replies, ledgerAfter, stateAfter}
-use Rattle.puzzle.specs.Demand3.{Long, listOf, listIn, Alike, Gives, IsFault, OrderOf, decideAs, freshOf, after, Demand3}
+use Rattle.demand_3.specs.Run.{Call, Reply, coded, replies, ledgerAfter, stateAfter}
+use Rattle.demand_3.specs.Demand3.{Long, listOf, listIn, Alike, Gives, IsFault, OrderOf, decideAs, freshOf, after, Demand3}
 use Rattle.puzzle.proofs.Basics.{states-same}
 use Rattle.puzzle.proofs.Making.{Accepted, made-accepted, made-fresh}
-use Rattle.puzzle.proofs.FaultLaws.{fault-listed, fault-again, fault-excludes, fault-full}
-use Rattle.puzzle.proofs.Reached.{Reached, fresh-reached, reached}
-use Rattle.puzzle.proofs.Asks.{fault-some, some-fault, clear-none, none-clear, states-stand, states-ok, state-outside, asked-gives}
-use Rattle.puzzle.proofs.Orders.{Free, Apart, decided-ledger, decided-state, standing-apart, all-accepted}
+use Rattle.demand_3.proofs.FaultLaws.{fault-listed, fault-again, fault-excludes, fault-full}
+use Rattle.demand_3.proofs.Reached.{Reached, fresh-reached, reached}
+use Rattle.demand_3.proofs.Asks.{fault-some, some-fault, clear-none, none-clear, states-stand, states-ok, state-outside, asked-gives}
+use Rattle.demand_3.proofs.Orders.{Free, Apart, decided-ledger, decided-state, standing-apart, all-accepted}
 
 module _ (h w : ℕ) (given clues : List ℕ) (made : makeOf h w given clues .code ≡ 0) where
   accepted : Accepted h w given clues
