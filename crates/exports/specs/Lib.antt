@@ -1,7 +1,3 @@
--- Defined here: the numbers by which the exports hand over enums (`Files`, `Groups`, `Places`, `Prints`, `Puzzles`). The rest
--- of each contract is its call's own.
-pub mod Files
+-- Defined here: a group's cells, copied (`Groups`). The numbers by which enums are handed over are defined in crates answers and as_numbers; the
+-- rest of each contract is its call's own.
 pub mod Groups
-pub mod Places
-pub mod Prints
-pub mod Puzzles

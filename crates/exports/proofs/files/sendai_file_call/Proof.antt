@@ -1,7 +1,7 @@
 -- `exports::files::sendai_file_call` meets its contract: what its two calls ensure, put together. Assumes nothing.
 use mathlib.Core.Path.{ap, _∙_}
 use borrow.Author.Needs.{needs}
-use Rattle.exports.specs.Files.{stepFields}
+use Rattle.as_numbers.specs.Files.{stepFields}
 use Rattle.exports.proofs.files.sendai_file_call.Statement.{statement}
 use Rattle.exports.proofs.files.sendai_file_call.Tie as tie
 

@@ -1,7 +1,7 @@
 -- `exports::files::sendai_file_decode` meets its contract: what its two calls ensure, put together. Assumes nothing.
 use mathlib.Core.Path.{ap, _∙_}
 use borrow.Author.Needs.{needs}
-use Rattle.exports.specs.Files.{partsOf}
+use Rattle.as_numbers.specs.Files.{partsOf}
 use Rattle.exports.proofs.files.sendai_file_decode.Statement.{statement}
 use Rattle.exports.proofs.files.sendai_file_decode.Tie as tie
 

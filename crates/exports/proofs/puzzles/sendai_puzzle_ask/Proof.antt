@@ -1,7 +1,7 @@
 -- `exports::puzzles::sendai_puzzle_ask` meets its contract: what its two calls ensure, put together. Assumes nothing.
 use mathlib.Core.Path.{ap, _∙_}
 use borrow.Author.Needs.{needs}
-use Rattle.exports.specs.Puzzles.{outcomeOf}
+use Rattle.as_numbers.specs.Puzzles.{outcomeOf}
 use Rattle.exports.proofs.puzzles.sendai_puzzle_ask.Statement.{statement}
 use Rattle.exports.proofs.puzzles.sendai_puzzle_ask.Tie as tie
 

@@ -1,7 +1,7 @@
--- `exports::places::direction_of` meets its contract: each arm knows its number. Assumes nothing.
+-- `as_numbers::places::direction_of` meets its contract: each arm knows its number. Assumes nothing.
 use borrow.Author.Tests.{ne-eqb}
-use Rattle.exports.proofs.places.direction_of.Statement.{statement}
-use Rattle.exports.proofs.places.direction_of.Tie as tie
+use Rattle.as_numbers.proofs.places.direction_of.Statement.{statement}
+use Rattle.as_numbers.proofs.places.direction_of.Tie as tie
 
 returns-4 : tie.Need-returns-4
 returns-4 c =

@@ -1,7 +1,7 @@
--- `exports::puzzles::outcome_of` meets its contract: each arm knows which case it took apart. Assumes nothing.
+-- `as_numbers::puzzles::outcome_of` meets its contract: each arm knows which case it took apart. Assumes nothing.
 use borrow.Author.Needs.{needs}
-use Rattle.exports.proofs.puzzles.outcome_of.Statement.{statement}
-use Rattle.exports.proofs.puzzles.outcome_of.Tie as tie
+use Rattle.as_numbers.proofs.puzzles.outcome_of.Statement.{statement}
+use Rattle.as_numbers.proofs.puzzles.outcome_of.Tie as tie
 
 pub outcome-of-spec : {M : Type 1} → statement M
 outcome-of-spec =

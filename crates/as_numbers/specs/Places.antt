@@ -8,7 +8,7 @@ use Rattle.grid.specs.declared.Direction.{Direction}
 use Rattle.grid.specs.declared.Direction.the-variants.{Up, Down, Left, Right}
 use Rattle.grid.specs.declared.Beyond.{Beyond}
 use Rattle.grid.specs.declared.Beyond.the-variants.{At, End, Refused}
-use Rattle.exports.specs.declared.places.Place.{Place}
+use Rattle.as_numbers.specs.declared.places.Place.{Place}
 
 -- 0 up, 1 down, 2 left; every other number is right
 abbrev pub directionOf : ℕ → Direction

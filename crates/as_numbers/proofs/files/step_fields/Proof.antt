@@ -1,7 +1,7 @@
--- `exports::files::step_fields` meets its contract: each arm knows which case it took apart. Assumes nothing.
+-- `as_numbers::files::step_fields` meets its contract: each arm knows which case it took apart. Assumes nothing.
 use borrow.Author.Needs.{needs}
-use Rattle.exports.proofs.files.step_fields.Statement.{statement}
-use Rattle.exports.proofs.files.step_fields.Tie as tie
+use Rattle.as_numbers.proofs.files.step_fields.Statement.{statement}
+use Rattle.as_numbers.proofs.files.step_fields.Tie as tie
 
 pub step-fields-spec : {M : Type 1} → statement M
 step-fields-spec =

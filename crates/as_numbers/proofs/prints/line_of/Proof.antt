@@ -1,8 +1,8 @@
--- `exports::prints::line_of` meets its contract: each arm knows its number. Assumes nothing.
+-- `as_numbers::prints::line_of` meets its contract: each arm knows its number. Assumes nothing.
 use borrow.Author.Needs.{needs}
 use borrow.Author.Tests.{ne-eqb}
-use Rattle.exports.proofs.prints.line_of.Statement.{statement}
-use Rattle.exports.proofs.prints.line_of.Tie as tie
+use Rattle.as_numbers.proofs.prints.line_of.Statement.{statement}
+use Rattle.as_numbers.proofs.prints.line_of.Tie as tie
 
 returns-6 : tie.Need-returns-6
 returns-6 c =

@@ -1,7 +1,7 @@
--- `exports::places::place_of` meets its contract: each arm knows which case it took apart. Assumes nothing.
+-- `as_numbers::places::place_of` meets its contract: each arm knows which case it took apart. Assumes nothing.
 use borrow.Author.Needs.{needs}
-use Rattle.exports.proofs.places.place_of.Statement.{statement}
-use Rattle.exports.proofs.places.place_of.Tie as tie
+use Rattle.as_numbers.proofs.places.place_of.Statement.{statement}
+use Rattle.as_numbers.proofs.places.place_of.Tie as tie
 
 pub place-of-spec : {M : Type 1} → statement M
 place-of-spec =

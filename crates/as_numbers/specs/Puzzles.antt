@@ -5,7 +5,7 @@ use Rattle.puzzle.specs.declared.Check.{Check}
 use Rattle.puzzle.specs.declared.Check.the-variants.{Shape, Room}
 use Rattle.puzzle.specs.declared.Answer.{Answer}
 use Rattle.puzzle.specs.declared.Answer.the-variants.{Clear, Fault, Refused}
-use Rattle.exports.specs.declared.puzzles.Outcome.{Outcome}
+use Rattle.as_numbers.specs.declared.puzzles.Outcome.{Outcome}
 
 -- kind 1 for the shape check, 2 for a room with its number
 abbrev pub faultOutcome : Check → ℕ → Outcome

@@ -8,8 +8,8 @@ use Rattle.case_file.specs.declared.Step.{Step}
 use Rattle.case_file.specs.declared.Step.the-variants as step
 use Rattle.case_file.specs.declared.File.{File}
 use Rattle.case_file.specs.declared.File.the-variants as file
-use Rattle.exports.specs.declared.files.Parts.{Parts}
-use Rattle.exports.specs.declared.files.CallFields.{CallFields}
+use Rattle.as_numbers.specs.declared.files.Parts.{Parts}
+use Rattle.as_numbers.specs.declared.files.CallFields.{CallFields}
 
 -- where the parts of a sound file stand; or 11
 abbrev pub partsOf : File → Parts
