@@ -9,9 +9,9 @@ use native.Mathlib.Omega.{arith}
 use borrow.Author.Tests.{eq-eqb, ne-eqb}
 use lib.ListN.{getD, set, length, replicate, length-replicate}
 use Rattle.room_parts.specs.Graph.{Graph, graph, statesIn, edgesIf, notWall, joinedParts, partsIf, Lent}
-use Rattle.room_parts.specs.Walk.{Arcs, Sweep, Counted}
+use Rattle.arcs.specs.Walk.{Arcs, Sweep, Counted}
 use Rattle.room_parts.proofs.EdgeLaws.{edges-pass, edges-skip, edges-within}
-use Rattle.room_parts.proofs.LinkLaws.{Linked, arcsOf, link-none, link-edge, link-all}
+use Rattle.arcs.proofs.LinkLaws.{Linked, arcsOf, link-none, link-edge, link-all}
 
 unfoldable pub zeros : ℕ → List ℕ
 zeros k = replicate k 0

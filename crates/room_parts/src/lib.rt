@@ -2,15 +2,14 @@
 // by a union, and how many there are when only Walls part vertices, counted by a walk that calls itself. Bounds tell where the union or the
 // walk can be left out.
 ghost use mathlib.Core.Path.{_≡_};
-ghost use Prim.Native.Nat.{_+_, _-_, _≤_, _<_};
+ghost use Prim.Native.Nat.{_-_, _≤_, _<_};
 ghost use lib.Dec.{ltb};
-ghost use lib.ListN.{length, getD, set};
+ghost use lib.ListN.{length};
 ghost use Rattle.limits.specs.Limits.{mostCells, mostBorders};
 ghost use Rattle.lists.specs.Choice.{both, pick};
 ghost use Rattle.parts.specs.Flood.{blank};
 ghost use Rattle.union_find.specs.Chains.{united, hung};
 ghost use Rattle.union_find.specs.Requires.{Parents};
-ghost use Rattle.room_parts.specs.Walk.{Walk, Walked, Sweep, Counted};
 ghost use Rattle.room_parts.specs.Graph.{graph, statesIn, isState, isConnected, passing, tippedOf, joinedParts, laterMarked, Lent};
 use limits::CELLS;
 use lists::wide;
@@ -147,72 +146,6 @@ fn most_parts<'a>(n: usize, m: usize, us: &'a [u16], vs: &'a [u16], states: &'a 
     unmarked(&marks, n)
 }
 
-// Puts arc `k`, from `u` to `v`, at the front of `u`'s list.
-fn link(
-    head: &mut [u16; CELLS],
-    next: &mut [u16; 3968],
-    to: &mut [u16; 3968],
-    k: usize,
-    u: usize,
-    v: usize,
-)
-    requires { ⌜ (k < 3968) × (u < mostCells) × (v < mostCells) ⌝ }
-    ensures { λ _. ⌜ now (head .exit) ≡ set (now (head .entry)) u (k + 1) ⌝ }
-    ensures { λ _. ⌜ now (next .exit) ≡ set (now (next .entry)) k (getD (now (head .entry)) u 0) ⌝ }
-    ensures { λ _. ⌜ now (to .exit) ≡ set (now (to .entry)) k v ⌝ }
-{
-    next[k] = head[u];
-    to[k] = v as u16;
-    head[u] = (k + 1) as u16;
-}
-
-// Marks `u` and all that is joined to it. The walk calls itself, at most `left` deep.
-fn walk<'a>(
-    head: &'a [u16; CELLS],
-    next: &'a [u16; 3968],
-    to: &'a [u16; 3968],
-    seen: &mut [u8; CELLS],
-    u: usize,
-    left: usize,
-)
-    requires { ⌜ Walk (now head) (now next) (now to) (now seen) u left ⌝ }
-    ensures { λ _. ⌜ Walked (now (head .entry)) (now (next .entry)) (now (to .entry)) (now (seen .entry)) u (now (seen .exit)) ⌝ }
-{
-    seen[u] = 1;
-    let mut at = wide(head[u]);
-    while 0 < at {
-        let arc = at - 1;
-        let v = wide(to[arc]);
-        if seen[v] == 0 {
-            walk(head, next, to, seen, v, left - 1);
-        }
-        at = wide(next[arc]);
-    }
-}
-
-// Walks from each vertex without a mark, and counts these walks: one a part.
-fn sweep<'a>(
-    head: &'a [u16; CELLS],
-    next: &'a [u16; 3968],
-    to: &'a [u16; 3968],
-    seen: &mut [u8; CELLS],
-    n: usize,
-) -> usize
-    requires { ⌜ Sweep n (now head) (now next) (now to) (now seen) ⌝ }
-    ensures { λ r. ⌜ Counted n (now (head .entry)) (now (next .entry)) (now (to .entry)) r ⌝ }
-{
-    let mut parts = 0;
-    let mut s = 0;
-    while s < n {
-        if seen[s] == 0 {
-            walk(head, next, to, seen, s, n);
-            parts += 1;
-        }
-        s += 1;
-    }
-    parts
-}
-
 // How many parts there are when only Walls part vertices.
 fn joined_parts<'a>(n: usize, m: usize, us: &'a [u16], vs: &'a [u16], states: &'a [u8]) -> usize
     requires { ⌜ Lent n m (now us) (now vs) (now states) ⌝ }
@@ -227,14 +160,14 @@ fn joined_parts<'a>(n: usize, m: usize, us: &'a [u16], vs: &'a [u16], states: &'
         if states[i] != 2 {
             let u = wide(us[i]);
             let v = wide(vs[i]);
-            link(&mut head, &mut next, &mut to, arcs, u, v);
-            link(&mut head, &mut next, &mut to, arcs + 1, v, u);
+            arcs::link(&mut head, &mut next, &mut to, arcs, u, v);
+            arcs::link(&mut head, &mut next, &mut to, arcs + 1, v, u);
             arcs += 2;
         }
         i += 1;
     }
     let mut seen = [0u8; CELLS];
-    sweep(&head, &next, &to, &mut seen, n)
+    arcs::sweep(&head, &next, &to, &mut seen, n)
 }
 
 // Do the parts joined without Walls outnumber the count? The walk counts them where bounds do not tell.

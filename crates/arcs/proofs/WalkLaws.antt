@@ -12,7 +12,7 @@ use Rattle.parts.specs.Flood.{HasMark, Link, blank, Grown, Flooded, Swept}
 use Rattle.parts.proofs.PartLaws.{begun-small}
 use Rattle.parts.proofs.PartLists.{within-ends}
 use Rattle.parts.proofs.FloodLaws.{link-joined, blank-le, blank-keeps, blank-set, grown-keeps, grow-start, grow-shut, grow-more, sweep-start, sweep-flood, sweep-skip}
-use Rattle.room_parts.specs.Walk.{OnList, here, later, Arcs, Walk, Walked, Sweep, Counted}
+use Rattle.arcs.specs.Walk.{OnList, here, later, Arcs, Walk, Walked, Sweep, Counted}
 
 -- the first of a list, or one behind it
 pub on-cases : (next : List ℕ) (at j : ℕ) → OnList next at j → (at ≡ suc j) ⊎ ((k : ℕ) × (at ≡ suc k) × OnList next (getD next k 0) j)

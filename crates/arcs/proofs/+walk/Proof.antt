@@ -1,18 +1,18 @@
--- `room_parts::walk` meets its contract: `Trying` of the part of u's list that was tried, one law for each way through a turn. The measure of
+-- `arcs::walk` meets its contract: `Trying` of the part of u's list that was tried, one law for each way through a turn. The measure of
 -- the calls is the depth that is left, that of the loop the arc's number. Assumes nothing.
 use Prim.Native.Nat.{ℕ, _<_}
 use mathlib.Core.Logic.{⊎-elim}
 use native.Mathlib.Omega.{arith}
 use borrow.Author.Needs.{needs}
-use Rattle.room_parts.proofs.WalkLaws.{Trying, try-start, walk-on, some-left, arc-low, arc-on, walk-next, try-pass, try-walk, walk-done}
+use Rattle.arcs.proofs.WalkLaws.{Trying, try-start, walk-on, some-left, arc-low, arc-on, walk-next, try-pass, try-walk, walk-done}
 use borrow.Fn.Kinds.{In}
 use borrow.Fn.PlainCycle.{Measures, is, falls, and}
-use Rattle.room_parts.proofs.walk.Reads as walk
-use Rattle.room_parts.proofs.walk.Kinds as walk-kinds
-use Rattle.room_parts.proofs.+walk.Lts-walk as walk-lts
+use Rattle.arcs.proofs.walk.Reads as walk
+use Rattle.arcs.proofs.walk.Kinds as walk-kinds
+use Rattle.arcs.proofs.+walk.Lts-walk as walk-lts
 use Rattle.lists.proofs.wide.Reads as wide-reads
-use Rattle.room_parts.proofs.+walk.{statement}
-use Rattle.room_parts.proofs.+walk.Tie.{close}
+use Rattle.arcs.proofs.+walk.{statement}
+use Rattle.arcs.proofs.+walk.Tie.{close}
 
 abbrev μ-walk : Measures 2 walk-kinds.ps ℕ
 μ-walk κs a = a .1 .1 .1 .1 .1 .0

@@ -13,8 +13,8 @@ use Rattle.parts.specs.Parts.{Edge, edge, Has, Within}
 use Rattle.parts.specs.Flood.{Link}
 use Rattle.parts.proofs.PartLaws.{edge-ends, ends-edge}
 use Rattle.parts.proofs.PartLists.{within-ends, within}
-use Rattle.room_parts.specs.Walk.{OnList, here, later, Arcs}
-use Rattle.room_parts.proofs.WalkLaws.{on-cases}
+use Rattle.arcs.specs.Walk.{OnList, here, later, Arcs}
+use Rattle.arcs.proofs.WalkLaws.{on-cases}
 
 -- A's arcs, k of them, are on the lists of their first ends, and each list runs through falling numbers
 pub record Linked (A : List Edge) (n k : ℕ) (head next to : List ℕ) : Type 0 where

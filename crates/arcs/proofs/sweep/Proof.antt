@@ -1,12 +1,12 @@
--- `room_parts::sweep` meets its contract: `Sweeping` of the vertices so far; a seed without a mark begins a part.
+-- `arcs::sweep` meets its contract: `Sweeping` of the vertices so far; a seed without a mark begins a part.
 -- Assumes nothing.
 use Prim.Native.Nat.{_-_}
 use mathlib.Core.Logic.{⊎-elim}
 use native.Mathlib.Omega.{arith}
 use denote.Ref.{now}
-use Rattle.room_parts.proofs.WalkLaws.{Sweeping, sweep-none, parts-few, sweep-walk, sweep-more, sweep-pass, sweep-all}
-use Rattle.room_parts.proofs.sweep.Statement.{statement}
-use Rattle.room_parts.proofs.sweep.Tie as tie
+use Rattle.arcs.proofs.WalkLaws.{Sweeping, sweep-none, parts-few, sweep-walk, sweep-more, sweep-pass, sweep-all}
+use Rattle.arcs.proofs.sweep.Statement.{statement}
+use Rattle.arcs.proofs.sweep.Tie as tie
 
 abbrev Inv-loop : tie.InvT-loop
 Inv-loop head next to seen₀ n parts₀ s₀ seen parts s = Sweeping n head next to seen parts s
