@@ -194,9 +194,9 @@ is lent again and again and not cleared between calls. The Rust makes each list 
 shape check, as `solve_sendai` has it (here at 4 by 4, Connected inside, alone).
 ";
 
-const WHY: &str = "Where an ask is slower, two costs of the port show, which the Rust does not have: its arrays have the length of the largest board, and
-the puzzle goes over the C interface by value, 12 KB each time. Of the instructions of a puzzle's ask at 4 by 4, 3 in 100 clear arrays
-and 69 copy the record (callgrind, one room, all undecided). A decide and an undo put question 2 to the whole ledger, each name of it
+const WHY: &str = "Where an ask gains least, two costs of the port show, which the Rust does not have: its arrays have the length of the largest board, and
+the puzzle goes over the C interface by value, 12 KB each time. Of the instructions of a puzzle's ask at 4 by 4, 4 in 100 clear arrays
+and 71 copy the record (callgrind, one room, all undecided). A decide and an undo put question 2 to the whole ledger, each name of it
 one store; where two thirds of the borders are decided and the ask ends at its first Wall inside a unit, that is more than a twentieth.
 ";
 

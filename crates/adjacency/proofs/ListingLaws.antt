@@ -1,5 +1,4 @@
--- The list of one potential unit, and the lists of all of them in turn.
--- Assumes nothing.
+-- The list of one potential unit, and the lists of all of them in turn. Assumes nothing.
 use Prim.Native.Nat.{ℕ, _+_, _-_, _*_, _≤_, _<_}
 use mathlib.Core.Path.{_≡_, refl, ap, sym, _∙_}
 use mathlib.Core.Logic.{_≢_, ⊎-elim}

@@ -1,5 +1,4 @@
--- Marks that are written by a list, and those of adjacent potential units.
--- Assumes nothing.
+-- Marks that are written by a list, and those of adjacent potential units. Assumes nothing.
 use Prim.Native.Nat.{ℕ, _+_, _≤_, _<_}
 use mathlib.Core.Path.{_≡_, refl, ap, sym, _∙_}
 use mathlib.Core.Logic.{_≢_, ⊎-elim}

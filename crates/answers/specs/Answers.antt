@@ -1,5 +1,4 @@
--- What a call comes to, the case of its answer with its number and values (SPEC 3.16), and what it leaves in the buffer (SPEC 3.12, 3.15).
--- Assumes nothing.
+-- What a call comes to, the case of its answer with its number and values (SPEC 3.16), and what it leaves in the buffer (SPEC 3.12, 3.15). Assumes nothing.
 use Prim.Native.Nat.{ℕ}
 use mathlib.Core.Path.{_≡_}
 use mathlib.Core.Bool.{Bool, true, false}

@@ -1,5 +1,4 @@
--- The lists of arcs while edges are linked: an arc more at the front of its vertex' list, and the lists of all edges' arcs at the end.
--- Assumes nothing.
+-- The lists of arcs while edges are linked: an arc more at the front of its vertex' list, and the lists of all edges' arcs at the end. Assumes nothing.
 use Prim.Native.Nat.{ℕ, suc, _+_, _≤_, _<_}
 use mathlib.Core.Path.{_≡_, sym, ap, _∙_, subst}
 use mathlib.Core.Logic.{inl, inr, _≢_, ⊎-elim}

@@ -1,5 +1,4 @@
--- A walk from u: the arcs of u's list that were tried lead to marked vertices, and the marks grow as a flood from u does.
--- Assumes nothing.
+-- A walk from u: the arcs of u's list that were tried lead to marked vertices, and the marks grow as a flood from u does. Assumes nothing.
 use Prim.Native.Nat.{ℕ, suc, _+_, _-_, _≤_, _<_}
 use mathlib.Core.Path.{_≡_, refl, ap, _∙_}
 use mathlib.Core.Logic.{_⊎_, inl, inr, _≢_, ⊎-elim}

@@ -1,6 +1,5 @@
 -- The lists of arcs that the walk follows, and what a walk does. An edge is two arcs, one each way. `head` holds, for each vertex, the first
--- arc of its list, and `next` the one after each arc, both one more than the arc's number, and 0 at the list's end; `to` is where an arc leads.
--- Assumes nothing.
+-- arc of its list, and `next` the one after each arc, both one more than the arc's number, and 0 at the list's end; `to` is where an arc leads. Assumes nothing.
 use Prim.Native.Nat.{ℕ, suc, _≤_, _<_}
 use mathlib.Core.Path.{_≡_}
 use mathlib.Core.List.{List}

@@ -1,5 +1,4 @@
--- A case file's layout and its calls as numbers: kinds as in SPEC 5.2, and 11 for an unsound file (3.11).
--- Assumes nothing.
+-- A case file's layout and its calls as numbers: kinds as in SPEC 5.2, and 11 for an unsound file (3.11). Assumes nothing.
 use Prim.Native.Nat.{ℕ}
 use Rattle.lists.specs.Choice.{pick}
 use Rattle.case_file.specs.declared.Call.{Call}

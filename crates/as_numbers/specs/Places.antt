@@ -1,5 +1,4 @@
--- Directions by number, and an answer of `grid::neighbour` as numbers.
--- Assumes nothing.
+-- Directions by number, and an answer of `grid::neighbour` as numbers. Assumes nothing.
 use Prim.Native.Nat.{ℕ}
 use mathlib.Core.Bool.{true, false}
 use lib.Dec.{eqb}

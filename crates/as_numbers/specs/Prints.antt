@@ -1,5 +1,4 @@
--- The program's lines by number.
--- Assumes nothing.
+-- The program's lines by number. Assumes nothing.
 use Prim.Native.Nat.{ℕ, _%_}
 use lib.Dec.{eqb}
 use Rattle.lists.specs.Choice.{pick}

@@ -1,5 +1,4 @@
--- A puzzle's answer as numbers (SPEC 4.15): clear, or a fault with its check and its list's length, or refused.
--- Assumes nothing.
+-- A puzzle's answer as numbers (SPEC 4.15): clear, or a fault with its check and its list's length, or refused. Assumes nothing.
 use Prim.Native.Nat.{ℕ}
 use Rattle.puzzle.specs.declared.Check.{Check}
 use Rattle.puzzle.specs.declared.Check.the-variants.{Shape, Room}

@@ -1,6 +1,5 @@
 -- A board's run is its book's run, so the ledger's theorem is the board's: after every list of calls from a fresh board, accepted and refused ones,
--- the states are exactly the standing borders and the record holds together; and an undo gives back the board before an accepted decide.
--- Assumes nothing.
+-- the states are exactly the standing borders and the record holds together; and an undo gives back the board before an accepted decide. Assumes nothing.
 use Prim.Native.Nat.{ℕ, _≤_, _<_}
 use mathlib.Core.Path.{_≡_, refl, ap, _∙_}
 use mathlib.Core.Logic.{_≢_, ⊎-elim}

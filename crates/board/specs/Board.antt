@@ -1,5 +1,4 @@
--- What a board's calls answer (SPEC 1.1 to 1.6, 3.1 to 3.5): the ledger's answers, around a size.
--- Assumes nothing.
+-- What a board's calls answer (SPEC 1.1 to 1.6, 3.1 to 3.5): the ledger's answers, around a size. Assumes nothing.
 use Prim.Native.Nat.{ℕ}
 use mathlib.Core.Bool.{Bool}
 use lib.Dec.{eqb}

@@ -1,5 +1,4 @@
--- A board after a list of calls, each on the board that the one before returned.
--- Assumes nothing.
+-- A board after a list of calls, each on the board that the one before returned. Assumes nothing.
 use mathlib.Core.List.{List, [], _∷_}
 use Rattle.ledger.specs.Ledger.{Call, decide, undo, ask}
 use Rattle.board.specs.declared.Board.{Board}

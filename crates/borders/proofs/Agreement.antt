@@ -1,5 +1,4 @@
--- The tests of a cell's border read one of the board's borders, or none: they agree on states that agree below the border count.
--- Assumes nothing.
+-- The tests of a cell's border read one of the board's borders, or none: they agree on states that agree below the border count. Assumes nothing.
 use Prim.Native.Nat.{ℕ, _<_}
 use mathlib.Core.Path.{_≡_, ap}
 use mathlib.Core.Bool.{true}

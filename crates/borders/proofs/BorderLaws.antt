@@ -1,5 +1,4 @@
--- What the test of a border says: there is one, and it has that state; and back, for a step over such a border.
--- Assumes nothing.
+-- What the test of a border says: there is one, and it has that state; and back, for a step over such a border. Assumes nothing.
 use Prim.Native.Nat.{ℕ}
 use mathlib.Core.Path.{_≡_, ap, sym, _∙_}
 use mathlib.Core.Bool.{true}

@@ -1,5 +1,4 @@
--- More laws of choices: what is picked, given, or found in neither of two.
--- Assumes nothing.
+-- More laws of choices: what is picked, given, or found in neither of two. Assumes nothing.
 use mathlib.Core.Path.{_≡_, refl}
 use mathlib.Core.Bool.{Bool, true, false, true≢false}
 use mathlib.Core.Option.{some}

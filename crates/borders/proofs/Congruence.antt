@@ -1,5 +1,4 @@
--- Two lists, tests or choices are equal if they are made the same way of what is equal where it is looked at.
--- Assumes nothing.
+-- Two lists, tests or choices are equal if they are made the same way of what is equal where it is looked at. Assumes nothing.
 use mathlib.Core.Path.{_≡_, refl, ap₂}
 use mathlib.Core.Logic.{inl, inr}
 use mathlib.Core.Bool.{Bool, true, false}

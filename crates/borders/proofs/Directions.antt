@@ -1,5 +1,4 @@
--- Two neighbours are told once, from the upper or left one; and the orders in which directions are gone through leave none out.
--- Assumes nothing.
+-- Two neighbours are told once, from the upper or left one; and the orders in which directions are gone through leave none out. Assumes nothing.
 use Prim.Native.Nat.{ℕ}
 use mathlib.Core.Path.{refl}
 use mathlib.Core.Logic.{_⊎_, inl, inr}

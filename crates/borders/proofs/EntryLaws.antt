@@ -1,5 +1,4 @@
--- A Wall's entry stands exactly where the border is a Wall, a Connected one's where it is Connected.
--- Assumes nothing.
+-- A Wall's entry stands exactly where the border is a Wall, a Connected one's where it is Connected. Assumes nothing.
 use Prim.Native.Nat.{ℕ, _+_, _/_, _%_}
 use mathlib.Core.Path.{_≡_, ap, sym, _∙_}
 use native.Mathlib.Omega.{arith}

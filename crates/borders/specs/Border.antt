@@ -1,5 +1,4 @@
--- The borders of a board as they stand: `states` has the state of border e at place e.
--- Assumes nothing.
+-- The borders of a board as they stand: `states` has the state of border e at place e. Assumes nothing.
 use Prim.Native.Nat.{ℕ, _≤_, _<_}
 use mathlib.Core.Bool.{Bool}
 use mathlib.Core.List.{List}

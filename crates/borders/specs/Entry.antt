@@ -1,5 +1,4 @@
--- Entries (SPEC 1.4). A border, or a room graph's edge, is undecided (0), Connected (1) or Wall (2).
--- Assumes nothing.
+-- Entries (SPEC 1.4). A border, or a room graph's edge, is undecided (0), Connected (1) or Wall (2). Assumes nothing.
 use Prim.Native.Nat.{ℕ, _+_, _*_, _/_, _%_}
 use mathlib.Core.Path.{_≡_}
 use mathlib.Core.Bool.{Bool}

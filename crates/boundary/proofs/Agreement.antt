@@ -1,5 +1,4 @@
--- The boundary lists depend on the board's borders alone.
--- Assumes nothing.
+-- The boundary lists depend on the board's borders alone. Assumes nothing.
 use Prim.Native.Nat.{ℕ}
 use mathlib.Core.Path.{_≡_, ap, ap₂}
 use mathlib.Core.Bool.{not}

@@ -1,5 +1,4 @@
--- What the code's tests make of the answer and the buffer.
--- Assumes nothing.
+-- What the code's tests make of the answer and the buffer. Assumes nothing.
 use Prim.Native.Nat.{ℕ, _+_, _*_, _≤_, _<_}
 use mathlib.Core.Path.{_≡_, refl, ap, sym, _∙_}
 use mathlib.Core.Logic.{_≢_, ⊎-elim}

@@ -1,5 +1,4 @@
--- Lists that are appended to a buffer one behind the other, by what is left to append.
--- Assumes nothing.
+-- Lists that are appended to a buffer one behind the other, by what is left to append. Assumes nothing.
 use Prim.Native.Nat.{ℕ, _+_, _≤_, _<_}
 use mathlib.Core.Path.{_≡_, refl, ap, sym, _∙_}
 use mathlib.Core.List.{List, [], _++_}

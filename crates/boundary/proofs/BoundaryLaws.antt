@@ -1,6 +1,5 @@
 -- The laws of the boundary lists: exactly which entries they have, that each stands as listed, and at most 4 a cell. The unit's list is
--- read in directions down and right for Connected borders, since each has its other cell in the unit and so is told once.
--- Assumes nothing.
+-- read in directions down and right for Connected borders, since each has its other cell in the unit and so is told once. Assumes nothing.
 use Prim.Native.Nat.{ℕ, _+_, _*_, _≤_}
 use mathlib.Core.Path.{_≡_, ap, sym, _∙_}
 use mathlib.Core.Logic.{_⊎_, inl, inr, _≢_, ⊎-elim, _↔_}

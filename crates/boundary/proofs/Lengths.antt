@@ -1,5 +1,4 @@
--- How long lists are that are kept or gathered from others.
--- Assumes nothing.
+-- How long lists are that are kept or gathered from others. Assumes nothing.
 use Prim.Native.Nat.{ℕ, _+_, _*_, _≤_}
 use mathlib.Core.Path.{_≡_, refl, ap}
 use mathlib.Core.Bool.{Bool, true, false}

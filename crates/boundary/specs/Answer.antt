@@ -1,5 +1,4 @@
--- What the two public calls answer and write (SPEC 4.4 and 4.5, with questions 1, 2, 3 and 6).
--- Assumes nothing.
+-- What the two public calls answer and write (SPEC 4.4 and 4.5, with questions 1, 2, 3 and 6). Assumes nothing.
 use Prim.Native.Nat.{ℕ, _*_}
 use mathlib.Core.Bool.{Bool}
 use mathlib.Core.List.{List}

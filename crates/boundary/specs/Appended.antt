@@ -1,5 +1,4 @@
--- A list that is written to a lent buffer from a place on.
--- Assumes nothing.
+-- A list that is written to a lent buffer from a place on. Assumes nothing.
 use Prim.Native.Nat.{ℕ, _+_}
 use mathlib.Core.Path.{_≡_}
 use mathlib.Core.List.{List}

@@ -1,5 +1,4 @@
--- Closed examples of the two lists; the 1 by 3 board is that of SPEC 7.3.
--- Assumes nothing.
+-- Closed examples of the two lists; the 1 by 3 board is that of SPEC 7.3. Assumes nothing.
 use Prim.Native.Nat.{ℕ}
 use mathlib.Core.Path.{_≡_, refl}
 use mathlib.Core.Bool.{true, false}

@@ -1,5 +1,4 @@
--- What is read was written (`written-read`): a sound file of bytes is the file of the case that it says, to the last byte.
--- Assumes nothing.
+-- What is read was written (`written-read`): a sound file of bytes is the file of the case that it says, to the last byte. Assumes nothing.
 use Prim.Native.Nat.{ℕ, zero, suc, _+_, _*_, _/_, _%_, _≤_, _<_}
 use mathlib.Core.Path.{_≡_, refl, sym, ap, _∙_}
 use mathlib.Core.Logic.{inl, inr, ⊎-elim, _≢_}

@@ -1,5 +1,4 @@
--- From the lists to the whole file: what a counted list that was found says of the definition, and one law for each way out of `rest` and `decode`.
--- Assumes nothing.
+-- From the lists to the whole file: what a counted list that was found says of the definition, and one law for each way out of `rest` and `decode`. Assumes nothing.
 use Prim.Native.Nat.{ℕ, zero, suc, _+_, _*_, _-_, _≤_, _<_}
 use mathlib.Core.Path.{_≡_, refl, sym, ap, _∙_}
 use mathlib.Core.Logic.{_⊎_, inl, inr, ⊎-elim, _≢_}

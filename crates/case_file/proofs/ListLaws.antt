@@ -1,5 +1,4 @@
--- The lists of the file at a byte: numbers and calls behind their counts.
--- Assumes nothing.
+-- The lists of the file at a byte: numbers and calls behind their counts. Assumes nothing.
 use Prim.Native.Nat.{ℕ, zero, suc, _+_, _*_, _-_, _≤_, _<_}
 use mathlib.Core.Path.{_≡_, refl, sym, ap, _∙_}
 use mathlib.Core.Logic.{_⊎_, inl, inr, ⊎-elim, _≢_}

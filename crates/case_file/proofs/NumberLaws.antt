@@ -1,5 +1,4 @@
--- The numbers of a list: how many there are, the k-th, and the loop that copies them.
--- Assumes nothing.
+-- The numbers of a list: how many there are, the k-th, and the loop that copies them. Assumes nothing.
 use Prim.Native.Nat.{ℕ, zero, suc, _+_, _*_, _-_, _/_, _≤_, _<_, min}
 use mathlib.Core.Path.{_≡_, refl, ap, _∙_}
 use mathlib.Core.List.{List, [], _∷_}

@@ -1,5 +1,4 @@
--- Each reader at a byte of the file: what it finds there and where it leaves off, or that the bytes end too soon.
--- Assumes nothing.
+-- Each reader at a byte of the file: what it finds there and where it leaves off, or that the bytes end too soon. Assumes nothing.
 use Prim.Native.Nat.{ℕ, zero, suc, _+_, _*_, _≤_, _<_}
 use mathlib.Core.Path.{_≡_, refl, ap, _∙_}
 use mathlib.Core.Logic.{⊎-elim, _≢_}

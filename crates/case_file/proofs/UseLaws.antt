@@ -1,5 +1,4 @@
--- What a caller learns from a sound file's layout: the lists at its places are the case's, and the cursor steps through its calls.
--- Assumes nothing.
+-- What a caller learns from a sound file's layout: the lists at its places are the case's, and the cursor steps through its calls. Assumes nothing.
 use Prim.Native.Nat.{ℕ, suc, _+_, _*_, _≤_, _<_}
 use mathlib.Core.Path.{_≡_, refl, sym, ap, _∙_}
 use mathlib.Core.Logic.{_⊎_, inl, inr, ⊎-elim}

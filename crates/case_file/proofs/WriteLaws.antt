@@ -1,5 +1,4 @@
--- What is written is read again (`read-written`): every case whose file is short enough, whatever its numbers.
--- Assumes nothing.
+-- What is written is read again (`read-written`): every case whose file is short enough, whatever its numbers. Assumes nothing.
 use Prim.Native.Nat.{ℕ, _+_, _*_, _/_, _%_, _≤_}
 use mathlib.Core.Path.{_≡_, refl}
 use mathlib.Core.Bool.{true, false}

@@ -1,5 +1,4 @@
--- A file, written: SPEC 5.1 and 5.2 from the other side. Reading and writing are shown to be inverse, so this is what a sound file is.
--- Assumes nothing.
+-- A file, written: SPEC 5.1 and 5.2 from the other side. Reading and writing are shown to be inverse, so this is what a sound file is. Assumes nothing.
 use Prim.Native.Nat.{ℕ, _/_, _%_}
 use mathlib.Core.List.{List, [], _∷_, _++_}
 use lib.ListN.{length}

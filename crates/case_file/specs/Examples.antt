@@ -1,5 +1,4 @@
--- The file of SPEC 7.9, read, and files that are unsound.
--- Assumes nothing.
+-- The file of SPEC 7.9, read, and files that are unsound. Assumes nothing.
 use Prim.Native.Nat.{ℕ}
 use mathlib.Core.Path.{_≡_, refl}
 use mathlib.Core.Bool.{true, false}

@@ -1,5 +1,4 @@
--- Where the parts of a file stand: what the code hands out instead of copies.
--- Assumes nothing.
+-- Where the parts of a file stand: what the code hands out instead of copies. Assumes nothing.
 use Prim.Native.Nat.{ℕ, _+_, _*_, _-_}
 use mathlib.Core.List.{List}
 use mathlib.Core.Option.{Option, none, some}

@@ -1,5 +1,4 @@
--- What a file of bytes says, or that it is unsound (SPEC 5.1 to 5.3). Each reader takes its part off the front and hands on the bytes behind it.
--- Assumes nothing.
+-- What a file of bytes says, or that it is unsound (SPEC 5.1 to 5.3). Each reader takes its part off the front and hands on the bytes behind it. Assumes nothing.
 use Prim.Native.Nat.{ℕ, zero, suc, _+_, _*_}
 use mathlib.Core.Bool.{Bool, true, false}
 use mathlib.Core.List.{List, [], _∷_}

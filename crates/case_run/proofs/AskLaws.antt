@@ -1,5 +1,4 @@
--- What an ask with the program's buffer answers, and the line of each answer.
--- Assumes nothing.
+-- What an ask with the program's buffer answers, and the line of each answer. Assumes nothing.
 use Prim.Native.Nat.{ℕ, zero, suc, _≤_}
 use mathlib.Core.Path.{_≡_, refl, sym, ap, _∙_}
 use mathlib.Core.Logic.{_≢_, ⊎-elim}

@@ -1,5 +1,4 @@
--- The line of each answer, in a buffer that is long enough for it.
--- Assumes nothing.
+-- The line of each answer, in a buffer that is long enough for it. Assumes nothing.
 use Prim.Native.Nat.{ℕ, zero, suc, _≤_, _<_}
 use mathlib.Core.Path.{_≡_, refl, sym, ap, _∙_}
 use mathlib.Core.Logic.{_≢_}

@@ -1,5 +1,4 @@
--- Calls run one by one are the calls run at once, line by line; and a sound file's are its case's.
--- Assumes nothing.
+-- Calls run one by one are the calls run at once, line by line; and a sound file's are its case's. Assumes nothing.
 use Prim.Native.Nat.{ℕ, zero, suc, _+_}
 use mathlib.Core.Path.{_≡_, refl, sym, ap, _∙_}
 use mathlib.Core.Logic.{⊎-elim}

@@ -1,5 +1,4 @@
--- The puzzle of a file: a sound file's walls and clues have their places, and are read whole.
--- Assumes nothing.
+-- The puzzle of a file: a sound file's walls and clues have their places, and are read whole. Assumes nothing.
 use Prim.Native.Nat.{ℕ, _*_, _≤_}
 use mathlib.Core.Path.{_≡_, refl, sym, ap, _∙_}
 use mathlib.Core.List.{List, [], _∷_}

@@ -1,5 +1,4 @@
--- The run of a list of calls: what is left of it, one law a call, and one at the end.
--- Assumes nothing.
+-- The run of a list of calls: what is left of it, one law a call, and one at the end. Assumes nothing.
 use Prim.Native.Nat.{ℕ, zero, suc, _+_, _-_, _*_, _/_, _≤_, _<_}
 use mathlib.Core.Path.{_≡_, refl, sym, ap, _∙_}
 use mathlib.Core.Logic.{⊎-elim}

@@ -1,5 +1,4 @@
--- What a case file's puzzle is, and the line that each of its calls prints (SPEC 5.4, 5.5) in the run of demand 3 (6.4).
--- Assumes nothing.
+-- What a case file's puzzle is, and the line that each of its calls prints (SPEC 5.4, 5.5) in the run of demand 3 (6.4). Assumes nothing.
 use Prim.Native.Nat.{ℕ, zero, suc, _+_, _*_, _≤_}
 use mathlib.Core.Path.{_≡_}
 use mathlib.Core.List.{List, [], _∷_, _++_, map}

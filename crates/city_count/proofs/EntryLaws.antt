@@ -1,5 +1,4 @@
--- The entries of the edges that have a state: which they are, that they are no more than the edges, and the loop that writes them.
--- Assumes nothing.
+-- The entries of the edges that have a state: which they are, that they are no more than the edges, and the loop that writes them. Assumes nothing.
 use Prim.Native.Nat.{ℕ, suc, _+_, _-_, _≤_, _<_}
 use mathlib.Core.Path.{_≡_, refl, sym, ap, _∙_}
 use mathlib.Core.Logic.{⊎-elim}

@@ -1,6 +1,5 @@
 -- THE THEOREMS of the room check, over every state of the graph's edges: what a fault's list says of the graph it was found on and of every
--- other in which it stands, and what a fully decided graph's answer means.
--- Assumes nothing.
+-- other in which it stands, and what a fully decided graph's answer means. Assumes nothing.
 use Prim.Native.Nat.{ℕ, _/_, _≤_, _<_}
 use mathlib.Core.Path.{_≡_, ap}
 use mathlib.Core.Logic.{_⊎_, inl, inr, _≢_, _↔_, ⊎-elim}

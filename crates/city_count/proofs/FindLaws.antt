@@ -1,5 +1,4 @@
--- The three ways through the check: what is found and what the buffer then holds.
--- Assumes nothing.
+-- The three ways through the check: what is found and what the buffer then holds. Assumes nothing.
 use Prim.Native.Nat.{ℕ}
 use mathlib.Core.Path.{_≡_, refl, ap}
 use mathlib.Core.Bool.{true, false}

@@ -1,5 +1,4 @@
--- One turn and the end of the loop that looks at a graph's ends.
--- Assumes nothing.
+-- One turn and the end of the loop that looks at a graph's ends. Assumes nothing.
 use Prim.Native.Nat.{ℕ, _+_, _-_, _≤_, _<_}
 use mathlib.Core.Path.{_≡_, sym}
 use mathlib.Core.Bool.{Bool, true, false}

@@ -1,6 +1,5 @@
 -- A room graph's run is its book's run, so the ledger's theorem is the graph's: after every list of calls, accepted and refused ones, exactly the
--- ledger's decisions stand and the record holds together; and an undo gives back the record before an accepted decide.
--- Assumes nothing.
+-- ledger's decisions stand and the record holds together; and an undo gives back the record before an accepted decide. Assumes nothing.
 use Prim.Native.Nat.{ℕ, _≤_}
 use mathlib.Core.Path.{_≡_, refl, ap, _∙_}
 use mathlib.Core.Logic.{_≢_, ⊎-elim}

@@ -1,5 +1,4 @@
--- A graph that questions 1 and 2 accept, as facts; and a law for each answer.
--- Assumes nothing.
+-- A graph that questions 1 and 2 accept, as facts; and a law for each answer. Assumes nothing.
 use Prim.Native.Nat.{ℕ, _≤_, _<_}
 use mathlib.Core.Path.{_≡_, refl, ap, sym, _∙_}
 use mathlib.Core.Logic.{_≢_}

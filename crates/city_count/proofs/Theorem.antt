@@ -1,6 +1,5 @@
 -- THE THEOREMS of the room graph's calls: for every accepted making and every list of calls, refused ones included, the record's states are the
--- standing edges, and the next ask answers exactly what the check finds on them.
--- Assumes nothing.
+-- standing edges, and the next ask answers exactly what the check finds on them. Assumes nothing.
 use Prim.Native.Nat.{ℕ, _+_, _≤_, _<_}
 use mathlib.Core.Path.{_≡_, refl, ap, _∙_}
 use mathlib.Core.Bool.{Bool, true, false}

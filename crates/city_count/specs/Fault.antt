@@ -1,5 +1,4 @@
--- What the room check lists (SPEC 4.14).
--- Assumes nothing.
+-- What the room check lists (SPEC 4.14). Assumes nothing.
 use Prim.Native.Nat.{ℕ}
 use mathlib.Core.List.{List}
 use mathlib.Core.Option.{Option}

@@ -1,5 +1,4 @@
--- What a room graph's calls answer (SPEC 1.8, 3.1 to 3.6, 4.14): the ledger's answers, around a graph and a count.
--- Assumes nothing.
+-- What a room graph's calls answer (SPEC 1.8, 3.1 to 3.6, 4.14): the ledger's answers, around a graph and a count. Assumes nothing.
 use Prim.Native.Nat.{ℕ}
 use mathlib.Core.Path.{_≡_}
 use mathlib.Core.Bool.{Bool}

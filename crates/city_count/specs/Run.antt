@@ -1,5 +1,4 @@
--- A room graph after a list of calls, each on the graph that the one before returned.
--- Assumes nothing.
+-- A room graph after a list of calls, each on the graph that the one before returned. Assumes nothing.
 use Prim.Native.Nat.{ℕ}
 use mathlib.Core.List.{List, [], _∷_}
 use lib.ListN.{length}

@@ -1,5 +1,4 @@
--- The next ask after a list of calls from a fresh puzzle gives what the checks find on the standing borders.
--- Assumes nothing.
+-- The next ask after a list of calls from a fresh puzzle gives what the checks find on the standing borders. Assumes nothing.
 use Prim.Native.Nat.{ℕ, _*_, _≤_, _<_}
 use mathlib.Core.Path.{_≡_, refl, ap, sym, _∙_, fun-ext}
 use mathlib.Core.Logic.{⊎-elim}

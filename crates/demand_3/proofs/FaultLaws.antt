@@ -1,5 +1,4 @@
--- THE THEOREMS of the whole check, the shape check's and the room counts' together, on a puzzle whose borders have given states.
--- Assumes nothing.
+-- THE THEOREMS of the whole check, the shape check's and the room counts' together, on a puzzle whose borders have given states. Assumes nothing.
 use Prim.Native.Nat.{ℕ, _*_, _≤_, _<_}
 use mathlib.Core.Path.{_≡_, refl, ap, ap₂, sym, _∙_}
 use mathlib.Core.Logic.{_⊎_, inl, inr, ⊎-elim, _↔_}

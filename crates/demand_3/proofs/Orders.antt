@@ -1,5 +1,4 @@
--- Entries that can stand together are decided on a fresh puzzle in any order: each decide is accepted, and then they stand.
--- Assumes nothing.
+-- Entries that can stand together are decided on a fresh puzzle in any order: each decide is accepted, and then they stand. Assumes nothing.
 use Prim.Native.Nat.{ℕ, _+_, _/_, _%_, _≤_, _<_}
 use mathlib.Core.Path.{_≡_, refl, ap, sym, _∙_}
 use mathlib.Core.Logic.{inl, inr, _≢_, ⊎-elim}

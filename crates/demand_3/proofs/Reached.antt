@@ -1,6 +1,5 @@
 -- After every list of calls from a fresh puzzle, accepted and refused ones, exactly the standing borders stand, the record holds together,
--- and size, given walls and clues are the making's: the ledger's theorem, around which the puzzle's constants stay.
--- Assumes nothing.
+-- and size, given walls and clues are the making's: the ledger's theorem, around which the puzzle's constants stay. Assumes nothing.
 use Prim.Native.Nat.{ℕ}
 use mathlib.Core.Path.{_≡_, refl, ap, sym, _∙_}
 use mathlib.Core.Bool.{Bool, true, false}

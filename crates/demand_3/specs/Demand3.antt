@@ -1,5 +1,4 @@
--- Demand 3 (SPEC 6.4 to 6.10), sentence by sentence: one claim about lists of decide, undo and ask calls, refused ones included, from a fresh puzzle.
--- Assumes nothing.
+-- Demand 3 (SPEC 6.4 to 6.10), sentence by sentence: one claim about lists of decide, undo and ask calls, refused ones included, from a fresh puzzle. Assumes nothing.
 use Prim.Native.Nat.{ℕ, _*_, _/_, _%_, _≤_, _<_}
 use mathlib.Core.Path.{_≡_}
 use mathlib.Core.Logic.{_↔_}

@@ -1,5 +1,4 @@
--- The laws of a full board (SPEC 2.3 to 2.6): all four. s e is the state of border e.
--- Assumes nothing.
+-- The laws of a full board (SPEC 2.3 to 2.6): all four. s e is the state of border e. Assumes nothing.
 use Prim.Native.Nat.{ℕ, _<_}
 use mathlib.Core.Path.{_≡_}
 use mathlib.Core.Bool.{true}

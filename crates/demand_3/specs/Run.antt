@@ -1,5 +1,4 @@
--- Lists of calls: what each answers, what it leaves, and the standing borders (SPEC 1.5 to 1.7).
--- Assumes nothing.
+-- Lists of calls: what each answers, what it leaves, and the standing borders (SPEC 1.5 to 1.7). Assumes nothing.
 use Prim.Native.Nat.{ℕ}
 use mathlib.Core.Bool.{Bool}
 use mathlib.Core.List.{List, [], _∷_, map}

@@ -1,5 +1,4 @@
--- One turn and the end of the loop that copies the edges' ends, and that a graph's limit refuses what is copied of a longer list.
--- Assumes nothing.
+-- One turn and the end of the loop that copies the edges' ends, and that a graph's limit refuses what is copied of a longer list. Assumes nothing.
 use Prim.Native.Nat.{ℕ, _+_, _≤_, _<_}
 use mathlib.Core.Path.{_≡_, refl, sym, _∙_}
 use mathlib.Core.Logic.{⊎-elim}

@@ -1,5 +1,4 @@
--- The edges of a list of records as two lists of numbers (SPEC 8.5), and how many of them are copied.
--- Assumes nothing.
+-- The edges of a list of records as two lists of numbers (SPEC 8.5), and how many of them are copied. Assumes nothing.
 use Prim.Native.Nat.{ℕ}
 use mathlib.Core.List.{List, map}
 use lib.Dec.{leb}

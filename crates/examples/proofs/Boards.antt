@@ -1,6 +1,5 @@
 -- A puzzle with given walls and a clued room, a full board that is right for it, and full boards that are not: the laws (SPEC 2) say something both ways.
--- 2 by 2, borders 2 and 3 given: a room above and a room below, and the one below is to hold one unit.
--- Assumes nothing.
+-- 2 by 2, borders 2 and 3 given: a room above and a room below, and the one below is to hold one unit. Assumes nothing.
 use Prim.Native.Nat.{ℕ, zero, suc}
 use mathlib.Core.Path.{_≡_, refl, sym}
 use mathlib.Core.Logic.{inl, inr}

@@ -1,6 +1,5 @@
 -- The starred examples (SPEC 7.1 to 7.7), of boards, room graphs, puzzles and hand-over: a table, and one computed check of it. Each board is also a
--- puzzle without given walls and with one unclued room, on which the borders are decided in turn.
--- Assumes nothing.
+-- puzzle without given walls and with one unclued room, on which the borders are decided in turn. Assumes nothing.
 use Prim.Native.Nat.{ℕ, _*_}
 use mathlib.Core.Path.{_≡_, refl}
 use mathlib.Core.Bool.{true, false}
@@ -20,7 +19,8 @@ use Rattle.room_parts.specs.Graph.{graph, statesIn}
 use Rattle.city_count.specs.Fault.{roomFault}
 use Rattle.hand_over.specs.Sorted.{sortedOnce}
 use Rattle.puzzle.specs.Fault.{faultOf}
-use Rattle.puzzle.specs.Puzzle.{listsCode, together, noClues, statesOf, askOf}
+use Rattle.clues.specs.Clues.{listsCode}
+use Rattle.puzzle.specs.Puzzle.{together, noClues, statesOf, askOf}
 use Rattle.demand_3.specs.Run.{Call, decide, undo, ask, coded, asked, run, replies}
 use Rattle.demand_3.specs.Demand3.{listOf, freshOf, after}
 

@@ -1,5 +1,4 @@
--- A group's cells, copied.
--- Assumes nothing.
+-- A group's cells, copied. Assumes nothing.
 use Prim.Native.Nat.{ℕ}
 use mathlib.Core.List.{List, []}
 use lib.Dec.{leb}

@@ -1,5 +1,4 @@
--- Chains go on, back, and over to another relation; so do units, potential units and their adjacency.
--- Assumes nothing.
+-- Chains go on, back, and over to another relation; so do units, potential units and their adjacency. Assumes nothing.
 use Prim.Native.Nat.{ℕ}
 use mathlib.Core.Path.{_≡_}
 use mathlib.Core.Logic.{inl, inr, _≢_}

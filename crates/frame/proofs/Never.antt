@@ -1,6 +1,5 @@
 -- A fault's list never stands where the unit has a good offset. The reason: on a board S where the list stands, a good offset puts the
--- whole unit into one potential unit of S, which the listed Walls keep inside one of s; so the offset was tried on s, and failed.
--- Assumes nothing.
+-- whole unit into one potential unit of S, which the listed Walls keep inside one of s; so the offset was tried on s, and failed. Assumes nothing.
 use Prim.Native.Nat.{ℕ}
 use mathlib.Core.Path.{_≡_}
 use mathlib.Core.Logic.{inl, inr, _≢_, ⊎-elim}

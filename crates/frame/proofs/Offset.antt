@@ -1,5 +1,4 @@
--- Where a unit may be put, and what a list of borders says of it. `T a x` says that the offset puts cell a on cell x; f is a cell of the unit.
--- Assumes nothing.
+-- Where a unit may be put, and what a list of borders says of it. `T a x` says that the offset puts cell a on cell x; f is a cell of the unit. Assumes nothing.
 use Prim.Native.Nat.{ℕ}
 use mathlib.Core.Path.{_≡_}
 use mathlib.Core.Logic.{_⊎_, _≢_}

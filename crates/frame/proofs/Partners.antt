@@ -1,5 +1,4 @@
--- On a full board units and potential units are the same, and a good offset is one that puts the unit on a partner.
--- Assumes nothing.
+-- On a full board units and potential units are the same, and a good offset is one that puts the unit on a partner. Assumes nothing.
 use Prim.Native.Nat.{ℕ}
 use mathlib.Core.Path.{_≡_}
 use mathlib.Core.Logic.{inr, _≢_, ⊎-elim}

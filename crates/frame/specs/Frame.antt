@@ -1,6 +1,5 @@
 -- Units, potential units and the laws of a full board, over any neighbour relation. Cells and borders are numbers; `Nb a b e` says that
--- border e lies between the cells a and b. A border is undecided (0), Connected (1) or Wall (2).
--- Assumes nothing.
+-- border e lies between the cells a and b. A border is undecided (0), Connected (1) or Wall (2). Assumes nothing.
 use Prim.Native.Nat.{ℕ}
 use mathlib.Core.Path.{_≡_}
 use mathlib.Core.Logic.{_⊎_, _≢_}

@@ -1,5 +1,4 @@
--- A board's edges by direction: cells are linked exactly over a border that joins, in whatever direction; and what the lists that compute hold.
--- Assumes nothing.
+-- A board's edges by direction: cells are linked exactly over a border that joins, in whatever direction; and what the lists that compute hold. Assumes nothing.
 use Prim.Native.Nat.{ℕ, _<_}
 use mathlib.Core.Path.{_≡_}
 use mathlib.Core.Logic.{inl, inr, ⊎-elim}
@@ -21,7 +20,7 @@ use Rattle.parts.specs.Parts.{Within, begun, part}
 use Rattle.parts.specs.Flood.{Link}
 use Rattle.parts.proofs.PartLists.{parts-at, parts-length, begun-at}
 use Rattle.groups.specs.Groups.{passes, edges, groupIds, groupCount}
-use Rattle.groups.specs.Floods.{joins}
+use Rattle.groups.specs.Joins.{joins}
 use Rattle.groups.proofs.GroupLaws.{has-link, ahead-has, edges-within}
 
 module _ (g : Grid) (states : List ℕ) (p : Bool) where
@@ -43,8 +42,11 @@ module _ (g : Grid) (states : List ℕ) (p : Bool) where
   pub over-next : (d : Direction) (c c' : ℕ) → Over d c c' → c' ≡ next g d c
   over-next d c c' o = step-next g d c c' (border g d c) (o .step)
 
+  pub over-at : (d : Direction) (c c' e : ℕ) → Step g d c c' e → passes p (stateOf states e) ≡ true → Over d c c'
+  over-at d c c' e s q = record { step = rw (s .over) at s; joined = rw (s .over) at q }
+
   over-from : (c c' e : ℕ) → Neighbours g c c' e → passes p (stateOf states e) ≡ true → (d : Direction) × Over d c c'
-  over-from c c' e n q = (n .0, record { step = rw (n .1 .over) at (n .1); joined = rw (n .1 .over) at q })
+  over-from c c' e n q = (n .0, over-at (n .0) c c' e (n .1) q)
 
   pub link-over : (c c' : ℕ) → Link (edges g states p) c c' → (d : Direction) × Over d c c'
   link-over c c' (inl m) = let l = has-link g (λ e. passes p (stateOf states e)) c c' m in over-from c c' (l .0) (l .1) (l .2)

@@ -1,5 +1,4 @@
--- Group numbers tell units, and potential units, apart: two cells have one number exactly if they are joined, and each number below the count is used.
--- Assumes nothing.
+-- Group numbers tell units, and potential units, apart: two cells have one number exactly if they are joined, and each number below the count is used. Assumes nothing.
 use Prim.Native.Nat.{ℕ, _≤_, _<_}
 use mathlib.Core.Path.{_≡_, refl, sym, _∙_}
 use mathlib.Core.Logic.{_≢_, ⊎-elim}

@@ -1,5 +1,4 @@
--- What the code of grouping and hand-out tests, and what that makes of their answers.
--- Assumes nothing.
+-- What the code of grouping and hand-out tests, and what that makes of their answers. Assumes nothing.
 use Prim.Native.Nat.{ℕ, zero, suc, _+_, _-_, _*_, _≤_, _<_}
 use mathlib.Core.Path.{_≡_, refl, ap, sym, _∙_}
 use mathlib.Core.Logic.{_≢_}

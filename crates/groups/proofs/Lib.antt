@@ -1,6 +1,7 @@
 pub mod GroupLaws
 pub mod EdgeLaws
-pub mod FloodSteps
+pub mod JoinLaws
+pub mod NumberLaws
 pub mod TurnLaws
 pub mod Counting
 pub mod Lending

@@ -1,5 +1,4 @@
--- What is shown of groups (SPEC 4.1 and 4.2): the numbers, the cells of each group and of all, and the hand-out of a grouping's own record and buffer.
--- Assumes nothing.
+-- What is shown of groups (SPEC 4.1 and 4.2): the numbers, the cells of each group and of all, and the hand-out of a grouping's own record and buffer. Assumes nothing.
 use Prim.Native.Nat.{ℕ, suc, _+_, _-_, _≤_, _<_}
 use mathlib.Core.Path.{_≡_, refl, ap, sym, _∙_}
 use mathlib.Core.Logic.{_↔_, ⊎-elim}
@@ -9,13 +8,13 @@ use native.Mathlib.Omega.{arith}
 use native.Mathlib.Numerals.{add-one}
 use borrow.Author.Tests.{lt-ltb, ltb-true, leb-true, eq-eqb, eqb-true, eqb-false}
 use lib.Dec.{eqb, leb}
-use lib.ListN.{getD, length, take, drop, length-drop, length-map}
+use lib.ListN.{getD, length, take, drop, length-drop}
 use lib.Seq.{sets, length-sets, ext-getD, getD-take, getD-drop, length-take-le}
 use Rattle.limits.specs.Limits.{mostCells}
 use Rattle.lists.specs.Choice.{pick}
 use Rattle.lists.specs.Lists.{range, all}
 use Rattle.lists.proofs.Cases.{le-or-lt}
-use Rattle.lists.proofs.ListLaws.{all-true, true-all, in-range, range-in, range-length}
+use Rattle.lists.proofs.ListLaws.{all-true, true-all, in-range, range-in, table-long, table-at}
 use Rattle.lists.proofs.ChoiceLaws.{true-both}
 use Rattle.grid.specs.declared.Grid.{Grid}
 use Rattle.grid.specs.Grid.{cells, Cell, Limits}
@@ -31,7 +30,7 @@ use Rattle.groups.specs.Info.{blankPlaces, groupPart, infoOf, groupingCo
 use Rattle.groups.proofs.EdgeLaws.{ids-at, ids-length, count-is}
 use Rattle.lists.proofs.SetsLaws.{front, front-at}
 use Rattle.groups.proofs.TurnLaws.{kept, rank, sorted, start, place, kept-at, kept-of, sorted-at, start-all, start-more, start-zero, place-at, place-of, rank-more}
-use Rattle.groups.proofs.Counting.{at, map-at}
+use Rattle.groups.proofs.Counting.{at}
 use Rattle.groups.proofs.Lending.{count-small}
 use Rattle.groups.proofs.InfoLaws.{end-next, end-last, rises, exists, Holds, holds-code, handed-out, end-within, start-before-end, from-zero, sizes-fit}
 
@@ -119,9 +118,9 @@ module _ (g : Grid) (st : List ℕ) (p : Bool) (starts₀ : List ℕ) (fits : ce
   start-at : (k : ℕ) → k < groupCount g st p → getD starts k 0 ≡ begin k
   unfolding begin startsOf startOf inTurn cellsIn
   start-at k h =
-      let long : length (startsOf (cells g) (groupIds g st p) (groupCount g st p)) ≡ groupCount g st p = simp (length-map, range-length) in
+      let long : length (startsOf (cells g) (groupIds g st p) (groupCount g st p)) ≡ groupCount g st p = table-long (startOf (cells g) (groupIds g st p)) (groupCount g st p) in
       front-at starts₀ (startsOf (cells g) (groupIds g st p) (groupCount g st p)) k (omega (arith, long, count-small g st p)) (omega (arith, long))
-      ∙ map-at (startOf (cells g) (groupIds g st p)) (groupCount g st p) k (start-zero (at (groupIds g st p)) (cells g)) h
+      ∙ table-at (startOf (cells g) (groupIds g st p)) (groupCount g st p) k h
 
   end-at : (k : ℕ) → k < groupCount g st p → endOf (cells g) (groupCount g st p) starts k ≡ begin (suc k)
   unfolding begin

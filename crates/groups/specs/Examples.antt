@@ -1,11 +1,10 @@
--- Groups of small boards, computed.
--- Assumes nothing.
+-- Groups of small boards, computed. Assumes nothing.
 use mathlib.Core.Path.{_≡_, refl}
 use mathlib.Core.Bool.{true, false}
 use mathlib.Core.List.{[], _∷_}
 use Rattle.grid.specs.Grid.{grid}
 use Rattle.groups.specs.Groups.{groupIds, groupCount}
-use Rattle.groups.specs.Turn.{inTurn, startsOf}
+use Rattle.groups.specs.Turn.{inTurn, startsOf, sizesOf}
 
 -- 1 by 3, Wall, Connected
 row-units : groupIds (grid 1 3) (2 ∷ 1 ∷ []) false ≡ 0 ∷ 1 ∷ 1 ∷ []
@@ -15,6 +14,10 @@ row-units = refl
 row-starts : startsOf 3 (0 ∷ 1 ∷ 1 ∷ []) 2 ≡ 0 ∷ 1 ∷ []
 unfolding startsOf
 row-starts = refl
+
+row-sizes : sizesOf 3 (0 ∷ 1 ∷ 1 ∷ []) 2 ≡ 1 ∷ 2 ∷ []
+unfolding sizesOf
+row-sizes = refl
 
 -- 2 by 2: the upper border undecided, the left one Connected, the lower and the right one Walls
 square-units : groupIds (grid 2 2) (0 ∷ 2 ∷ 1 ∷ 2 ∷ []) false ≡ 0 ∷ 1 ∷ 0 ∷ 2 ∷ []

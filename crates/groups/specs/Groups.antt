@@ -1,5 +1,4 @@
--- Groups of cells (SPEC 4.1): the parts into which a board's borders that pass join its cells.
--- Assumes nothing.
+-- Groups of cells (SPEC 4.1): the parts into which a board's borders that pass join its cells. Assumes nothing.
 use Prim.Native.Nat.{ℕ}
 use mathlib.Core.Bool.{Bool}
 use mathlib.Core.List.{List, [], _∷_}
@@ -31,10 +30,6 @@ edgesOver g pass = gather (λ c. gather (edgeAt g pass c) (Down ∷ Right ∷ []
 -- the edges that make units, or potential units, of a board whose borders have these states
 abbrev pub edges : Grid → List ℕ → Bool → List Edge
 edges g states potential = edgesOver g (λ e. passes potential (stateOf states e))
-
--- in a cell's place while its group is not known yet
-abbrev pub noGroup : ℕ
-noGroup = 65535
 
 -- each cell's group, numbered from 0 by first cell (SPEC 4.1)
 unfoldable pub groupIds : Grid → List ℕ → Bool → List ℕ

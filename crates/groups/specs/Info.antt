@@ -1,5 +1,4 @@
--- The group record, and what grouping and hand-out answer (SPEC 1.10, 4.1 and 4.2, with questions 1, 2, 3 and 6).
--- Assumes nothing.
+-- The group record, and what grouping and hand-out answer (SPEC 1.10, 4.1 and 4.2, with questions 1, 2, 3 and 6). Assumes nothing.
 use Prim.Native.Nat.{ℕ, _+_, _-_, _*_}
 use mathlib.Core.Bool.{Bool}
 use mathlib.Core.List.{List, []}

@@ -1,5 +1,4 @@
--- What a stage told, taken apart, and the first of several stages that finds a fault.
--- Assumes nothing.
+-- What a stage told, taken apart, and the first of several stages that finds a fault. Assumes nothing.
 use Prim.Native.Nat.{ℕ, _+_, _-_, _≤_, _<_}
 use mathlib.Core.Path.{_≡_, refl, ap, sym, _∙_}
 use mathlib.Core.List.{List, _∷_}

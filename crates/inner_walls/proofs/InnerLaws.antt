@@ -1,5 +1,4 @@
--- One Wall of the stage of inner Walls, by what the code tests.
--- Assumes nothing.
+-- One Wall of the stage of inner Walls, by what the code tests. Assumes nothing.
 use Prim.Native.Nat.{ℕ, suc, _+_, _*_, _<_}
 use mathlib.Core.Path.{_≡_, sym}
 use mathlib.Core.Logic.{_⊎_, _≢_}

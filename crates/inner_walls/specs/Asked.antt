@@ -1,5 +1,4 @@
--- What the stage of inner Walls asks.
--- Assumes nothing.
+-- What the stage of inner Walls asks. Assumes nothing.
 use Prim.Native.Nat.{ℕ, _*_, _≤_}
 use mathlib.Core.List.{List}
 use lib.ListN.{length}

@@ -1,5 +1,4 @@
--- What an accepted decide or undo needs of a book that holds together: a place for one more name, and a last name that is a border.
--- Assumes nothing.
+-- What an accepted decide or undo needs of a book that holds together: a place for one more name, and a last name that is a border. Assumes nothing.
 use Prim.Native.Nat.{ℕ, _-_, _≤_, _<_}
 use mathlib.Core.Path.{_≡_, ap, sym, _∙_, fun-ext}
 use mathlib.Core.Logic.{⊎-elim}

@@ -1,5 +1,4 @@
--- The numbers of a decide and an undo as facts, and two questions in their order.
--- Assumes nothing.
+-- The numbers of a decide and an undo as facts, and two questions in their order. Assumes nothing.
 use Prim.Native.Nat.{ℕ, _<_}
 use mathlib.Core.Path.{_≡_, refl}
 use mathlib.Core.Logic.{_≢_}

@@ -1,5 +1,4 @@
--- One turn and the end of each loop over a ledger and its marks.
--- Assumes nothing.
+-- One turn and the end of each loop over a ledger and its marks. Assumes nothing.
 use Prim.Native.Nat.{ℕ, _+_, _-_, _≤_, _<_}
 use mathlib.Core.Path.{_≡_, refl, ap, sym, _∙_}
 use mathlib.Core.Logic.{⊎-elim}

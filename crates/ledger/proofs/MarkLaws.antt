@@ -1,5 +1,4 @@
--- The test by marks is question 2: names that are new one by one are exactly those that the ledger names once.
--- Assumes nothing.
+-- The test by marks is question 2: names that are new one by one are exactly those that the ledger names once. Assumes nothing.
 use Prim.Native.Nat.{ℕ, _+_, _≤_, _<_}
 use mathlib.Core.Path.{_≡_, refl, ap, sym, _∙_}
 use mathlib.Core.Logic.{_⊎_, inl, inr, _≢_, ⊎-elim}

@@ -1,5 +1,4 @@
--- Question 2 of a ledger as facts, both ways; and that a ledger with an undecided border has room for it.
--- Assumes nothing.
+-- Question 2 of a ledger as facts, both ways; and that a ledger with an undecided border has room for it. Assumes nothing.
 use Prim.Native.Nat.{ℕ, _≤_, _<_}
 use mathlib.Core.Path.{_≡_, refl, _∙_}
 use mathlib.Core.Bool.{Bool, true, false, not}

@@ -1,6 +1,5 @@
 -- THE LEDGER'S THEOREM, once for boards, puzzles and room graphs: over n borders of which some are given, after every list of calls, accepted and
--- refused ones, the states are exactly the standing borders and question 2 holds; and an undo gives back the very book before an accepted decide.
--- Assumes nothing.
+-- refused ones, the states are exactly the standing borders and question 2 holds; and an undo gives back the very book before an accepted decide. Assumes nothing.
 use Prim.Native.Nat.{ℕ, _+_, _-_, _≤_, _<_}
 use mathlib.Core.Path.{_≡_, refl, ap, sym, _∙_}
 use mathlib.Core.Logic.{_≢_, ⊎-elim}

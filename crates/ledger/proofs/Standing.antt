@@ -1,5 +1,4 @@
--- What a ledger of accepted calls is like, and that states which follow it are the standing ones and hold together.
--- Assumes nothing.
+-- What a ledger of accepted calls is like, and that states which follow it are the standing ones and hold together. Assumes nothing.
 use Prim.Native.Nat.{ℕ, zero, suc, _+_, _-_, _≤_, _<_}
 use mathlib.Core.Path.{_≡_, refl, ap, sym, _∙_}
 use mathlib.Core.Logic.{_⊎_, inl, inr, _≢_, ⊎-elim}

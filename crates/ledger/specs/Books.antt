@@ -1,6 +1,5 @@
 -- What a record keeps of its ledger over n borders of which some are given walls, the numbers that refuse a decide and an undo, and how an accepted
--- one changes it.
--- Assumes nothing.
+-- one changes it. Assumes nothing.
 use Prim.Native.Nat.{ℕ, _+_, _-_}
 use mathlib.Core.Bool.{Bool, false}
 use mathlib.Core.List.{List, [], _∷_}

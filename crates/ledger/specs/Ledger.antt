@@ -1,5 +1,4 @@
--- The standing ledger (SPEC 1.5, 1.6) over n borders of which some are given walls, the numbers that refuse its calls, and question 2 of it.
--- Assumes nothing.
+-- The standing ledger (SPEC 1.5, 1.6) over n borders of which some are given walls, the numbers that refuse its calls, and question 2 of it. Assumes nothing.
 use Prim.Native.Nat.{ℕ, _-_}
 use mathlib.Core.Bool.{Bool, not}
 use mathlib.Core.List.{List, [], _∷_, _++_, map}

@@ -1,5 +1,4 @@
--- The test of question 2 by marks: 1 for a given wall, 2 for a border that the ledger names.
--- Assumes nothing.
+-- The test of question 2 by marks: 1 for a given wall, 2 for a border that the ledger names. Assumes nothing.
 use Prim.Native.Nat.{ℕ, _≤_}
 use mathlib.Core.Path.{_≡_}
 use mathlib.Core.Bool.{Bool, true, false}

@@ -1,5 +1,4 @@
--- The numbers that bound every record (SPEC 1.1, 1.7, 1.8, 3.6), as the code's constants have them.
--- Assumes nothing.
+-- The numbers that bound every record (SPEC 1.1, 1.7, 1.8, 3.6), as the code's constants have them. Assumes nothing.
 use Prim.Native.Nat.{ℕ}
 
 -- SPEC 1.1, 1.8: cells of 32 by 32, and vertices of a room graph

@@ -1,5 +1,4 @@
--- Decimal digits: how many there are, that they are the number's, and that no zero stands in front.
--- Assumes nothing.
+-- Decimal digits: how many there are, that they are the number's, and that no zero stands in front. Assumes nothing.
 use Prim.Native.Nat.{ℕ, zero, suc, _+_, _*_, _-_, _/_, _%_, _^_, _≤_, _<_}
 use mathlib.Core.Path.{_≡_, refl, ap, _∙_}
 use mathlib.Core.Logic.{_⊎_, inl, inr, ⊎-elim, _≢_}

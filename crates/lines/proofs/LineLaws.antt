@@ -1,5 +1,4 @@
--- Stores one behind the other, and the loops that write a word and the entries.
--- Assumes nothing.
+-- Stores one behind the other, and the loops that write a word and the entries. Assumes nothing.
 use Prim.Native.Nat.{ℕ, suc, _+_, _*_, _-_, _/_, _%_, _≤_, _<_}
 use mathlib.Core.Path.{_≡_, refl, sym, ap, _∙_}
 use mathlib.Core.List.{List, [], _∷_, _++_}

@@ -1,5 +1,4 @@
--- Numbers in decimal (SPEC 5.4).
--- Assumes nothing.
+-- Numbers in decimal (SPEC 5.4). Assumes nothing.
 use Prim.Native.Nat.{ℕ, zero, suc, _+_, _*_, _-_, _/_, _%_}
 use mathlib.Core.List.{List, [], _∷_, _++_}
 use lib.Dec.{ltb}

@@ -1,5 +1,4 @@
--- Lines of SPEC 5.4 and 7.9, computed.
--- Assumes nothing.
+-- Lines of SPEC 5.4 and 7.9, computed. Assumes nothing.
 use mathlib.Core.Path.{_≡_, refl}
 use mathlib.Core.List.{[], _∷_}
 use Rattle.lists.specs.Lists.{gather}

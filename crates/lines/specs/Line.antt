@@ -1,5 +1,4 @@
--- The line that each call prints (SPEC 5.4).
--- Assumes nothing.
+-- The line that each call prints (SPEC 5.4). Assumes nothing.
 use Prim.Native.Nat.{ℕ, _+_, _*_}
 use mathlib.Core.List.{List, [], _∷_, _++_}
 use lib.Dec.{leb}

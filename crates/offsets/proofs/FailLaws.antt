@@ -1,5 +1,4 @@
--- The first border that lands badly, taken one direction or one cell at a time; and the whole trial by it.
--- Assumes nothing.
+-- The first border that lands badly, taken one direction or one cell at a time; and the whole trial by it. Assumes nothing.
 use Prim.Native.Nat.{ℕ, _+_, _≤_, _<_}
 use mathlib.Core.Path.{_≡_, refl, ap, sym, _∙_}
 use mathlib.Core.Bool.{Bool}

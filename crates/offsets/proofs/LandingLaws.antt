@@ -1,5 +1,4 @@
--- What lies beyond a cell, and where its border lands, as facts; a landing by doubled coordinates is the definition's.
--- Assumes nothing.
+-- What lies beyond a cell, and where its border lands, as facts; a landing by doubled coordinates is the definition's. Assumes nothing.
 use Prim.Native.Nat.{ℕ, _≤_, _<_}
 use mathlib.Core.Path.{_≡_, refl, ap, ap₂, sym, _∙_}
 use mathlib.Core.Logic.{_⊎_, ⊎-elim}

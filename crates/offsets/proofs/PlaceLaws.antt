@@ -1,5 +1,4 @@
--- A border's place, moved as the unit is, is that of the same border of the cell on which its cell falls.
--- Assumes nothing.
+-- A border's place, moved as the unit is, is that of the same border of the cell on which its cell falls. Assumes nothing.
 use Prim.Native.Nat.{ℕ, suc, zero, _+_, _-_, _*_, _/_, _%_, _<_, _≤_}
 use mathlib.Core.Path.{_≡_, refl, ap, ap₂, sym, _∙_}
 use mathlib.Core.Bool.{true, false}

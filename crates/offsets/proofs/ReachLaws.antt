@@ -1,5 +1,4 @@
--- Where a cell falls, and one turn and the end of the walk over a unit's cells.
--- Assumes nothing.
+-- Where a cell falls, and one turn and the end of the walk over a unit's cells. Assumes nothing.
 use Prim.Native.Nat.{ℕ, _+_, _-_, _*_, _<_, _≤_}
 use mathlib.Core.Path.{_≡_, refl, ap, ap₂, sym, _∙_}
 use mathlib.Core.Logic.{_≢_}

@@ -1,5 +1,4 @@
--- What the machine computes for a doubled coordinate, and the sign test and cast after it.
--- Assumes nothing.
+-- What the machine computes for a doubled coordinate, and the sign test and cast after it. Assumes nothing.
 use Prim.Native.Nat.{ℕ, suc, zero, _+_, _-_, _*_, _<_, _≤_}
 use mathlib.Core.Path.{_≡_, refl, ap, ap₂, sym, _∙_}
 use mathlib.Core.Bool.{Bool, true, false, cond}

@@ -1,17 +1,16 @@
--- What stands in the table of an ask, and how it is filled, cell by cell.
--- Assumes nothing.
-use Prim.Native.Nat.{ℕ, zero, suc, _+_, _*_, _≤_, _<_}
+-- What stands in the table of an ask, and how it is filled, cell by cell. Assumes nothing.
+use Prim.Native.Nat.{ℕ, suc, _+_, _*_, _≤_, _<_}
 use mathlib.Core.Path.{_≡_, refl, ap, sym, _∙_}
 use mathlib.Core.Logic.{_⊎_, _≢_, inl, ⊎-elim}
 use mathlib.Core.List.{List, [], _∷_, map}
 use native.Mathlib.Omega.{arith}
 use native.Mathlib.Nat.{suc-mul}
 use native.Mathlib.Numerals.{add-one}
-use lib.ListN.{getD, length, set, length-map}
-use lib.Seq.{sets, length-sets, ext-getD}
+use lib.ListN.{getD, length, set}
+use lib.Seq.{sets, length-sets}
 use Rattle.lists.specs.Lists.{range}
 use Rattle.lists.proofs.Cases.{eq-or-ne}
-use Rattle.lists.proofs.ListLaws.{range-length, range-at}
+use Rattle.lists.proofs.ListLaws.{table-at, table-is}
 use Rattle.lists.proofs.SetsLaws.{sets-in, sets-out}
 use Rattle.grid.specs.declared.Grid.{Grid}
 use Rattle.grid.specs.Grid.{Limits, cells, Cell, row, col}
@@ -19,17 +18,6 @@ use Rattle.grid.proofs.Geometry.{cells-le, coords, row-lt}
 use Rattle.offsets.specs.Table.{rowIn, colIn, unitIn, potentialIn, unitsIn, potentialsIn, Listed, Table, Fillable, Filled}
 
 -- WHAT STANDS IN IT
-
-map-at : (f : ℕ → ℕ) (l : List ℕ) (i : ℕ) → i < length l → getD (map f l) i 0 ≡ f (getD l i 0)
-map-at f [] i h = absurd (omega arith)
-map-at f (x ∷ l) zero h = refl
-map-at f (x ∷ l) (suc i) h = map-at f l i (omega arith)
-
-table-at : (f : ℕ → ℕ) (n c : ℕ) → c < n → getD (map f (range n)) c 0 ≡ f c
-table-at f n c h = map-at f (range n) c (rw (range-length n) h) ∙ ap f (range-at n c h)
-
-table-long : (f : ℕ → ℕ) (n : ℕ) → length (map f (range n)) ≡ n
-table-long f n = simp length-map (range-length n)
 
 module _ (g : Grid) (table : List ℕ) where
   pub unit-at : (c : ℕ) → Cell g c → getD (unitsIn g table) c 0 ≡ unitIn table c
@@ -137,9 +125,7 @@ module _ {g : Grid} {ids pids table₀ : List ℕ} (p : Fillable g ids pids tabl
             }
 
     column : (f : ℕ → ℕ) (xs : List ℕ) → length xs ≡ cells g → ((c : ℕ) → Cell g c → f c ≡ getD xs c 0) → map f (range (cells g)) ≡ xs
-    column f xs n e =
-        ext-getD 0 (map f (range (cells g))) xs (table-long f (cells g) ∙ sym n)
-        (λ c l. let h : c < cells g = omega (arith, table-long f (cells g)) in table-at f (cells g) c h ∙ e c h)
+    column f xs n e = sym (table-is f (cells g) xs n (λ c h. sym (e c h)))
 
     pub filling-end : cells g ≤ cell → Filled g ids pids table
     unfolding unitsIn potentialsIn

@@ -1,5 +1,4 @@
--- A trial by the code's steps is crate shape's `tryAt`.
--- Assumes nothing.
+-- A trial by the code's steps is crate shape's `tryAt`. Assumes nothing.
 use Prim.Native.Nat.{ℕ, _+_, _*_, _<_}
 use mathlib.Core.Path.{_≡_, refl, ap, ap₂, sym, _∙_}
 use mathlib.Core.Logic.{inl}

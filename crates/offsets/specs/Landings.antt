@@ -1,5 +1,4 @@
--- A unit's landings as the code walks them: inner borders, and else Walls and board edges, by one definition.
--- Assumes nothing.
+-- A unit's landings as the code walks them: inner borders, and else Walls and board edges, by one definition. Assumes nothing.
 use Prim.Native.Nat.{ℕ, _≤_}
 use mathlib.Core.Path.{_≡_}
 use mathlib.Core.Bool.{Bool, not}

@@ -1,5 +1,4 @@
--- Border places in doubled coordinates, which run from −1 and stay signed (SPEC 4.10).
--- Assumes nothing.
+-- Border places in doubled coordinates, which run from −1 and stay signed (SPEC 4.10). Assumes nothing.
 use Prim.Native.Nat.{ℕ, _+_, _-_, _*_, _/_, _%_}
 use lib.Dec.{eqb, ltb}
 use lib.IntN.{ℤ, pos, negsuc, _+ℤ_, _-ℤ_}

@@ -1,5 +1,4 @@
--- Where the cells of a unit fall, and whether the offset is passed over.
--- Assumes nothing.
+-- Where the cells of a unit fall, and whether the offset is passed over. Assumes nothing.
 use Prim.Native.Nat.{ℕ, _+_, _-_, _*_, _<_}
 use mathlib.Core.Bool.{Bool, not}
 use mathlib.Core.List.{List}

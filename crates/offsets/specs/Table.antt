@@ -1,5 +1,4 @@
--- The table that an ask makes once: four numbers for each cell, its row, its column, its unit and its potential unit.
--- Assumes nothing.
+-- The table that an ask makes once: four numbers for each cell, its row, its column, its unit and its potential unit. Assumes nothing.
 use Prim.Native.Nat.{ℕ, _+_, _*_, _<_, _≤_}
 use mathlib.Core.Path.{_≡_}
 use mathlib.Core.List.{List, map}

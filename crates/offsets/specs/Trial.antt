@@ -1,5 +1,4 @@
--- What one trial of a unit asks and answers. The unit is told by its cells: the first of them has its number in the table.
--- Assumes nothing.
+-- What one trial of a unit asks and answers. The unit is told by its cells: the first of them has its number in the table. Assumes nothing.
 use Prim.Native.Nat.{ℕ, _<_, _≤_}
 use mathlib.Core.Path.{_≡_}
 use mathlib.Core.Bool.{not}

@@ -1,5 +1,4 @@
--- Laws of parts: numbers and first vertices tell apart exactly what is not joined, and parts are numbered by first vertex without gaps.
--- Assumes nothing.
+-- Laws of parts: numbers and first vertices tell apart exactly what is not joined, and parts are numbered by first vertex without gaps. Assumes nothing.
 use Prim.Native.Nat.{ℕ, zero, suc, _+_, _≤_, _<_, min, max}
 use mathlib.Core.Path.{_≡_, refl, ap, sym, _∙_}
 use mathlib.Core.Logic.{_⊎_, inl, inr, _≢_, ⊎-elim, _↔_}

@@ -1,5 +1,4 @@
--- The lists of all roots and all parts, which compute, hold what `root` and `part` say.
--- Assumes nothing.
+-- The lists of all roots and all parts, which compute, hold what `root` and `part` say. Assumes nothing.
 use Prim.Native.Nat.{ℕ, zero, suc, _≤_, _<_}
 use mathlib.Core.Path.{_≡_, refl, ap, sym, _∙_}
 use mathlib.Core.Logic.{inl, inr, ⊎-elim}

@@ -1,5 +1,4 @@
--- How many parts there are: without edges as many as vertices; an edge more joins two parts into one where they were two; more edges leave fewer parts.
--- Assumes nothing.
+-- How many parts there are: without edges as many as vertices; an edge more joins two parts into one where they were two; more edges leave fewer parts. Assumes nothing.
 use Prim.Native.Nat.{ℕ, zero, suc, _+_, _≤_, _<_, max}
 use mathlib.Core.Path.{_≡_, refl, ap, sym}
 use mathlib.Core.Logic.{inr, _≢_, ⊎-elim}

@@ -1,5 +1,4 @@
--- Parts of small graphs, computed.
--- Assumes nothing.
+-- Parts of small graphs, computed. Assumes nothing.
 use Prim.Native.Nat.{ℕ, zero, suc}
 use mathlib.Core.Path.{_≡_, refl}
 use mathlib.Core.Logic.{inl, inr}

@@ -1,5 +1,4 @@
--- The parts into which edges join the vertices 0, 1, 2, ..: units (SPEC 2.2), groups (4.1), rooms (1.7) and the parts of a room graph (4.14) are such.
--- Assumes nothing.
+-- The parts into which edges join the vertices 0, 1, 2, ..: units (SPEC 2.2), groups (4.1), rooms (1.7) and the parts of a room graph (4.14) are such. Assumes nothing.
 use Prim.Native.Nat.{ℕ, zero, suc, _+_, _<_, min, max}
 use mathlib.Core.Path.{_≡_}
 use mathlib.Core.List.{List, [], _∷_, map}

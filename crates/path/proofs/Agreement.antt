@@ -1,5 +1,4 @@
--- A path depends on the board's borders alone: every cell that looks is one of the board's.
--- Assumes nothing.
+-- A path depends on the board's borders alone: every cell that looks is one of the board's. Assumes nothing.
 use Prim.Native.Nat.{ℕ, zero, suc}
 use mathlib.Core.Path.{_≡_, refl, ap, _∙_}
 use mathlib.Core.Logic.{inl}

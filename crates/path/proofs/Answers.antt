@@ -1,5 +1,4 @@
--- From the arrays that a search leaves to the answer.
--- Assumes nothing.
+-- From the arrays that a search leaves to the answer. Assumes nothing.
 use Prim.Native.Nat.{ℕ, _*_, _≤_, _<_}
 use mathlib.Core.Path.{_≡_, refl, ap, sym, _∙_}
 use mathlib.Core.Logic.{_≢_, ⊎-elim}

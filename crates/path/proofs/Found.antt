@@ -1,5 +1,4 @@
--- Which cells are found, and how many are not, when one more is marked.
--- Assumes nothing.
+-- Which cells are found, and how many are not, when one more is marked. Assumes nothing.
 use Prim.Native.Nat.{ℕ, zero, suc, _+_, _<_}
 use mathlib.Core.Path.{_≡_, refl, ap, sym, _∙_}
 use mathlib.Core.Logic.{_⊎_, inl, inr, _≢_, ⊎-elim}

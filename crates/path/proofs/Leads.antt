@@ -1,5 +1,4 @@
--- What a path list says of the board, whatever found it.
--- Assumes nothing.
+-- What a path list says of the board, whatever found it. Assumes nothing.
 use Prim.Native.Nat.{ℕ}
 use mathlib.Core.List.{List, [], _∷_}
 use Rattle.grid.specs.declared.Grid.{Grid}

@@ -1,5 +1,4 @@
--- The loop of the search: the arrays keep a search from which `searchFrom` comes to the same end.
--- Assumes nothing.
+-- The loop of the search: the arrays keep a search from which `searchFrom` comes to the same end. Assumes nothing.
 use Prim.Native.Nat.{ℕ, zero, suc, _+_, _-_, _≤_, _<_}
 use mathlib.Core.Path.{_≡_, refl, ap, sym, _∙_}
 use mathlib.Core.Logic.{inl, _≢_, ⊎-elim}

@@ -1,5 +1,4 @@
--- A path call that no earlier question refuses is refused by 10 exactly if Connected borders do not join the cells.
--- Assumes nothing.
+-- A path call that no earlier question refuses is refused by 10 exactly if Connected borders do not join the cells. Assumes nothing.
 use Prim.Native.Nat.{ℕ, _*_, _≤_, _<_}
 use mathlib.Core.Path.{_≡_, refl, ap, sym, _∙_}
 use mathlib.Core.Logic.{_↔_}

@@ -1,7 +1,6 @@
 -- The laws of paths. The search finds the target exactly if Connected borders join it to the start. The list is then a chain of borders from
 -- target back to start, each standing Connected; it is shorter than the cells are many, and empty exactly for one cell; and on every board
--- on which its borders are Connected it joins its two ends.
--- Assumes nothing.
+-- on which its borders are Connected it joins its two ends. Assumes nothing.
 use Prim.Native.Nat.{ℕ, _<_}
 use mathlib.Core.Path.{_≡_, refl, ap, sym, _∙_}
 use mathlib.Core.Logic.{inl, inr, ⊎-elim, _↔_}

@@ -1,5 +1,4 @@
--- The search's invariant: what is found leads back to the start, and every found cell waits in the queue or has had all its Connected neighbours found.
--- Assumes nothing.
+-- The search's invariant: what is found leads back to the start, and every found cell waits in the queue or has had all its Connected neighbours found. Assumes nothing.
 use Prim.Native.Nat.{ℕ, zero, suc, _+_, _≤_, _<_}
 use mathlib.Core.Path.{_≡_, refl, ap, sym, _∙_}
 use mathlib.Core.Logic.{_⊎_, inl, inr, _≢_, ⊎-elim}

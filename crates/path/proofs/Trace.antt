@@ -1,5 +1,4 @@
--- The code's arrays follow the search: what a look does to them.
--- Assumes nothing.
+-- The code's arrays follow the search: what a look does to them. Assumes nothing.
 use Prim.Native.Nat.{ℕ, _+_, _*_, _≤_, _<_}
 use mathlib.Core.Path.{_≡_, refl, ap, sym, _∙_}
 use mathlib.Core.Logic.{_≢_, ⊎-elim}

@@ -1,5 +1,4 @@
--- The walk back: what is left of it, and that it ends.
--- Assumes nothing.
+-- The walk back: what is left of it, and that it ends. Assumes nothing.
 use Prim.Native.Nat.{ℕ, _+_, _≤_, _<_}
 use mathlib.Core.Path.{_≡_, refl, ap, ap₂, sym, _∙_}
 use mathlib.Core.Logic.{_≢_}

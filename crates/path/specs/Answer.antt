@@ -1,5 +1,4 @@
--- What a path call answers and writes (SPEC 4.3, with questions 1, 2, 3, 6 and 10).
--- Assumes nothing.
+-- What a path call answers and writes (SPEC 4.3, with questions 1, 2, 3, 6 and 10). Assumes nothing.
 use Prim.Native.Nat.{ℕ, _*_}
 use mathlib.Core.List.{List}
 use mathlib.Core.Option.{Option, none, some}

@@ -1,5 +1,4 @@
--- Closed examples of paths.
--- Assumes nothing.
+-- Closed examples of paths. Assumes nothing.
 use mathlib.Core.Path.{_≡_, refl}
 use mathlib.Core.List.{[], _∷_}
 use mathlib.Core.Option.{none, some}

@@ -1,5 +1,4 @@
--- The first-in first-out search (SPEC 4.3). A found cell is kept with its list: the entries from it back to the start.
--- Assumes nothing.
+-- The first-in first-out search (SPEC 4.3). A found cell is kept with its list: the entries from it back to the start. Assumes nothing.
 use Prim.Native.Nat.{ℕ, zero, suc}
 use mathlib.Core.Bool.{Bool, true, false}
 use mathlib.Core.List.{List, [], _∷_, _++_}

@@ -1,6 +1,5 @@
 -- What the code keeps of a search: for each found cell its finder and the entry of the border between, and the queue as an array of which
--- the places from head to tail wait.
--- Assumes nothing.
+-- the places from head to tail wait. Assumes nothing.
 use Prim.Native.Nat.{ℕ, suc, _+_, _≤_, _<_}
 use mathlib.Core.Path.{_≡_}
 use mathlib.Core.Logic.{_≢_}

@@ -1,5 +1,4 @@
--- The calls of a file, done one by one: what is left of their run, and one law a call.
--- Assumes nothing.
+-- The calls of a file, done one by one: what is left of their run, and one law a call. Assumes nothing.
 use Prim.Native.Nat.{ℕ, suc, _+_, _<_, _≤_}
 use mathlib.Core.Path.{_≡_, sym, ap, _∙_}
 use mathlib.Core.Bool.{true, false, true≢false}

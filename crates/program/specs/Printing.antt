@@ -1,5 +1,4 @@
--- SPEC 5.6: a call's line before the next call; where a line can't be written the run ends there.
--- Assumes nothing.
+-- SPEC 5.6: a call's line before the next call; where a line can't be written the run ends there. Assumes nothing.
 use Prim.Native.Nat.{ℕ, _≤_}
 use mathlib.Core.Path.{_≡_}
 use mathlib.Core.Bool.{true}

@@ -1,10 +1,10 @@
--- A law for each answer of decide, undo and ask: which tests lead to it.
--- Assumes nothing.
+-- A law for each answer of decide, undo and ask: which tests lead to it. Assumes nothing.
 use Prim.Native.Nat.{ℕ, zero, suc, _*_, _≤_, _<_}
 use mathlib.Core.Path.{_≡_, refl}
 use mathlib.Core.Logic.{_≢_}
 use mathlib.Core.List.{List}
 use mathlib.Core.Option.{Option}
+use native.Mathlib.Omega.{arith}
 use borrow.Author.Tests.{ne-eqb, le-leb, lt-leb}
 use lib.ListN.{length}
 use Rattle.grid.specs.Grid.{cells}
@@ -16,30 +16,37 @@ use Rattle.puzzle.specs.declared.Answer.the-variants.{Refused}
 use Rattle.puzzle.specs.Fault.{Found}
 use Rattle.puzzle.specs.Puzzle.{answer, gridOf, bookOf, puzzleCode, onto, answered, undoOf, askCode, Asked, says, writes, faultIn, askOf}
 
--- a decide or an undo: refused by question 1 or 2, refused by the ledger's number n, or done
-module _ (p : Puzzle) (code : ℕ) (q : code ≡ puzzleCode p) where
-  module _ (n : ℕ) (b : Book) where
-    pub refused : code ≢ 0 → answer code p ≡ answered p (firstCode (puzzleCode p) n) b
-    refused z = rw (← q, ne-eqb code 0 z, ne-eqb code 0 z)
+-- the first of two numbers that refuses a call
+pub first-refuses : {code m : ℕ} (next : ℕ) → code ≡ m → code ≢ 0 → code ≡ firstCode m next
+first-refuses {code} next q z = rw (← q, ne-eqb code 0 z)
 
-    pub not-now : code ≡ 0 → n ≢ 0 → answer n p ≡ answered p (firstCode (puzzleCode p) n) b
-    not-now z k = rw (← q, z, ne-eqb n 0 k)
+pub second-says : {code m r next : ℕ} → code ≡ m → code ≡ 0 → r ≡ next → r ≡ firstCode m next
+second-says q z e = rw (← q, z, e)
 
-    pub done : code ≡ 0 → n ≡ 0 → answer 0 (onto p b) ≡ answered p (firstCode (puzzleCode p) n) b
-    done z k = rw (← q, z, k)
+pub none-refuses : (m next : ℕ) → firstCode m next ≡ 0 → (m ≡ 0) × (next ≡ 0)
+none-refuses zero next q = (refl, q)
+none-refuses (suc m) next q = absurd (let z : suc m ≡ 0 = rw (ne-eqb (suc m) 0 (omega arith)) at q in omega arith)
 
-  pub nothing-left : code ≡ 0 → bookOf p .len ≡ 0 → answer 5 p ≡ undoOf p
-  nothing-left z h = rw (← q, z, h)
+pub nothing-left : {len : ℕ} → len ≡ 0 → 5 ≡ undoCode len
+nothing-left h = rw h
 
-  module _ (z : code ≡ 0) where
-    pub short-buffer : (buf : List ℕ) → length buf < 9 * cells (gridOf p) → askCode p buf ≡ 6
-    short-buffer buf h = rw (← q, z, lt-leb (9 * cells (gridOf p)) (length buf) h)
+pub some-left : {len : ℕ} → len ≢ 0 → 0 ≡ undoCode len
+some-left {len} h = rw (ne-eqb len 0 h)
 
-    pub long-buffer : (buf : List ℕ) → 9 * cells (gridOf p) ≤ length buf → askCode p buf ≡ 0
-    long-buffer buf h = rw (← q, z, le-leb (9 * cells (gridOf p)) (length buf) h)
+-- a decide or an undo: refused by a number, or done
+pub refused : (p : Puzzle) (b : Book) {n m : ℕ} → n ≡ m → n ≢ 0 → answer n p ≡ answered p m b
+refused p b {n} q z = rw (← q, ne-eqb n 0 z)
 
-pub some-left : (p : Puzzle) → bookOf p .len ≢ 0 → undoCode (bookOf p .len) ≡ 0
-some-left p h = rw (ne-eqb (bookOf p .len) 0 h)
+pub done : (p : Puzzle) (b : Book) {m : ℕ} → m ≡ 0 → answer 0 (onto p b) ≡ answered p m b
+done p b z = rw z
+
+-- an ask: its buffer is too short, or long enough
+module _ (p : Puzzle) (code : ℕ) (q : code ≡ puzzleCode p) (z : code ≡ 0) where
+  pub short-buffer : (buf : List ℕ) → length buf < 9 * cells (gridOf p) → askCode p buf ≡ 6
+  short-buffer buf h = rw (← q, z, lt-leb (9 * cells (gridOf p)) (length buf) h)
+
+  pub long-buffer : (buf : List ℕ) → 9 * cells (gridOf p) ≤ length buf → askCode p buf ≡ 0
+  long-buffer buf h = rw (← q, z, le-leb (9 * cells (gridOf p)) (length buf) h)
 
 -- an ask by its number and what it finds
 asked-by : (n m : ℕ) (f : Option Found) (buf : List ℕ) → n ≡ m → _≡_ {A = Asked} (record { answer = says n f; buffer = writes n f buf }) (record { answer = says m f; buffer = writes m f buf })

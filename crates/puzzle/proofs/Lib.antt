@@ -1,9 +1,5 @@
 pub mod Basics
 pub mod Making
 pub mod Answers
-pub mod Loops
-pub mod ListsCode
 pub mod Ready
-pub mod RoomChecks
-pub mod Housed
 pub mod Finding

@@ -1,84 +1,41 @@
--- What questions 1, 3, 7, 8 and 9 say of the lists that a making accepts, and what the fresh puzzle holds.
--- Assumes nothing.
+-- What a making accepts, and what the fresh puzzle holds. Assumes nothing.
 use Prim.Native.Nat.{ℕ, _≤_, _<_}
 use mathlib.Core.Path.{_≡_, refl, ap, sym, _∙_}
-use mathlib.Core.Bool.{Bool, true, false, not}
+use mathlib.Core.Bool.{Bool, true, false}
 use mathlib.Core.List.{List}
 use native.Mathlib.Omega.{arith}
-use borrow.Author.Tests.{ne-eqb, eqb-true, leb-true, ltb-true, not-true}
-use lib.Dec.{eqb, ltb, leb}
+use borrow.Author.Tests.{ne-eqb, eqb-true}
+use lib.Dec.{eqb}
 use lib.ListN.{length, length-replicate}
 use lib.Seq.{sets}
 use Rattle.lists.specs.Choice.{pick}
-use Rattle.lists.specs.Lists.{range, In}
-use Rattle.lists.proofs.Cases.{not-both}
-use Rattle.lists.proofs.ChoiceLaws.{either-true}
-use Rattle.lists.proofs.ListLaws.{all-true, range-in}
-use mathlib.Core.Logic.{_≢_, ⊎-elim}
+use mathlib.Core.Logic.{_≢_}
 use Rattle.lists.proofs.SetsLaws.{front}
 use Rattle.grid.specs.declared.Grid.{Grid}
-use Rattle.grid.specs.Grid.{grid, sizesOk, Limits, cells, borderCount}
+use Rattle.grid.specs.Grid.{grid, sizesOk, Limits, borderCount}
 use Rattle.grid.proofs.Geometry.{limits, cells-le, borderCount-le}
-use Rattle.parts.proofs.PartLaws.{begun-small}
-use Rattle.parts.proofs.PartLists.{begun-at}
-use Rattle.groups.proofs.GroupLaws.{edges-within}
-use Rattle.limits.specs.Limits.{mostBorders, mostCells, noClue}
+use Rattle.limits.specs.Limits.{mostBorders, mostCells}
 use Rattle.ledger.specs.Books.{zeros, book}
 use Rattle.ledger.proofs.BookLaws.{zeros-length}
 use Rattle.board.specs.declared.Board.{Board}
 use Rattle.puzzle.specs.declared.Puzzle.{Puzzle}
 use Rattle.puzzle.specs.declared.Made.{Made}
-use Rattle.rooms.specs.Rooms.{isGiven, roomEdges, roomCount, roomCells, clued, clueOf}
-use Rattle.puzzle.specs.Puzzle.{exist, rises, oneEach, fitsRoom, cluesFit, listsCode, noClues, freshBoard, freshPuzzle, zeroPuzzle, answer, makeCode, makeOf, givenOf, cluesOf, statesOf, freshState}
-use Rattle.rooms.specs.Lent.{unmarked, puts, Below}
-use Rattle.rooms.proofs.RoomLaws.{given-in}
-use Rattle.rooms.proofs.PutLaws.{puts-length, puts-at, unmarked-at, unmarked-length}
-use Rattle.puzzle.proofs.Basics.{rises-length, states-are}
-
--- lists that questions 3, 7, 8 and 9 accept
-pub record Fit (g : Grid) (given clues : List ℕ) : Type 0 where
-  pub inside : (e : ℕ) → In e given → e < borderCount g
-  pub rising : rises given ≡ true
-  pub one-each : length clues ≡ roomCount g given
-  pub small : (r : ℕ) → r < roomCount g given → clued clues r ≡ true → clueOf clues r ≤ length (roomCells g given r)
-
-module _ (g : Grid) (given clues : List ℕ) where
-  clue-small : cluesFit g given clues ≡ true → (r : ℕ) → r < roomCount g given → clued clues r ≡ true → clueOf clues r ≤ length (roomCells g given r)
-  unfolding cluesFit
-  clue-small q r l c =
-      ⊎-elim
-      (λ k. absurd (not-both (eqb (clueOf clues r) noClue) k (not-true _ c)))
-      (λ k. leb-true _ _ k)
-      (either-true (eqb (clueOf clues r) noClue) (leb (clueOf clues r) (length (roomCells g given r))) (all-true (fitsRoom g given clues) (range (roomCount g given)) q r (range-in _ r l)))
-
-  pub lists-fit : listsCode g given clues ≡ 0 → Fit g given clues
-  unfolding listsCode
-  lists-fit = go (exist g given) refl (rises given) refl (oneEach g given clues) refl (cluesFit g given clues) refl
-    where
-      go : (a : Bool) → exist g given ≡ a → (b : Bool) → rises given ≡ b → (c : Bool) → oneEach g given clues ≡ c → (d : Bool) → cluesFit g given clues ≡ d
-          → _≡_ {A = ℕ} (pick a (pick b (pick c (pick d 0 9) 8) 7) 3) 0 → Fit g given clues
-      go true p true q true r true s z =
-          record {
-            inside = λ e m. ltb-true e (borderCount g) (all-true (λ x. ltb x (borderCount g)) given p e m);
-            rising = q;
-            one-each = eqb-true _ _ r;
-            small = clue-small s;
-          }
-      go true p true q true r false s z = absurd (omega arith)
-      go true p true q false r d s z = absurd (omega arith)
-      go true p false q c r d s z = absurd (omega arith)
-      go false p b q c r d s z = absurd (omega arith)
-
-  -- no board has more rooms than cells
-  pub rooms-few : roomCount g given ≤ cells g
-  unfolding roomCount
-  rooms-few =
-      let E = roomEdges g given in
-      omega (arith, begun-at (cells g) E (cells g) (edges-within g (λ e. not (isGiven given e))) (omega arith), begun-small E (cells g))
+use Rattle.rooms.specs.Rooms.{isGiven}
+use Rattle.puzzle.specs.Puzzle.{noClues, freshBoard, freshPuzzle, zeroPuzzle, answer, makeCode, makeOf, givenOf, cluesOf, statesOf, freshState}
+use Rattle.rooms.specs.Lent.{unmarked, puts, Below, Places}
+use Rattle.rooms.proofs.RoomLaws.{given-in, rooms-few}
+use Rattle.rooms.proofs.PutLaws.{places, puts-length, puts-at, unmarked-at, unmarked-length}
+use Rattle.clues.specs.Clues.{listsCode}
+use Rattle.clues.proofs.Fitting.{Fit, lists-fit, rises-length}
+use Rattle.puzzle.proofs.Basics.{states-are}
 
 pub no-clues-length : length noClues ≡ mostCells
 unfolding noClues
 no-clues-length = length-replicate {A = ℕ} mostCells 0
+
+pub rooms-lent : (g : Grid) → Limits g → Places g noClues noClues
+unfolding noClues
+rooms-lent g l = places g mostCells (cells-le g l)
 
 -- what an accepted making is given
 pub record Accepted (h w : ℕ) (given clues : List ℕ) : Type 0 where
@@ -114,7 +71,7 @@ module _ (h w : ℕ) (given clues : List ℕ) where
     given-short = omega (arith, rises-length (borderCount (grid h w)) given (a .fit .rising) (a .fit .inside), borderCount-le (grid h w) (a .limits))
 
     pub clues-short : length clues ≤ mostCells
-    clues-short = omega (arith, a .fit .one-each, rooms-few (grid h w) given clues, cells-le (grid h w) (a .limits))
+    clues-short = omega (arith, a .fit .one-each, rooms-few (grid h w) given, cells-le (grid h w) (a .limits))
 
     pub given-kept : givenOf (freshPuzzle (grid h w) given clues) ≡ given
     given-kept = front zeros given (omega (arith, given-short, zeros-length))

@@ -1,5 +1,4 @@
--- Questions 1 and 2 of a puzzle: a law for each answer, and what an accepted puzzle is like.
--- Assumes nothing.
+-- Questions 1 and 2 of a puzzle: a law for each answer, and what an accepted puzzle is like. Assumes nothing.
 use Prim.Native.Nat.{ℕ, _*_, _≤_, _<_}
 use mathlib.Core.Path.{_≡_, refl, ap, _∙_, fun-ext}
 use mathlib.Core.Logic.{_≢_}
@@ -18,12 +17,13 @@ use Rattle.grid.proofs.Geometry.{limits, borderCount-le}
 use Rattle.ledger.specs.Books.{book, bookHolds}
 use Rattle.ledger.specs.Marks.{LentBook, givenIn}
 use Rattle.rooms.specs.Rooms.{isGiven}
-use Rattle.rooms.specs.Lent.{unmarked, puts, Given}
-use Rattle.rooms.proofs.PutLaws.{puts-length, marks-at, unmarked-length}
+use Rattle.rooms.specs.Lent.{puts, Given, Blank}
+use Rattle.rooms.proofs.PutLaws.{puts-length, marks-in}
+use Rattle.clues.specs.Clues.{listsCode}
+use Rattle.clues.proofs.Fitting.{lists-fit}
+use Rattle.room_checks.specs.RoomChecks.{Finding}
 use Rattle.puzzle.specs.declared.Puzzle.{Puzzle}
-use Rattle.puzzle.specs.Lists.{Finding}
-use Rattle.puzzle.specs.Puzzle.{listsCode, gridOf, bookOf, bordersOf, givenOf, cluesOf, together, puzzleCode}
-use Rattle.puzzle.proofs.Making.{lists-fit}
+use Rattle.puzzle.specs.Puzzle.{gridOf, bookOf, bordersOf, givenOf, cluesOf, together, puzzleCode}
 
 -- a puzzle that questions 1 and 2 accept
 pub record Ready (p : Puzzle) : Type 0 where
@@ -77,22 +77,22 @@ module _ (p : Puzzle) where
       go false s b q z = absurd (omega arith)
 
 -- THE MARKS of given walls
-module _ (g : Grid) (given : List ℕ) (w : Given g given) where
-  marks-given : givenIn (puts given 1 unmarked) ≡ isGiven given
-  marks-given = fun-ext (λ e. ap (λ x. eqb x 1) (marks-at g given w 1 e) ∙ go (isGiven given e))
+module _ (g : Grid) (given : List ℕ) (w : Given g given) {xs : List ℕ} (b : Blank g xs) where
+  marks-given : givenIn (puts given 1 xs) ≡ isGiven given
+  marks-given = fun-ext (λ e. ap (λ x. eqb x 1) (marks-in g given w b 1 e) ∙ go (isGiven given e))
     where
       go : (t : Bool) → eqb (pick t 1 0) 1 ≡ t
       go true = refl
       go false = refl
 
-  pub marks-lent : (n : ℕ) (s l m : List ℕ) → n ≡ borderCount g → m ≡ puts given 1 unmarked → length s ≡ mostBorders → length l ≡ mostBorders → LentBook n s l m
+  pub marks-lent : (n : ℕ) (s l m : List ℕ) → n ≡ borderCount g → m ≡ puts given 1 xs → length s ≡ mostBorders → length l ≡ mostBorders → LentBook n s l m
   marks-lent n s l m k e p q =
       let few = borderCount-le g (w .limits) in
       record {
         states-long = omega arith;
         names-long = omega arith;
-        marks-long = omega (arith, ap length e, puts-length given 1 unmarked, unmarked-length);
-        marks-given = λ x. rw (e, marks-at g given w 1 x) (go (isGiven given x));
+        marks-long = omega (arith, ap length e, puts-length given 1 xs, b .long);
+        marks-given = λ x. rw (e, marks-in g given w b 1 x) (go (isGiven given x));
       }
     where
       go : (t : Bool) → pick t 1 0 ≤ 1
@@ -100,7 +100,7 @@ module _ (g : Grid) (given : List ℕ) (w : Given g given) where
       go false = omega arith
 
   -- the test by marks
-  pub by-marks : (n : ℕ) (s l m : List ℕ) (len : ℕ) (t : Bool) → n ≡ borderCount g → m ≡ puts given 1 unmarked → t ≡ bookHolds n (givenIn m) (book s l len)
+  pub by-marks : (n : ℕ) (s l m : List ℕ) (len : ℕ) (t : Bool) → n ≡ borderCount g → m ≡ puts given 1 xs → t ≡ bookHolds n (givenIn m) (book s l len)
       → t ≡ bookHolds (borderCount g) (isGiven given) (book s l len)
   by-marks n s l m len t p q k = k ∙ rw (p, q, marks-given)
 

@@ -1,5 +1,4 @@
--- What an ask finds on a puzzle whose borders have these states (SPEC 4.15).
--- Assumes nothing.
+-- What an ask finds on a puzzle whose borders have these states (SPEC 4.15). Assumes nothing.
 use Prim.Native.Nat.{ℕ}
 use mathlib.Core.List.{List}
 use mathlib.Core.Option.{Option, none, some}

@@ -1,6 +1,5 @@
--- Defined here: what the checks find on given states (`Fault`); what making, decide, undo and ask answer, by the questions of SPEC 3 (`Puzzle`);
--- what the functions over a puzzle's lists ask and promise (`Lists`).
+-- Defined here: what the checks find on given states (`Fault`); what making, decide, undo and ask answer, by the questions of SPEC 3 (`Puzzle`).
+-- The questions that are put to a making's lists stand in crate clues, the counts of the rooms in crate room_checks.
 -- Proved in proofs/: each function answers as defined, by laws over plain values. Lists of calls and demand 3 stand in crate demand_3.
 pub mod Fault
 pub mod Puzzle
-pub mod Lists

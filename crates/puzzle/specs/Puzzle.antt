@@ -1,17 +1,17 @@
--- What a puzzle's making, decide, undo and ask answer (SPEC 1.7, 3 and 4.15).
--- Assumes nothing.
+-- What a puzzle's making, decide, undo and ask answer (SPEC 1.7, 3 and 4.15). Assumes nothing.
 use Prim.Native.Nat.{ℕ, zero, suc, _*_}
-use mathlib.Core.Bool.{Bool, true}
-use mathlib.Core.List.{List, [], _∷_, map}
+use mathlib.Core.Path.{_≡_}
+use mathlib.Core.Bool.{Bool}
+use mathlib.Core.List.{List, map}
 use mathlib.Core.Option.{Option, none, some}
-use lib.Dec.{eqb, ltb, leb}
+use lib.Dec.{eqb, leb}
 use lib.ListN.{length, take, replicate}
 use lib.Seq.{sets}
-use Rattle.lists.specs.Choice.{both, either, pick}
-use Rattle.lists.specs.Lists.{range, all}
+use Rattle.lists.specs.Choice.{both, pick}
+use Rattle.lists.specs.Lists.{range}
 use Rattle.grid.specs.declared.Grid.{Grid}
 use Rattle.grid.specs.Grid.{grid, sizesOk, cells, borderCount}
-use Rattle.limits.specs.Limits.{mostBorders, mostCells, noClue}
+use Rattle.limits.specs.Limits.{mostBorders, mostCells}
 use Rattle.ledger.specs.declared.Book.{Book}
 use Rattle.ledger.specs.Ledger.{decideCode, undoCode, firstCode}
 use Rattle.ledger.specs.Books.{zeros, book, freshBook, stateAt, bookHolds, placed, taken}
@@ -21,36 +21,9 @@ use Rattle.puzzle.specs.declared.Puzzle.{Puzzle}
 use Rattle.puzzle.specs.declared.Made.{Made}
 use Rattle.puzzle.specs.declared.Answer.{Answer}
 use Rattle.puzzle.specs.declared.Answer.the-variants.{Clear, Fault, Refused}
-use Rattle.rooms.specs.Rooms.{isGiven, roomCount, roomCells, clueOf}
+use Rattle.rooms.specs.Rooms.{isGiven}
+use Rattle.clues.specs.Clues.{listsCode}
 use Rattle.puzzle.specs.Fault.{Found, faultOf}
-
--- THE QUESTIONS that a making puts to its lists
--- question 3 (SPEC 3.3): every given wall exists
-abbrev pub exist : Grid → List ℕ → Bool
-exist g given = all (λ e. ltb e (borderCount g)) given
-
--- question 7 (SPEC 3.7)
-unfoldable pub rises : List ℕ → Bool
-rises [] = true
-rises (x ∷ []) = true
-rises (x ∷ y ∷ l) = both (ltb x y) (rises (y ∷ l))
-
--- question 8 (SPEC 3.8)
-abbrev pub oneEach : Grid → List ℕ → List ℕ → Bool
-oneEach g given clues = eqb (length clues) (roomCount g given)
-
--- question 9 (SPEC 3.9)
-abbrev pub fitsRoom : Grid → List ℕ → List ℕ → ℕ → Bool
-fitsRoom g given clues r = either (eqb (clueOf clues r) noClue) (leb (clueOf clues r) (length (roomCells g given r)))
-
-unfoldable pub cluesFit : Grid → List ℕ → List ℕ → Bool
-unfolding all range
-cluesFit g given clues = all (fitsRoom g given clues) (range (roomCount g given))
-
--- the number of the question, 3, 7, 8 or 9, that refuses these lists, or 0
-unfoldable pub listsCode : Grid → List ℕ → List ℕ → ℕ
-unfolding rises cluesFit all roomCount
-listsCode g given clues = pick (exist g given) (pick (rises given) (pick (oneEach g given clues) (pick (cluesFit g given clues) 0 9) 8) 7) 3
 
 -- MAKING
 -- the states of the borders below n, where border e has the state s e
@@ -120,6 +93,13 @@ together p =
 abbrev pub puzzleCode : Puzzle → ℕ
 puzzleCode p = pick (sizesOk (gridOf p)) (pick (together p) 0 2) 1
 
+-- the arrays of a puzzle's record
+pub record Arrays (states names given clues : List ℕ) : Type 0 where
+  pub states-long : length states ≡ mostBorders
+  pub names-long : length names ≡ mostBorders
+  pub given-long : length given ≡ mostBorders
+  pub clues-long : length clues ≡ mostCells
+
 -- a puzzle by its numbers and its arrays
 abbrev pub puzzleOf : Counts → List ℕ → List ℕ → List ℕ → List ℕ → Puzzle
 puzzleOf z states names given clues =
@@ -135,12 +115,18 @@ abbrev pub answered : Puzzle → ℕ → Book → Made
 answered p n b = pick (eqb n 0) (answer 0 (onto p b)) (answer n p)
 
 -- questions 1, 2, 3 and 4 (SPEC 3): the border exists, and is undecided
+abbrev pub decideNumber : Puzzle → ℕ → ℕ
+decideNumber p e = firstCode (puzzleCode p) (decideCode (bordersOf p) (stateAt (bookOf p .states)) e)
+
 abbrev pub decideOf : Puzzle → ℕ → Bool → Made
-decideOf p e wall = answered p (firstCode (puzzleCode p) (decideCode (bordersOf p) (stateAt (bookOf p .states)) e)) (placed (bookOf p) e wall)
+decideOf p e wall = answered p (decideNumber p e) (placed (bookOf p) e wall)
 
 -- questions 1, 2 and 5: the ledger names a border
+abbrev pub undoNumber : Puzzle → ℕ
+undoNumber p = firstCode (puzzleCode p) (undoCode (bookOf p .len))
+
 abbrev pub undoOf : Puzzle → Made
-undoOf p = answered p (firstCode (puzzleCode p) (undoCode (bookOf p .len))) (taken (bookOf p))
+undoOf p = answered p (undoNumber p) (taken (bookOf p))
 
 -- ASKS
 -- what an ask finds on the puzzle as it stands

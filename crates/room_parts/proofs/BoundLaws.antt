@@ -1,6 +1,5 @@
 -- Bounds of the parts: each edge takes one part at most; and a marked vertex is joined to an earlier one and begins no part, so that no more
--- parts begin than vertices have no mark.
--- Assumes nothing.
+-- parts begin than vertices have no mark. Assumes nothing.
 use Prim.Native.Nat.{ℕ, zero, suc, _+_, _-_, _≤_, _<_}
 use mathlib.Core.Path.{_≡_, refl, sym}
 use mathlib.Core.Logic.{_≢_, ⊎-elim}

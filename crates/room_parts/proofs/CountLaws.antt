@@ -1,5 +1,4 @@
--- The count by a union: what is left is the number of parts that the edges so far make, and it has not gone below the count.
--- Assumes nothing.
+-- The count by a union: what is left is the number of parts that the edges so far make, and it has not gone below the count. Assumes nothing.
 use Prim.Native.Nat.{ℕ, _+_, _-_, _≤_, _<_}
 use mathlib.Core.Path.{_≡_, refl, sym, ap, _∙_}
 use mathlib.Core.Logic.{⊎-elim}

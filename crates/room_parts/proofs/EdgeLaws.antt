@@ -1,5 +1,4 @@
--- The edges of a graph whose states pass: which they are, one edge more, and fewer parts with more of them.
--- Assumes nothing.
+-- The edges of a graph whose states pass: which they are, one edge more, and fewer parts with more of them. Assumes nothing.
 use Prim.Native.Nat.{ℕ, zero, suc, _+_, _≤_, _<_}
 use mathlib.Core.Path.{_≡_, refl, sym, ap}
 use mathlib.Core.Logic.{inl, inr, ⊎-elim}

@@ -1,5 +1,4 @@
--- The edges of a graph without its Walls, linked one after the other.
--- Assumes nothing.
+-- The edges of a graph without its Walls, linked one after the other. Assumes nothing.
 use Prim.Native.Nat.{ℕ, zero, suc, _+_, _≤_, _<_}
 use mathlib.Core.Path.{_≡_, refl, ap}
 use mathlib.Core.Logic.{_≢_}

@@ -1,5 +1,4 @@
--- Room graphs (SPEC 1.8) and the two counts of the room check (SPEC 4.14).
--- Assumes nothing.
+-- Room graphs (SPEC 1.8) and the two counts of the room check (SPEC 4.14). Assumes nothing.
 use Prim.Native.Nat.{ℕ, zero, suc, _+_, _≤_, _<_}
 use mathlib.Core.Bool.{Bool, not}
 use mathlib.Core.List.{List, [], _∷_}

@@ -1,5 +1,4 @@
--- One look from a cell of a room: a law for each way out, the places that are read, and what the answer tells.
--- Assumes nothing.
+-- One look from a cell of a room: a law for each way out, the places that are read, and what the answer tells. Assumes nothing.
 use Prim.Native.Nat.{ℕ, _<_}
 use mathlib.Core.Path.{_≡_, refl, sym, _∙_}
 use mathlib.Core.Logic.{_⊎_, _≢_, ⊎-elim}

@@ -1,5 +1,4 @@
--- The edges of a room, gone through in two looks a cell: what is left to write, written behind what is written, gives the whole.
--- Assumes nothing.
+-- The edges of a room, gone through in two looks a cell: what is left to write, written behind what is written, gives the whole. Assumes nothing.
 use Prim.Native.Nat.{ℕ, suc, _+_, _*_, _/_, _%_, _≤_, _<_}
 use mathlib.Core.Path.{_≡_, refl, ap, _∙_}
 use mathlib.Core.Logic.{_≢_, ⊎-elim}

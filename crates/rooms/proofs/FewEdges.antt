@@ -1,5 +1,4 @@
--- A room has at most as many edges as the board has borders: no two of its edges have one border.
--- Assumes nothing.
+-- A room has at most as many edges as the board has borders: no two of its edges have one border. Assumes nothing.
 use Prim.Native.Nat.{ℕ, _+_, _≤_, _<_}
 use mathlib.Core.Path.{_≡_, refl, ap, sym, _∙_, subst}
 use mathlib.Core.Logic.{inl, inr, _≢_, ⊎-elim}

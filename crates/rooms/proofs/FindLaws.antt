@@ -1,5 +1,4 @@
--- The count of a room over slices: the graph and the states in longer arrays fail on the same side. What is listed then is the room's list.
--- Assumes nothing.
+-- The count of a room over slices: the graph and the states in longer arrays fail on the same side. What is listed then is the room's list. Assumes nothing.
 use Prim.Native.Nat.{ℕ, zero, suc, _+_, _*_, _/_, _%_, _≤_, _<_}
 use mathlib.Core.Path.{_≡_, refl, ap, sym, _∙_}
 use mathlib.Core.Bool.{Bool, true, false}

@@ -1,5 +1,4 @@
--- A room's cells, with marks and states for the board's borders: what is read is there, and what a look over the vertices tells.
--- Assumes nothing.
+-- A room's cells, with marks and states for the board's borders: what is read is there, and what a look over the vertices tells. Assumes nothing.
 use Prim.Native.Nat.{ℕ, _+_, _*_, _/_, _≤_, _<_}
 use mathlib.Core.Path.{_≡_, ap, sym, _∙_}
 use mathlib.Core.Logic.{_⊎_}

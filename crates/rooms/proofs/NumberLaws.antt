@@ -1,5 +1,4 @@
--- Each cell's vertex, from 1: the loop that writes it, and what stands at each cell then.
--- Assumes nothing.
+-- Each cell's vertex, from 1: the loop that writes it, and what stands at each cell then. Assumes nothing.
 use Prim.Native.Nat.{ℕ, suc, _+_, _≤_, _<_}
 use mathlib.Core.Path.{_≡_, refl, ap, sym, _∙_}
 use mathlib.Core.Logic.{inl, inr, _≢_, ⊎-elim}

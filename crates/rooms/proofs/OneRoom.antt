@@ -1,44 +1,32 @@
--- Without given walls a board is one room: its cells are all joined.
--- Assumes nothing.
-use Prim.Native.Nat.{ℕ, zero, suc, _+_, _-_, _*_, _≤_, _<_}
+-- Without given walls a board is one room: its cells are all joined. Assumes nothing.
+use Prim.Native.Nat.{ℕ, zero, suc, _-_, _*_, _≤_, _<_}
 use mathlib.Core.Path.{_≡_, refl, ap, sym, _∙_}
 use mathlib.Core.Logic.{inl, inr, ⊎-elim}
 use mathlib.Core.Bool.{Bool, true, not}
-use mathlib.Core.List.{List, [], _∷_, append-nil}
+use mathlib.Core.List.{List, [], _∷_}
 use native.Mathlib.Omega.{arith}
-use native.Mathlib.Numerals.{add-one}
-use native.Mathlib.Nat.{div-add-mod', sub-zero, mul-le-mul}
+use native.Mathlib.Nat.{div-add-mod', mul-le-mul}
 use borrow.Author.Tests.{eq-eqb, le-leb}
 use lib.Dec.{eqb}
-use lib.ListN.{length, getD, set}
-use lib.Seq.{sets}
+use lib.ListN.{length, getD, set, replicate, length-replicate, getD-replicate}
+use lib.Seq.{sets, ext-getD}
 use Rattle.lists.specs.Choice.{when}
-use Rattle.lists.specs.Lists.{In, any, countFrom, range, keep, gather}
+use Rattle.lists.specs.Lists.{In, any, countFrom, range, keep}
 use Rattle.lists.proofs.Cases.{le-or-lt}
-use Rattle.lists.proofs.ListLaws.{countFrom-step, countFrom-end, in-range}
+use Rattle.lists.proofs.ListLaws.{in-range, range-length}
 use Rattle.frame.specs.Frame.{Chain, here, on}
 use Rattle.grid.specs.declared.Direction.{Direction}
 use Rattle.grid.specs.declared.Direction.the-variants.{Up, Left}
 use Rattle.grid.specs.declared.Grid.{Grid}
 use Rattle.grid.specs.Grid.{Limits, cells, Cell, row, col, goesOn, next, border}
 use Rattle.grid.proofs.Geometry.{goes-step, step-back}
+use Rattle.parts.proofs.PartLists.{parts-length}
 use Rattle.groups.specs.Groups.{cellsIn}
-use Rattle.groups.specs.Turn.{inTurn, startOf, startsOf}
+use Rattle.groups.specs.Turn.{sizesOf}
 use Rattle.groups.proofs.GroupLaws.{Passing}
-use Rattle.rooms.specs.Rooms.{isGiven, roomIds, roomCount}
+use Rattle.rooms.specs.Rooms.{isGiven, roomEdges, roomIds, roomCount}
 use Rattle.rooms.specs.Lent.{Roomed}
 use Rattle.rooms.proofs.RoomLaws.{room-labels}
-
--- the loop that counts the cells up
-pub count-turn : (n i : ℕ) (xs : List ℕ) → i < n → sets xs i (countFrom i (n - i)) ≡ sets (set xs i i) (i + 1) (countFrom (i + 1) (n - (i + 1)))
-count-turn n i xs h = rw (countFrom-step n i h, add-one)
-
-pub count-end : (n i : ℕ) (xs : List ℕ) → n ≤ i → sets xs i (countFrom i (n - i)) ≡ xs
-count-end n i xs h = rw (countFrom-end n i h)
-
-pub count-start : (n : ℕ) (xs : List ℕ) → sets xs 0 (countFrom 0 (n - 0)) ≡ sets xs 0 (range n)
-unfolding range
-count-start n xs = rw (sub-zero n)
 
 keep-all : (p : ℕ → Bool) (xs : List ℕ) → ((x : ℕ) → In x xs → p x ≡ true) → keep p xs ≡ xs
 unfolding keep when
@@ -93,16 +81,17 @@ module _ (g : Grid) (limits : Limits g) where
   unfolding cellsIn
   every-cell = keep-all (λ c. eqb (getD (roomIds g []) c 0) 0) (range (cells g)) (λ c m. eq-eqb _ 0 (room-zero c (in-range (cells g) c m)))
 
-  in-turn : inTurn (cells g) (roomIds g []) 1 ≡ range (cells g)
-  unfolding inTurn gather range countFrom
-  in-turn = rw (append-nil (cellsIn (cells g) (roomIds g []) 0)) every-cell
+  ids-zero : roomIds g [] ≡ replicate (cells g) 0
+  ids-zero =
+      let n : length (roomIds g []) ≡ cells g = (unfold roomIds in parts-length (cells g) (roomEdges g [])) in
+      ext-getD 0 (roomIds g []) (replicate (cells g) 0) (n ∙ sym (length-replicate (cells g) 0))
+      (λ c h. let l : Cell g c = omega arith in room-zero c l ∙ sym (getD-replicate (cells g) c 0 0 l))
 
-  starts-zero : startsOf (cells g) (roomIds g []) 1 ≡ 0 ∷ []
-  unfolding startsOf startOf inTurn gather range countFrom
-  starts-zero = refl
+  one-size : sizesOf (cells g) (roomIds g []) 1 ≡ cells g ∷ []
+  unfolding sizesOf range countFrom
+  one-size = ap (λ (n : ℕ). n ∷ []) (ap length every-cell ∙ range-length (cells g))
 
   -- THE LAW
-  pub one-roomed : (given starts flat flat' : List ℕ) → length given ≡ 0 → flat' ≡ sets flat 0 (range (cells g)) → Roomed g given starts flat (set starts 0 0) flat' 1
-  one-roomed [] starts flat flat' z q =
-      record { count-is = sym one-room; starts-are = rw (one-room, starts-zero); flat-is = rw (one-room, in-turn) q }
-  one-roomed (x ∷ given) starts flat flat' z q = absurd (omega arith)
+  pub one-roomed : (given ids sizes ids' : List ℕ) → length given ≡ 0 → ids' ≡ sets ids 0 (replicate (cells g) 0) → Roomed g given ids sizes ids' (set sizes 0 (cells g)) 1
+  one-roomed [] ids sizes ids' z q = record { count-is = sym one-room; ids-are = rw ids-zero q; sizes-are = rw (one-room, one-size) }
+  one-roomed (x ∷ given) ids sizes ids' z q = absurd (omega arith)

@@ -1,5 +1,4 @@
--- Places in lists: of a member, in rising lists, and through functions; lists with the same members, none twice, are equally long.
--- Assumes nothing.
+-- Places in lists: of a member, in rising lists, and through functions; lists with the same members, none twice, are equally long. Assumes nothing.
 use Prim.Native.Nat.{ℕ, zero, suc, _≤_, _<_}
 use mathlib.Core.Path.{_≡_, refl, ap, sym, _∙_}
 use mathlib.Core.Logic.{inl, inr, _≢_, ⊎-elim}
@@ -20,11 +19,6 @@ use Rattle.groups.specs.Groups.{cellsIn, cellsOf}
 use Rattle.rooms.specs.RoomGraph.{place}
 
 -- THROUGH FUNCTIONS
-pub map-at : (s : ℕ → ℕ) (l : List ℕ) (e : ℕ) → e < length l → getD (map s l) e 0 ≡ s (getD l e 0)
-map-at s [] e h = omega arith
-map-at s (x ∷ l) zero h = refl
-map-at s (x ∷ l) (suc e) h = map-at s l e (omega arith)
-
 module _ {A : Type 0} where
   -- the member at a place, as every function sees it
   pub at-place : (xs : List A) (i : ℕ) → i < length xs → (x : A) × In x xs × ((f : A → ℕ) → getD (map f xs) i 0 ≡ f x)

@@ -1,6 +1,5 @@
--- Rooms are told apart by their numbers, and a room's edges are exactly the borders inside it that are not given.
--- Assumes nothing.
-use Prim.Native.Nat.{ℕ}
+-- Rooms are told apart by their numbers, and a room's edges are exactly the borders inside it that are not given. Assumes nothing.
+use Prim.Native.Nat.{ℕ, _≤_}
 use mathlib.Core.Path.{_≡_, refl, ap, sym, _∙_}
 use mathlib.Core.Logic.{⊎-elim}
 use mathlib.Core.Bool.{true, false, not}
@@ -21,6 +20,7 @@ use Rattle.grid.specs.Grid.{cells, Cell, goesOn, next, border}
 use Rattle.grid.specs.Steps.{Step, Neighbours}
 use Rattle.grid.proofs.Geometry.{goes-step, step-goes, step-next}
 use Rattle.grid.specs.Orders.{forward}
+use Rattle.parts.proofs.PartLaws.{begun-small}
 use Rattle.parts.proofs.PartLists.{begun-at}
 use Rattle.groups.proofs.GroupLaws.{Labels, Passing, in-cells, cells-in, edges-within, part-labels}
 use Rattle.rooms.specs.Rooms.{isGiven, roomEdges, roomIds, roomCount, roomCells}
@@ -51,6 +51,13 @@ pub room-labels : (g : Grid) (given : List ℕ) → Labels g (roomIds g given) (
 unfolding roomIds roomCount
 room-labels g given =
     rw (begun-at (cells g) (roomEdges g given) (cells g) (edges-within g (λ e. not (isGiven given e))) (omega arith)) (part-labels g (λ e. not (isGiven given e)))
+
+-- no board has more rooms than cells
+pub rooms-few : (g : Grid) (given : List ℕ) → roomCount g given ≤ cells g
+unfolding roomCount
+rooms-few g given =
+    let E = roomEdges g given in
+    omega (arith, begun-at (cells g) E (cells g) (edges-within g (λ e. not (isGiven given e))) (omega arith), begun-small E (cells g))
 
 -- given walls part rooms wholly: over a Connected border, which is no given wall, lies the same room
 pub same-room : (g : Grid) (given : List ℕ) (s : States) → GivenWalls given s → (a c e : ℕ) → Neighbours g a c e → s e ≡ 1

@@ -1,5 +1,4 @@
--- The parts of a room's graph are the units in the room: where the given walls are Wall, a count of the one is a count of the other.
--- Assumes nothing.
+-- The parts of a room's graph are the units in the room: where the given walls are Wall, a count of the one is a count of the other. Assumes nothing.
 use Prim.Native.Nat.{ℕ, zero, suc, _+_, _≤_, _<_}
 use mathlib.Core.Path.{_≡_, refl, ap, sym, _∙_}
 use mathlib.Core.Logic.{⊎-elim, _↔_}
@@ -13,7 +12,7 @@ use Rattle.lists.specs.Choice.{pick, when}
 use Rattle.lists.specs.Lists.{In, keep}
 use Rattle.lists.proofs.Cases.{le-or-lt}
 use Rattle.lists.proofs.ChoiceLaws.{same-truth}
-use Rattle.lists.proofs.ListLaws.{getD-in, in-keep, keep-in}
+use Rattle.lists.proofs.ListLaws.{getD-in, in-keep, keep-in, map-at}
 use Rattle.frame.specs.Frame.{Chain, here, on, Link, States, SameUnit}
 use Rattle.frame.proofs.Chains.{chain-map}
 use Rattle.grid.specs.declared.Grid.{Grid}
@@ -30,7 +29,7 @@ use Rattle.rooms.specs.Rooms.{isGiven, roomIds, roomCells}
 use Rattle.rooms.specs.RoomGraph.{Spot, spots, place, fromOf, intoOf, borderOf, roomGraph, roomBorders, edgeState}
 use Rattle.rooms.specs.Units.{InRoom, GivenWalls, HoldsUnits}
 use Rattle.room_parts.proofs.EdgeLaws.{in-edges, edges-in}
-use Rattle.rooms.proofs.Places.{map-at, at-place, place-at, in-map, map-in, Rising, cells-rising, kept-rising, place-of, rising-place, once, no-longer}
+use Rattle.rooms.proofs.Places.{at-place, place-at, in-map, map-in, Rising, cells-rising, kept-rising, place-of, rising-place, once, no-longer}
 use Rattle.rooms.proofs.RoomLaws.{same-room, in-room-cells, room-cells-in, Inside, spot-inside, inside-spot}
 
 -- COUNTING PARTS BY THEIR FIRST VERTICES

@@ -1,6 +1,5 @@
 -- THE THEOREMS of a room's count on a board, where border e has the state s e: its list, in board border numbers, stands as listed; wherever
--- it stands there is a fault; on a full board with the given walls it is clear exactly if the room holds as many units as counted.
--- Assumes nothing.
+-- it stands there is a fault; on a full board with the given walls it is clear exactly if the room holds as many units as counted. Assumes nothing.
 use Prim.Native.Nat.{ℕ, _+_, _*_, _/_, _%_, _≤_, _<_}
 use mathlib.Core.Path.{_≡_, ap, sym, _∙_}
 use mathlib.Core.Logic.{_⊎_, ⊎-elim, _↔_}

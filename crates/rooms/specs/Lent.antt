@@ -1,5 +1,4 @@
--- What the functions over lent slices ask and promise.
--- Assumes nothing.
+-- What the functions over lent slices ask and promise. Assumes nothing.
 use Prim.Native.Nat.{ℕ, suc, _≤_, _<_}
 use mathlib.Core.Path.{_≡_}
 use mathlib.Core.Bool.{Bool, not}
@@ -12,7 +11,7 @@ use Rattle.lists.specs.Lists.{In}
 use Rattle.grid.specs.declared.Grid.{Grid}
 use Rattle.grid.specs.Grid.{Limits, Cell, cells, borderCount}
 use Rattle.groups.specs.Groups.{cellsOf}
-use Rattle.groups.specs.Turn.{inTurn, startsOf}
+use Rattle.groups.specs.Turn.{sizesOf}
 use Rattle.rooms.specs.Rooms.{roomIds, roomCount}
 use Rattle.rooms.specs.RoomGraph.{spots, fromOf, intoOf, borderOf}
 
@@ -45,16 +44,21 @@ pub record Given (g : Grid) (given : List ℕ) : Type 0 where
   pub limits : Limits g
   pub below : Below (borderCount g) given
 
--- a place for each cell in both slices
-pub record Places (g : Grid) (starts flat : List ℕ) : Type 0 where
-  pub starts-long : cells g ≤ length starts
-  pub flat-long : cells g ≤ length flat
+-- a place for each border, and 0 in all places
+pub record Blank (g : Grid) (xs : List ℕ) : Type 0 where
+  pub long : borderCount g ≤ length xs
+  pub zeros : (e : ℕ) → getD xs e 0 ≡ 0
 
--- each room's start and the cells of all rooms in turn stand at the fronts of the slices; `count` is how many rooms there are
-pub record Roomed (g : Grid) (given starts flat starts' flat' : List ℕ) (count : ℕ) : Type 0 where
+-- a place for each cell in both slices
+pub record Places (g : Grid) (ids sizes : List ℕ) : Type 0 where
+  pub ids-long : cells g ≤ length ids
+  pub sizes-long : cells g ≤ length sizes
+
+-- each cell's room and each room's size stand at the fronts of the slices; `count` is how many rooms there are
+pub record Roomed (g : Grid) (given ids sizes ids' sizes' : List ℕ) (count : ℕ) : Type 0 where
   pub count-is : count ≡ roomCount g given
-  pub starts-are : starts' ≡ sets starts 0 (startsOf (cells g) (roomIds g given) (roomCount g given))
-  pub flat-is : flat' ≡ sets flat 0 (inTurn (cells g) (roomIds g given) (roomCount g given))
+  pub ids-are : ids' ≡ sets ids 0 (roomIds g given)
+  pub sizes-are : sizes' ≡ sets sizes 0 (sizesOf (cells g) (roomIds g given) (roomCount g given))
 
 -- not 0 at the place: a border's mark, or a cell's vertex
 abbrev pub markedIn : List ℕ → ℕ → Bool

@@ -1,5 +1,4 @@
--- A room's graph (SPEC 1.8). `cs` are the room's cells in row order; `given e` says whether border e is a given wall.
--- Assumes nothing.
+-- A room's graph (SPEC 1.8). `cs` are the room's cells in row order; `given e` says whether border e is a given wall. Assumes nothing.
 use Prim.Native.Nat.{ℕ, suc, _+_, _*_, _/_, _%_}
 use mathlib.Core.Bool.{Bool, true, false, not}
 use mathlib.Core.List.{List, [], _∷_, map}

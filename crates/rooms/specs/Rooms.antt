@@ -1,5 +1,4 @@
--- Given walls, rooms and clues (SPEC 1.7). A puzzle's constants are its grid, its given walls and its clues.
--- Assumes nothing.
+-- Given walls, rooms and clues (SPEC 1.7). A puzzle's constants are its grid, its given walls and its clues. Assumes nothing.
 use Prim.Native.Nat.{ℕ}
 use mathlib.Core.Bool.{Bool, not}
 use mathlib.Core.List.{List}

@@ -1,5 +1,4 @@
--- Which cells a room has, and how many units it holds. s e is the state of border e.
--- Assumes nothing.
+-- Which cells a room has, and how many units it holds. s e is the state of border e. Assumes nothing.
 use Prim.Native.Nat.{ℕ, _<_}
 use mathlib.Core.Path.{_≡_}
 use mathlib.Core.Bool.{true}

@@ -6,14 +6,13 @@ ghost use lib.Dec.{eqb};
 ghost use lib.ListN.{length};
 ghost use lib.Seq.{sets};
 ghost use Rattle.lists.specs.Choice.{pick};
-ghost use Rattle.lists.specs.Lists.{range};
 ghost use Rattle.limits.specs.Limits.{mostCells};
 ghost use Rattle.grid.specs.declared.Direction.the-variants.{Down, Right};
 ghost use Rattle.grid.specs.Grid.{next, border};
 ghost use Rattle.grid.specs.declared.Beyond.the-variants.{At, End};
 ghost use Rattle.borders.specs.Border.{stateOf};
 ghost use Rattle.rooms.specs.RoomGraph.{inRoom, roomGraph, roomBorders, edgeState, sideOf, kindOf, roomEntries};
-ghost use Rattle.rooms.specs.Lent.{puts, numbered, Below, Given, Places, Roomed, markedIn, Looking, Housed, Space, Written};
+ghost use Rattle.rooms.specs.Lent.{puts, numbered, Below, Given, Blank, Places, Roomed, markedIn, Looking, Housed, Space, Written};
 use grid::Beyond;
 use grid::Direction;
 use grid::Grid;
@@ -38,35 +37,37 @@ pub fn put(given: &[u16], v: u8, xs: &mut [u8])
     }
 }
 
-// Writes the first n numbers to the slice's front.
-fn count_up(n: usize, flat: &mut [u16])
-    requires { ⌜ (n ≤ mostCells) × (n ≤ length (now flat)) ⌝ }
-    ensures { λ _. ⌜ now (flat .exit) ≡ sets (now (flat .entry)) 0 (range n) ⌝ }
+// The rooms, with a place for each border that the caller lends.
+fn rooms_in(g: Grid, given: &[u16], walls: &mut [u8], ids: &mut [u16], sizes: &mut [u16]) -> usize
+    requires { ⌜ Given g (now given) ⌝ }
+    requires { ⌜ Blank g (now walls) ⌝ }
+    requires { ⌜ Places g (now ids) (now sizes) ⌝ }
+    ensures { λ r.
+        ⌜ Roomed g (now (given .entry)) (now (ids .entry)) (now (sizes .entry)) (now (ids .exit)) (now (sizes .exit)) r ⌝ }
 {
-    let mut i = 0;
-    while i < n {
-        flat[i] = i as u16;
-        i += 1;
-    }
+    put(given, 2, walls);
+    groups::group_sizes(g, walls, true, ids, sizes)
 }
 
-// Writes each room's start to `starts` and the cells of all rooms in turn to `flat`; returns how many rooms there are. Without given walls
-// there is one, with every cell.
-pub fn rooms_of(g: Grid, given: &[u16], starts: &mut [u16], flat: &mut [u16]) -> usize
+// Writes each cell's room to `ids` and each room's size to `sizes`; returns how many rooms there are. Without given walls there is one, with
+// every cell.
+pub fn rooms_of(g: Grid, given: &[u16], ids: &mut [u16], sizes: &mut [u16]) -> usize
     requires { ⌜ Given g (now given) ⌝ }
-    requires { ⌜ Places g (now starts) (now flat) ⌝ }
-    ensures { λ r.
-        ⌜ Roomed g (now (given .entry)) (now (starts .entry)) (now (flat .entry)) (now (starts .exit)) (now (flat .exit)) r ⌝ }
+    requires { ⌜ Places g (now ids) (now sizes) ⌝ }
+    ensures { λ r. ⌜ Roomed g (now (given .entry)) (now (ids .entry)) (now (sizes .entry)) (now (ids .exit)) (now (sizes .exit)) r ⌝ }
 {
     if given.len() == 0 {
-        starts[0] = 0;
-        count_up(g.height * g.width, flat);
+        let n = g.height * g.width;
+        lists::fill(ids, n, 0);
+        sizes[0] = n as u16;
         return 1;
     }
+    if grid::is_small(g) {
+        let mut walls = [0u8; 256];
+        return rooms_in(g, given, &mut walls, ids, sizes);
+    }
     let mut walls = [0u8; limits::BORDERS];
-    put(given, 2, &mut walls);
-    let mut ids = [0u16; limits::CELLS];
-    groups::groups_of(g, &walls, true, &mut ids, starts, flat)
+    rooms_in(g, given, &mut walls, ids, sizes)
 }
 
 // Each cell of the room gets its vertex, counted from 1; the others stay.

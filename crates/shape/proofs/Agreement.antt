@@ -1,5 +1,4 @@
--- The check's answer depends on the board's borders alone: two records with the same borders standing are answered alike, list included.
--- Assumes nothing.
+-- The check's answer depends on the board's borders alone: two records with the same borders standing are answered alike, list included. Assumes nothing.
 use Prim.Native.Nat.{ℕ}
 use mathlib.Core.Path.{_≡_, ap, ap₂, _∙_}
 use mathlib.Core.Bool.{Bool, true, false, not}

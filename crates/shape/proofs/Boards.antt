@@ -1,5 +1,4 @@
--- Full boards that are right, and one that is not: the laws say something both ways.
--- Assumes nothing.
+-- Full boards that are right, and one that is not: the laws say something both ways. Assumes nothing.
 use Prim.Native.Nat.{zero, suc}
 use mathlib.Core.Path.{refl}
 use mathlib.Core.Logic.{inl, inr}

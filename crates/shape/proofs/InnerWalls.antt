@@ -1,5 +1,4 @@
--- The first stage: its list stands, and stands on no board without a Wall inside a unit; where it finds nothing there is none.
--- Assumes nothing.
+-- The first stage: its list stands, and stands on no board without a Wall inside a unit; where it finds nothing there is none. Assumes nothing.
 use Prim.Native.Nat.{ℕ}
 use mathlib.Core.Path.{_≡_, refl, ap, _∙_, subst}
 use mathlib.Core.Logic.{inl, ⊎-elim}

@@ -1,6 +1,5 @@
 -- The check's list fits in 9 entries a cell: at most one failed landing for each offset, 4 a cell for the unit, and 4 a cell for the
--- adjacent potential units, which have no cell in common.
--- Assumes nothing.
+-- adjacent potential units, which have no cell in common. Assumes nothing.
 use Prim.Native.Nat.{ℕ, zero, suc, _*_, _≤_, _<_}
 use mathlib.Core.Path.{_≡_, refl, ap}
 use mathlib.Core.Logic.{_≢_, ⊎-elim}

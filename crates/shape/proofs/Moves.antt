@@ -1,5 +1,4 @@
--- All that the check's laws use of an offset: where it puts a cell, and that a step goes with the same step of its image.
--- Assumes nothing.
+-- All that the check's laws use of an offset: where it puts a cell, and that a step goes with the same step of its image. Assumes nothing.
 use Prim.Native.Nat.{ℕ}
 use mathlib.Core.Path.{_≡_, sym, _∙_}
 use mathlib.Core.Option.{Option, some, Option·some-injective}

@@ -1,6 +1,5 @@
 -- What the check's tests of an offset say, in the terms of the crate `frame`: when an offset is tried, when it is good, and what a failed
--- landing says of every board on which its entry stands. Of the offset only `Moves` is used, of group numbers only `Labels`.
--- Assumes nothing.
+-- landing says of every board on which its entry stands. Of the offset only `Moves` is used, of group numbers only `Labels`. Assumes nothing.
 use Prim.Native.Nat.{ℕ}
 use mathlib.Core.Path.{_≡_, refl, ap, sym, _∙_, subst}
 use mathlib.Core.Logic.{_⊎_, inl, inr, _≢_, ⊎-elim}

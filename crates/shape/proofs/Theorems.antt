@@ -1,6 +1,5 @@
 -- THE THEOREMS of the shape check. One law carries them: a fault's list stands on no clear board, where clear means no Wall inside a unit
--- and a good offset for each unit; for on a full board clear is right, and a board on which the check finds nothing is clear.
--- Assumes nothing.
+-- and a good offset for each unit; for on a full board clear is right, and a board on which the check finds nothing is clear. Assumes nothing.
 use Prim.Native.Nat.{ℕ, _*_, _≤_}
 use mathlib.Core.Path.{_≡_}
 use mathlib.Core.Logic.{⊎-elim, _↔_}

@@ -1,5 +1,4 @@
--- Translations: the shift of a cell computes them, and a step goes with its image. Rows and columns are linear, so one case a direction closes each law.
--- Assumes nothing.
+-- Translations: the shift of a cell computes them, and a step goes with its image. Rows and columns are linear, so one case a direction closes each law. Assumes nothing.
 use Prim.Native.Nat.{ℕ, _+_, _-_, _<_}
 use mathlib.Core.Path.{_≡_, refl, ap, sym, _∙_}
 use mathlib.Core.Option.{Option, some, Option·some-injective}

@@ -1,5 +1,4 @@
--- One unit's stage: a fault's list stands, and stands on no board where the unit has a good offset; a unit without a fault has one.
--- Assumes nothing.
+-- One unit's stage: a fault's list stands, and stands on no board where the unit has a good offset; a unit without a fault has one. Assumes nothing.
 use Prim.Native.Nat.{ℕ, _<_}
 use mathlib.Core.Path.{_≡_, refl, ap, sym, subst}
 use mathlib.Core.Logic.{_⊎_, inl, inr, _≢_, ⊎-elim}

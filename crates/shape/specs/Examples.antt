@@ -1,5 +1,4 @@
--- The starred examples of the shape check (SPEC 7.1 to 7.5).
--- Assumes nothing.
+-- The starred examples of the shape check (SPEC 7.1 to 7.5). Assumes nothing.
 use mathlib.Core.Path.{_≡_, refl}
 use mathlib.Core.List.{[], _∷_}
 use mathlib.Core.Option.{none, some}

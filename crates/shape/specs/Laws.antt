@@ -1,5 +1,4 @@
--- The laws of a full board that concern shape (SPEC 2.1, 2.4, 2.5); s e is the state of border e.
--- Assumes nothing.
+-- The laws of a full board that concern shape (SPEC 2.1, 2.4, 2.5); s e is the state of border e. Assumes nothing.
 use Prim.Native.Nat.{ℕ, _+_, _<_}
 use mathlib.Core.Path.{_≡_}
 use mathlib.Core.Logic.{_⊎_}

@@ -1,5 +1,4 @@
--- The shape check (SPEC 4.6 to 4.12), over group numbers that are handed in: `ids` has each cell's unit, `pids` its potential unit.
--- Assumes nothing.
+-- The shape check (SPEC 4.6 to 4.12), over group numbers that are handed in: `ids` has each cell's unit, `pids` its potential unit. Assumes nothing.
 use Prim.Native.Nat.{ℕ, _+_, _-_, _*_}
 use mathlib.Core.Bool.{Bool, true, false, not}
 use mathlib.Core.List.{List, [], _∷_, _++_}

@@ -1,5 +1,4 @@
--- What a board's ask answers and writes, by what its code tests.
--- Assumes nothing.
+-- What a board's ask answers and writes, by what its code tests. Assumes nothing.
 use Prim.Native.Nat.{ℕ, _*_, _≤_, _<_}
 use mathlib.Core.Path.{_≡_, refl, ap, _∙_}
 use mathlib.Core.Logic.{_≢_}
@@ -13,7 +12,7 @@ use Rattle.grid.proofs.Geometry.{borderCount-le}
 use Rattle.board.specs.declared.Board.{Board}
 use Rattle.board.specs.Board.{sizeOf, boardCode}
 use Rattle.board.proofs.Laws.{board-ready}
-use Rattle.groups.specs.Floods.{Fits}
+use Rattle.groups.specs.Lent.{Fits}
 use Rattle.shape.specs.Shape.{shapeFault}
 use Rattle.answers.specs.declared.Found.{Found}
 use Rattle.answers.specs.declared.Found.the-variants.{Nothing, Fault}

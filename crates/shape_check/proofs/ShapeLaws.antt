@@ -1,5 +1,4 @@
--- The two stages of the check, over the units that it finds in its own arrays.
--- Assumes nothing.
+-- The two stages of the check, over the units that it finds in its own arrays. Assumes nothing.
 use Prim.Native.Nat.{ℕ, _*_, _≤_}
 use mathlib.Core.Path.{_≡_, sym}
 use mathlib.Core.Bool.{true, false}
@@ -11,7 +10,7 @@ use Rattle.lists.specs.Lists.{range, first}
 use Rattle.grid.specs.declared.Grid.{Grid}
 use Rattle.grid.specs.Grid.{cells}
 use Rattle.groups.specs.Groups.{groupIds, groupCount}
-use Rattle.groups.specs.Floods.{Fits}
+use Rattle.groups.specs.Lent.{Fits}
 use Rattle.groups.specs.Lent.{Grouped}
 use Rattle.groups.specs.Info.{blankPlaces}
 use Rattle.shape.specs.Shape.{innerWall, unitFault, faultIn, shapeFault}

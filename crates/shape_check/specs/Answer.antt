@@ -1,5 +1,4 @@
--- What a board's ask answers and writes (SPEC 4.6 to 4.12, with the questions 3.1, 3.2 and 3.6).
--- Assumes nothing.
+-- What a board's ask answers and writes (SPEC 4.6 to 4.12, with the questions 3.1, 3.2 and 3.6). Assumes nothing.
 use Prim.Native.Nat.{ℕ, _*_}
 use lib.Dec.{eqb, leb}
 use Rattle.lists.specs.Choice.{pick}

@@ -2,7 +2,7 @@
 ghost use mathlib.Core.Path.{_≡_};
 ghost use Prim.Native.Nat.{_*_, _≤_};
 ghost use lib.ListN.{length};
-ghost use Rattle.groups.specs.Floods.{Fits};
+ghost use Rattle.groups.specs.Lent.{Fits};
 ghost use Rattle.shape.specs.Shape.{shapeFault};
 ghost use Rattle.answers.specs.Answers.{Told, answerOf, written};
 ghost use Rattle.shape_check.specs.Answer.{shapeOutcome};

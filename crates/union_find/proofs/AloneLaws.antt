@@ -1,5 +1,4 @@
--- Vertices that are their own parents: the stores of `alone`, and what they leave.
--- Assumes nothing.
+-- Vertices that are their own parents: the stores of `alone`, and what they leave. Assumes nothing.
 use Prim.Native.Nat.{ℕ, zero, suc, _+_, _-_, _≤_, _<_}
 use mathlib.Core.Path.{_≡_, refl, _∙_}
 use mathlib.Core.Logic.{⊎-elim}

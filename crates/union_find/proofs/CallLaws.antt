@@ -1,5 +1,4 @@
--- What find and unite make of any record that holds together, accepted or refused.
--- Assumes nothing.
+-- What find and unite make of any record that holds together, accepted or refused. Assumes nothing.
 use Prim.Native.Nat.{ℕ, _≤_, _<_}
 use mathlib.Core.Path.{_≡_, ap}
 use mathlib.Core.Logic.{_⊎_, inl, inr, _↔_, _≢_, ⊎-elim}

@@ -1,5 +1,4 @@
--- Laws of `climb` and `shortened`: steps up, roots, and one law for each way through `find_in`.
--- Assumes nothing.
+-- Laws of `climb` and `shortened`: steps up, roots, and one law for each way through `find_in`. Assumes nothing.
 use Prim.Native.Nat.{ℕ, zero, suc, _-_, _<_}
 use mathlib.Core.Path.{_≡_, refl}
 use mathlib.Core.List.{List}

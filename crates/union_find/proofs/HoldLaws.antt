@@ -1,5 +1,4 @@
--- The loops that put question 2: what is known of the vertices that were looked at, and what one that fails decides.
--- Assumes nothing.
+-- The loops that put question 2: what is known of the vertices that were looked at, and what one that fails decides. Assumes nothing.
 use Prim.Native.Nat.{ℕ, _+_, _≤_, _<_}
 use mathlib.Core.Path.{_≡_, refl, sym, _∙_}
 use mathlib.Core.Logic.{_≢_, ⊎-elim}

@@ -1,5 +1,4 @@
--- Parents keep the parts that the united pairs make: two vertices have one root exactly when the pairs join them.
--- Assumes nothing.
+-- Parents keep the parts that the united pairs make: two vertices have one root exactly when the pairs join them. Assumes nothing.
 use Prim.Native.Nat.{ℕ, _+_, _<_}
 use mathlib.Core.Path.{_≡_, refl, sym, _∙_}
 use mathlib.Core.Logic.{_≢_, _↔_, ⊎-elim, inl}

@@ -1,5 +1,4 @@
--- Find changes no vertex' root, and unite makes two parts one.
--- Assumes nothing.
+-- Find changes no vertex' root, and unite makes two parts one. Assumes nothing.
 use Prim.Native.Nat.{ℕ, zero, suc, _≤_, _<_}
 use mathlib.Core.Path.{_≡_, refl, sym, _∙_}
 use mathlib.Core.Logic.{_↔_, _≢_, ⊎-elim}

@@ -1,5 +1,4 @@
--- The root of a vertex: it is one, a chain that ends does so within n steps, and a record holds together where every vertex has one.
--- Assumes nothing.
+-- The root of a vertex: it is one, a chain that ends does so within n steps, and a record holds together where every vertex has one. Assumes nothing.
 use Prim.Native.Nat.{ℕ, zero, suc, _+_, _-_, _≤_, _<_}
 use mathlib.Core.Path.{_≡_, refl, sym, ap, _∙_}
 use mathlib.Core.Logic.{⊎-elim}

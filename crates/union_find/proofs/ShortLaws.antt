@@ -1,5 +1,4 @@
--- The shortened chain (SPEC 4.13): the vertices on it, and no other, get another parent.
--- Assumes nothing.
+-- The shortened chain (SPEC 4.13): the vertices on it, and no other, get another parent. Assumes nothing.
 use Prim.Native.Nat.{ℕ, zero, suc, _<_}
 use mathlib.Core.Path.{_≡_, refl, sym, _∙_}
 use mathlib.Core.Logic.{_≢_, ⊎-elim}

@@ -1,5 +1,4 @@
--- How many of the numbers below n pass a test.
--- Assumes nothing.
+-- How many of the numbers below n pass a test. Assumes nothing.
 use Prim.Native.Nat.{ℕ, zero, suc, _+_, _≤_, _<_}
 use mathlib.Core.Path.{_≡_, refl}
 use mathlib.Core.Logic.{⊎-elim}

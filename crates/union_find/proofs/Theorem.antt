@@ -1,6 +1,5 @@
 -- THE THEOREMS: from a fresh union, whatever find and unite calls were made, refused ones included, the record holds together, and two
--- vertices have one root exactly when the pairs united so far join them.
--- Assumes nothing.
+-- vertices have one root exactly when the pairs united so far join them. Assumes nothing.
 use Prim.Native.Nat.{ℕ, _≤_, _<_}
 use mathlib.Core.Path.{_≡_}
 use mathlib.Core.Logic.{_↔_, ⊎-elim}

@@ -1,5 +1,4 @@
--- Unite makes exactly two parts one.
--- Assumes nothing.
+-- Unite makes exactly two parts one. Assumes nothing.
 use Prim.Native.Nat.{ℕ, _<_}
 use mathlib.Core.Path.{_≡_, refl, sym, _∙_}
 use mathlib.Core.Logic.{_≢_, ⊎-elim}

@@ -1,5 +1,4 @@
--- Lists of find and unite calls, and the pairs that they unite.
--- Assumes nothing.
+-- Lists of find and unite calls, and the pairs that they unite. Assumes nothing.
 use Prim.Native.Nat.{ℕ}
 use mathlib.Core.List.{List, [], _∷_}
 use lib.Dec.{ltb}

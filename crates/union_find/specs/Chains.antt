@@ -1,5 +1,4 @@
--- Chains of parents (SPEC 1.9 and 4.13). A list holds each vertex' parent at the vertex' place.
--- Assumes nothing.
+-- Chains of parents (SPEC 1.9 and 4.13). A list holds each vertex' parent at the vertex' place. Assumes nothing.
 use Prim.Native.Nat.{ℕ, zero, suc}
 use mathlib.Core.Bool.{Bool, not}
 use mathlib.Core.List.{List}

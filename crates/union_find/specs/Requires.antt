@@ -1,5 +1,4 @@
--- What the inner functions ask of the parents that they are lent.
--- Assumes nothing.
+-- What the inner functions ask of the parents that they are lent. Assumes nothing.
 use Prim.Native.Nat.{ℕ, _<_, _≤_}
 use mathlib.Core.List.{List}
 use Rattle.limits.specs.Limits.{mostCells}

@@ -1,5 +1,4 @@
--- The answers of the three calls: SPEC 3's questions in their order, and the record that comes back.
--- Assumes nothing.
+-- The answers of the three calls: SPEC 3's questions in their order, and the record that comes back. Assumes nothing.
 use Prim.Native.Nat.{ℕ}
 use mathlib.Core.Bool.{Bool, false}
 use mathlib.Core.List.{List}

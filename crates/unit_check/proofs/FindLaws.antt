@@ -1,5 +1,4 @@
--- Finding: a unit at the offsets in turn, and the units in turn.
--- Assumes nothing.
+-- Finding: a unit at the offsets in turn, and the units in turn. Assumes nothing.
 use Prim.Native.Nat.{ℕ, _+_, _-_, _≤_, _<_}
 use mathlib.Core.Path.{_≡_, refl, ap, sym, _∙_}
 use mathlib.Core.Logic.{_⊎_, _≢_, ⊎-elim}

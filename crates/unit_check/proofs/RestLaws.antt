@@ -1,5 +1,4 @@
--- A loop over the numbers below n that appends a list for each: at its turn i, the lists from i on are left.
--- Assumes nothing.
+-- A loop over the numbers below n that appends a list for each: at its turn i, the lists from i on are left. Assumes nothing.
 use Prim.Native.Nat.{ℕ, _+_, _-_, _≤_, _<_}
 use mathlib.Core.Path.{_≡_}
 use mathlib.Core.List.{List, [], _++_}

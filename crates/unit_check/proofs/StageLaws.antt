@@ -1,5 +1,4 @@
--- The stage: the first unit that fits nowhere is the first with a fault, and what finding and writing are handed.
--- Assumes nothing.
+-- The stage: the first unit that fits nowhere is the first with a fault, and what finding and writing are handed. Assumes nothing.
 use Prim.Native.Nat.{ℕ, zero, suc, _+_, _-_, _*_, _≤_, _<_}
 use mathlib.Core.Path.{_≡_, refl, sym, _∙_}
 use mathlib.Core.Logic.{⊎-elim}
@@ -21,7 +20,7 @@ use Rattle.answers.specs.Answers.{Told}
 use Rattle.grid.specs.declared.Grid.{Grid}
 use Rattle.grid.specs.Grid.{cells}
 use Rattle.groups.specs.Groups.{groupIds}
-use Rattle.groups.specs.Floods.{Fits}
+use Rattle.groups.specs.Lent.{Fits}
 use Rattle.groups.specs.Info.{endOf, groupPart}
 use Rattle.groups.specs.Lent.{Lent, Grouped, InTurn}
 use Rattle.groups.proofs.EdgeLaws.{ids-length}

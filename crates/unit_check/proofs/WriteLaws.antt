@@ -1,5 +1,4 @@
--- Writing: the failed landings, the marked potential units, and the whole list.
--- Assumes nothing.
+-- Writing: the failed landings, the marked potential units, and the whole list. Assumes nothing.
 use Prim.Native.Nat.{ℕ, _+_, _-_, _*_, _≤_, _<_}
 use mathlib.Core.Path.{_≡_, refl, ap, sym, _∙_}
 use mathlib.Core.Logic.{_⊎_, _≢_, ⊎-elim}

@@ -1,5 +1,4 @@
--- The first unit that fits nowhere. The table tells the units and potential units of the cells.
--- Assumes nothing.
+-- The first unit that fits nowhere. The table tells the units and potential units of the cells. Assumes nothing.
 use Prim.Native.Nat.{ℕ, _≤_, _<_}
 use mathlib.Core.Path.{_≡_}
 use mathlib.Core.Bool.{Bool, true, false}

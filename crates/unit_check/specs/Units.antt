@@ -1,5 +1,4 @@
--- The stage: the units of a board in order.
--- Assumes nothing.
+-- The stage: the units of a board in order. Assumes nothing.
 use Prim.Native.Nat.{ℕ, _*_, _≤_}
 use mathlib.Core.Path.{_≡_}
 use mathlib.Core.Bool.{true}

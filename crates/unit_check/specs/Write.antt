@@ -1,5 +1,4 @@
--- The list of a unit that fits nowhere, as it is written.
--- Assumes nothing.
+-- The list of a unit that fits nowhere, as it is written. Assumes nothing.
 use Prim.Native.Nat.{ℕ, _*_, _≤_}
 use mathlib.Core.Path.{_≡_}
 use mathlib.Core.List.{List, [], _++_}

@@ -1,5 +1,4 @@
--- `arcs::sweep` meets its contract: `Sweeping` of the vertices so far; a seed without a mark begins a part.
--- Assumes nothing.
+-- `arcs::sweep` meets its contract: `Sweeping` of the vertices so far; a seed without a mark begins a part. Assumes nothing.
 use Prim.Native.Nat.{_-_}
 use mathlib.Core.Logic.{⊎-elim}
 use native.Mathlib.Omega.{arith}
@@ -13,9 +12,6 @@ Inv-loop head next to seen₀ n parts₀ s₀ seen parts s = Sweeping n head nex
 
 abbrev μ-loop : tie.MeasureT-loop
 μ-loop head next to seen₀ n parts₀ s₀ seen parts s = n - s
-
-loop-holds : tie.Need-loop-holds Inv-loop μ-loop
-loop-holds c = sweep-none (c .args .n) (now (c .args .head)) (now (c .args .next)) (now (c .args .to)) (now (c .args .seen)) (c .pre)
 
 walk-requires : tie.Need-walk-requires Inv-loop μ-loop
 walk-requires c κs =
@@ -57,5 +53,5 @@ returns c =
 
 pub sweep-spec : {M : Type 1} → statement M
 sweep-spec =
-    tie.close (tie.spec Inv-loop μ-loop loop-holds (λ c. omega (arith, c .before .before .pre .arcs .few)) walk-requires add-parts (λ c. omega arith)
+    tie.close (tie.spec Inv-loop μ-loop (λ c. sweep-none (c .args .n) (now (c .args .head)) (now (c .args .next)) (now (c .args .to)) (now (c .args .seen)) (c .pre)) (λ c. omega (arith, c .before .before .pre .arcs .few)) walk-requires add-parts (λ c. omega arith)
     (λ c. omega arith) loop-again returns)

@@ -1,5 +1,4 @@
--- `case_file::call_at` meets its contract: one law a kind of call says what the definition reads there.
--- Assumes nothing.
+-- `case_file::call_at` meets its contract: one law a kind of call says what the definition reads there. Assumes nothing.
 use borrow.Author.Needs.{needs}
 use native.Mathlib.Omega.{arith}
 use Rattle.case_file.proofs.ReadLaws.{call-out, call-undo, call-ask, call-other, call-cut, call-decide}

@@ -1,5 +1,4 @@
--- `case_file::calls_at` meets its contract: the invariant `Walking` says what the calls that are left leave behind them.
--- Assumes nothing.
+-- `case_file::calls_at` meets its contract: the invariant `Walking` says what the calls that are left leave behind them. Assumes nothing.
 use Prim.Native.Nat.{_-_, _+_}
 use mathlib.Core.Path.{sym, _∙_}
 use native.Mathlib.Omega.{arith}

@@ -1,5 +1,4 @@
--- `case_file::decode` meets its contract: one law for each way out, and what `rest` ensures for the last.
--- Assumes nothing.
+-- `case_file::decode` meets its contract: one law for each way out, and what `rest` ensures for the last. Assumes nothing.
 use borrow.Author.Needs.{needs}
 use Rattle.case_file.proofs.FileLaws.{front-short, front-version, front-length, front-long, front-good}
 use Rattle.case_file.proofs.decode.Statement.{statement}

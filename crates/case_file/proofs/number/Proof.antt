@@ -1,5 +1,4 @@
--- `case_file::number` meets its contract: below the count that `reach` answers, the number stands in the file (`number-in`, `number-at`).
--- Assumes nothing.
+-- `case_file::number` meets its contract: below the count that `reach` answers, the number stands in the file (`number-in`, `number-at`). Assumes nothing.
 use Prim.Native.Nat.{_+_, _*_, _<_}
 use mathlib.Core.Path.{sym, _∙_}
 use native.Mathlib.Omega.{arith}

@@ -1,5 +1,4 @@
--- `case_file::numbers` meets its contract: the invariant `Copying` says what is left, one law a turn and one at the end.
--- Assumes nothing.
+-- `case_file::numbers` meets its contract: the invariant `Copying` says what is left, one law a turn and one at the end. Assumes nothing.
 use Prim.Native.Nat.{ℕ, _+_, _*_, _-_, _<_}
 use mathlib.Core.Path.{refl, sym, _∙_}
 use mathlib.Core.List.{List}
@@ -38,9 +37,6 @@ below c = omega (arith, c .loop-test .taken, entered c .reach .ensures)
 inside : (c : tie.In-loop Inv-loop μ-loop) → let s = start (entered c) in s .args .list .at + 2 * c .before .loop .k + 1 < length (s .args .file .now)
 inside c = let a = start (entered c) .args in number-in (a .file .now) (a .list .at) (a .list .count) (c .before .loop .k) (below c)
 
-slice-write-buffer : tie.Need-slice-write-buffer Inv-loop μ-loop
-slice-write-buffer c = omega (arith, below (c .before), c .before .before .before .if1 .left, entered (c .before) .reach .ensures, c .before .before .loop .inv .long)
-
 loop-again : tie.Need-loop-again Inv-loop μ-loop
 loop-again c =
     let a = start (entered (c .before)) .args in
@@ -56,5 +52,5 @@ pub numbers-spec : {M : Type 1} → statement M
 numbers-spec =
     tie.close (tie.spec Inv-loop μ-loop (λ c κs. search needs) returns (λ c. record { within = omega arith; long = refl; left = refl })
     (λ c. omega (arith, inside c)) (λ c. omega (arith, inside c)) (λ c κs. inside c) (λ c. omega (arith, c .word .ensures .1))
-    (λ c. omega (arith, inside (c .before))) slice-write-buffer (λ c. omega arith) (λ c. omega arith) loop-again (λ c. c .before .loop .inv .long)
+    (λ c. omega (arith, inside (c .before))) (λ c. omega (arith, below (c .before), c .before .before .before .if1 .left, entered (c .before) .reach .ensures, c .before .before .loop .inv .long)) (λ c. omega arith) (λ c. omega arith) loop-again (λ c. c .before .loop .inv .long)
     returns-2)

@@ -1,5 +1,4 @@
--- `case_file::numbers_at` meets its contract by the laws of a counted list at a byte.
--- Assumes nothing.
+-- `case_file::numbers_at` meets its contract by the laws of a counted list at a byte. Assumes nothing.
 use borrow.Author.Needs.{needs}
 use native.Mathlib.Omega.{arith}
 use Rattle.case_file.proofs.ListLaws.{numbers-none, numbers-cut, numbers-fits}

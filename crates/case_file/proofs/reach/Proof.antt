@@ -1,5 +1,4 @@
--- `case_file::reach` meets its contract: a list has two bytes a number, as far as the file goes (`numbers-count`).
--- Assumes nothing.
+-- `case_file::reach` meets its contract: a list has two bytes a number, as far as the file goes (`numbers-count`). Assumes nothing.
 use native.Mathlib.Omega.{arith}
 use borrow.Author.Needs.{needs}
 use Rattle.case_file.proofs.NumberLaws.{numbers-count}

@@ -1,5 +1,4 @@
--- `case_file::rest` meets its contract: each list that was found is the one that the definition reads (`Found`), and each way out has its law.
--- Assumes nothing.
+-- `case_file::rest` meets its contract: each list that was found is the one that the definition reads (`Found`), and each way out has its law. Assumes nothing.
 use Prim.Native.Nat.{ℕ}
 use mathlib.Core.Path.{sym, _∙_}
 use mathlib.Core.List.{List}

@@ -17,9 +17,6 @@ part c =
     let a = l .before .before .before .args in
     fault-part (a .p) (c .before .check .given .0 .0) (c .before .check .given .0 .1 .0) (l .ask .result) (l .ask .last .1 .0) (c .before .check .given .1) (l .ask .ensures .0) (l .ask .kept .1 .0)
 
-fault-line-requires : tie.Need-fault-line-requires
-fault-line-requires c κs = (part (c .before .before) .few, c .before .before .before .before .before .before .before .before .before .pre)
-
 returns : tie.Need-returns
 unfolding blank
 returns c =
@@ -50,5 +47,5 @@ returns-3 c =
 pub ask-line-spec : {M : Type 1} → statement M
 ask-line-spec =
     tie.close (tie.spec (λ c. search needs) (λ c κs. search needs) enum-told (λ c κs. search needs) (λ c. search needs) (λ c. part c .within)
-    (λ c. part (c .before) .long) fault-line-requires (λ c. search needs) (λ c κs. search needs) (λ c. search needs) returns (λ c. search needs)
+    (λ c. part (c .before) .long) (λ c κs. (part (c .before .before) .few, c .before .before .before .before .before .before .before .before .before .pre)) (λ c. search needs) (λ c κs. search needs) (λ c. search needs) returns (λ c. search needs)
     returns-2 (λ c. search needs) returns-3)

@@ -14,29 +14,14 @@ Inv-loop file at count out₀ puzzle₀ next₀ done₀ len₀ out puzzle next d
 abbrev μ-loop : tie.MeasureT-loop
 μ-loop file at count out₀ puzzle₀ next₀ done₀ len₀ out puzzle next done len = count - done
 
-returns : tie.Need-returns Inv-loop μ-loop
-returns c = let a = c .before .before .before .args in no-room (a .p) (a .file .now) (a .at) (a .count) (a .out .now) (c .if1 .taken)
-
-loop-holds : tie.Need-loop-holds Inv-loop μ-loop
-loop-holds c = let a = c .before .before .before .args in running (a .p) (a .file .now) (a .at) (a .count) (a .out .now) (c .if1 .left)
-
 enum-told : tie.Need-enum-told Inv-loop μ-loop
 enum-told c = search needs
-
-sub-do-call : tie.Need-sub-do-call Inv-loop μ-loop
-sub-do-call c = let i = c .before .before .before .before in omega (arith, part-room (i .before .loop .inv) (i .loop-test .taken))
-
-part-do-call-start : tie.Need-part-do-call-start Inv-loop μ-loop
-part-do-call-start c = let i = c .before .before .before .before in omega (arith, part-room (i .before .loop .inv) (i .loop-test .taken))
 
 add-len : tie.Need-add-len Inv-loop μ-loop
 add-len c =
     let k = c .before .before .before .before in
     let i = k .before .before .before .before .before .before in
     omega (arith, part-room (i .before .loop .inv) (i .loop-test .taken), i .before .loop .inv .long, k .do-call .ensures .0 .fits, i .before .before .before .before .before .good .1 .1 .1 .1 .0)
-
-loop-less : tie.Need-loop-less Inv-loop μ-loop
-loop-less c = let i = c .before .before .before .before .before .before .before .before .before .before in omega (arith, i .loop-test .taken)
 
 loop-again : tie.Need-loop-again Inv-loop μ-loop
 loop-again c =
@@ -53,7 +38,7 @@ returns-3 c =
 
 pub run-calls-spec : {M : Type 1} → statement M
 run-calls-spec =
-    tie.close (tie.spec Inv-loop μ-loop returns loop-holds (λ c κs. search needs) (λ c. search needs) enum-told sub-do-call part-do-call-start
+    tie.close (tie.spec Inv-loop μ-loop (λ c. let a = c .before .before .before .args in no-room (a .p) (a .file .now) (a .at) (a .count) (a .out .now) (c .if1 .taken)) (λ c. let a = c .before .before .before .args in running (a .p) (a .file .now) (a .at) (a .count) (a .out .now) (c .if1 .left)) (λ c κs. search needs) (λ c. search needs) enum-told (λ c. let i = c .before .before .before .before in omega (arith, part-room (i .before .loop .inv) (i .loop-test .taken))) (λ c. let i = c .before .before .before .before in omega (arith, part-room (i .before .loop .inv) (i .loop-test .taken)))
     (λ c. search needs) (λ c κs. let i = c .before .before .before .before .before in part-long (i .before .loop .inv) (i .loop-test .taken))
-    (λ c. omega arith) add-len loop-less loop-again (λ c. c .before .loop .inv .long) (λ c. counted (c .before .loop .inv) (c .loop-test .left))
+    (λ c. omega arith) add-len (λ c. let i = c .before .before .before .before .before .before .before .before .before .before in omega (arith, i .loop-test .taken)) loop-again (λ c. c .before .loop .inv .long) (λ c. counted (c .before .loop .inv) (c .loop-test .left))
     (λ c. c .before .before .before .before .loop .inv .long) returns-3)

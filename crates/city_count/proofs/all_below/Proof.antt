@@ -1,5 +1,4 @@
--- `city_count::all_below` meets its contract: what the numbers before `i` came to, and the rest left to test.
--- Assumes nothing.
+-- `city_count::all_below` meets its contract: what the numbers before `i` came to, and the rest left to test. Assumes nothing.
 use Prim.Native.Nat.{_-_}
 use mathlib.Core.Logic.{⊎-elim}
 use native.Mathlib.Omega.{arith}

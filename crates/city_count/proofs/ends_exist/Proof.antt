@@ -1,5 +1,4 @@
--- `city_count::ends_exist` meets its contract: all first ends exist, and all second ends.
--- Assumes nothing.
+-- `city_count::ends_exist` meets its contract: all first ends exist, and all second ends. Assumes nothing.
 use mathlib.Core.Path.{sym, _∙_}
 use borrow.Author.Needs.{needs}
 use borrow.Author.Tests.{not-true, not-false}

@@ -1,5 +1,4 @@
--- `city_count::find` meets its contract: one law for each of the three answers.
--- Assumes nothing.
+-- `city_count::find` meets its contract: one law for each of the three answers. Assumes nothing.
 use mathlib.Core.Path.{sym, _∙_}
 use borrow.Author.Needs.{needs}
 use denote.Ref.{now}

@@ -1,5 +1,4 @@
--- `city_count::list` meets its contract: `Listing` of the edges so far.
--- Assumes nothing.
+-- `city_count::list` meets its contract: `Listing` of the edges so far. Assumes nothing.
 use Prim.Native.Nat.{_-_}
 use mathlib.Core.Logic.{⊎-elim}
 use native.Mathlib.Omega.{arith}

@@ -1,5 +1,4 @@
--- `city_count::stands` meets its contract: a Wall's state is 2, a Connected edge's 1.
--- Assumes nothing.
+-- `city_count::stands` meets its contract: a Wall's state is 2, a Connected edge's 1. Assumes nothing.
 use Rattle.city_count.proofs.stands.Statement.{statement}
 use Rattle.city_count.proofs.stands.Tie as tie
 

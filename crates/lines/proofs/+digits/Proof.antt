@@ -1,5 +1,4 @@
--- `lines::digits` meets its contract: it recurses as the definition does, on the places.
--- Assumes nothing.
+-- `lines::digits` meets its contract: it recurses as the definition does, on the places. Assumes nothing.
 use mathlib.Core.Path.{refl}
 use native.Mathlib.Omega.{arith}
 use borrow.Author.Needs.{needs}

@@ -1,5 +1,4 @@
--- `lines::entries` meets its contract: the invariant `Spacing` says what is left to write, one law a turn and one at the end.
--- Assumes nothing.
+-- `lines::entries` meets its contract: the invariant `Spacing` says what is left to write, one law a turn and one at the end. Assumes nothing.
 use Prim.Native.Nat.{_-_}
 use mathlib.Core.Path.{refl}
 use native.Mathlib.Omega.{arith}
@@ -27,13 +26,10 @@ loop-again c =
     let t = w .before .before in
     spacing-next (t .before .loop .inv) (t .loop-test .taken) (w .wide .ensures .0) (w .wide .ensures .1) (d .digits .ensures .0) (d .digits .ensures .1)
 
-returns : tie.Need-returns Inv-loop μ-loop
-returns c = let f = c .before .loop .inv in ((spacing-end f (c .loop-test .left), omega (arith, f .most, f .within)), spacing-all f (c .loop-test .left))
-
 pub entries-spec : {M : Type 1} → statement M
 entries-spec =
     tie.close (tie.spec Inv-loop μ-loop (λ c. record { within = omega arith; long = refl; most = omega arith; count = refl; left = refl })
     (λ c. omega arith) (λ c. omega arith) (λ c κs. search needs)
     (λ c. let t = c .before .before in omega (arith, t .loop-test .taken, t .before .loop .inv .most))
     (λ c. let t = c .before .before .before in omega (arith, t .loop-test .taken, t .before .loop .inv .most)) digits-requires (λ c. omega arith)
-    (λ c. omega arith) loop-again (λ c. c .before .loop .inv .long) returns)
+    (λ c. omega arith) loop-again (λ c. c .before .loop .inv .long) (λ c. let f = c .before .loop .inv in ((spacing-end f (c .loop-test .left), omega (arith, f .most, f .within)), spacing-all f (c .loop-test .left))))

@@ -1,5 +1,4 @@
--- `lines::put` meets its contract: the invariant `Putting` says what is left, one law a turn and one at the end.
--- Assumes nothing.
+-- `lines::put` meets its contract: the invariant `Putting` says what is left, one law a turn and one at the end. Assumes nothing.
 use Prim.Native.Nat.{_-_}
 use mathlib.Core.Path.{refl}
 use native.Mathlib.Omega.{arith}

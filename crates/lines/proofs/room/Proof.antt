@@ -1,5 +1,4 @@
--- `lines::room` meets its contract: what has been written grows by one part after the other (`wrote-more`).
--- Assumes nothing.
+-- `lines::room` meets its contract: what has been written grows by one part after the other (`wrote-more`). Assumes nothing.
 use borrow.Author.Needs.{needs}
 use native.Mathlib.Omega.{arith}
 use Rattle.lines.specs.Decimal.{decimalOf}

@@ -5,9 +5,6 @@ use Rattle.lines.proofs.LineLaws.{printed, unprinted}
 use Rattle.lines.proofs.write_line.Statement.{statement}
 use Rattle.lines.proofs.write_line.Tie as tie
 
-returns-2 : tie.Need-returns-2
-returns-2 c = let a = c .before .before .before .before .args in unprinted (a .line) (a .list .now) (a .buffer .now) (omega arith)
-
 returns-3 : tie.Need-returns-3
 returns-3 c =
     let p = c .before .before in
@@ -16,4 +13,4 @@ returns-3 c =
     printed (a .line) (a .list .now) (a .buffer .now) (omega (arith, s .if2 .left)) (p .put-line .ensures .0) (p .put-line .ensures .1)
 
 pub write-line-spec : {M : Type 1} → statement M
-write-line-spec = tie.close (tie.spec (λ c. let a = c .before .before .before .args in unprinted (a .line) (a .list .now) (a .buffer .now) (omega arith)) (λ c. search needs) returns-2 (λ c κs. search needs) (λ c. search needs) returns-3)
+write-line-spec = tie.close (tie.spec (λ c. let a = c .before .before .before .args in unprinted (a .line) (a .list .now) (a .buffer .now) (omega arith)) (λ c. search needs) (λ c. let a = c .before .before .before .before .args in unprinted (a .line) (a .list .now) (a .buffer .now) (omega arith)) (λ c κs. search needs) (λ c. search needs) returns-3)

@@ -19,32 +19,11 @@ there c = c .before .before .before
 abbrev first : tie.Else2 → tie.Else1
 first c = c .before .before
 
-returns-2 : tie.Need-returns-2
-returns-2 c = let a = c .before .before .before in look-apart (start (step a) .pre) _ (step a .step .ensures) (a .next .given .1) (c .if1 .taken)
-
-mul-if2 : tie.Need-mul-if2
-mul-if2 c = let a = there c in omega (arith, cell-small (start (step a) .pre) _ (step a .step .ensures) (a .next .given .1))
-
 returns-3 : tie.Need-returns-3
 returns-3 c =
     let t = c .before .before in
     let a = there t in
     look-old (start (step a) .pre) _ (step a .step .ensures) (a .next .given .1) (t .if1 .left) (c .if2 .taken)
-
-mul-finders : tie.Need-mul-finders
-mul-finders c = let a = there (first c) in omega (arith, cell-small (start (step a) .pre) _ (step a .step .ensures) (a .next .given .1))
-
-slice-write-finders : tie.Need-slice-write-finders
-slice-write-finders c = let a = there (first c) in cell-fits (start (step a) .pre) _ (step a .step .ensures) (a .next .given .1) .0
-
-entry-requires : tie.Need-entry-requires
-entry-requires c κs = let a = there (first c) in entry-fits (start (step a) .pre) _ (step a .step .ensures) (a .next .given .1)
-
-mul-entries : tie.Need-mul-entries
-mul-entries c = let a = there (first (c .before)) in omega (arith, cell-small (start (step a) .pre) _ (step a .step .ensures) (a .next .given .1))
-
-slice-write-entries : tie.Need-slice-write-entries
-slice-write-entries c = let a = there (first (c .before)) in cell-fits (start (step a) .pre) _ (step a .step .ensures) (a .next .given .1) .1
 
 slice-write-queue : tie.Need-slice-write-queue
 slice-write-queue c =
@@ -62,9 +41,9 @@ pub look-spec : {M : Type 1} → statement M
 look-spec =
     tie.close (tie.spec (λ c κs. search needs) (λ c. search needs)
     (λ c. look-end (start (c .before) .pre) _ (end-told _ _ _ (c .before .step .ensures) (c .match .keys2)))
-    (λ c. let a = c .before .before in border-fits (start (step a) .pre) _ (step a .step .ensures) (a .next .given .1)) returns-2 mul-if2
-    (λ c. let a = there (c .before) in cell-fits (start (step a) .pre) _ (step a .step .ensures) (a .next .given .1) .0) returns-3 mul-finders
-    slice-write-finders entry-requires mul-entries slice-write-entries
+    (λ c. let a = c .before .before in border-fits (start (step a) .pre) _ (step a .step .ensures) (a .next .given .1)) (λ c. let a = c .before .before .before in look-apart (start (step a) .pre) _ (step a .step .ensures) (a .next .given .1) (c .if1 .taken)) (λ c. let a = there c in omega (arith, cell-small (start (step a) .pre) _ (step a .step .ensures) (a .next .given .1)))
+    (λ c. let a = there (c .before) in cell-fits (start (step a) .pre) _ (step a .step .ensures) (a .next .given .1) .0) returns-3 (λ c. let a = there (first c) in omega (arith, cell-small (start (step a) .pre) _ (step a .step .ensures) (a .next .given .1)))
+    (λ c. let a = there (first c) in cell-fits (start (step a) .pre) _ (step a .step .ensures) (a .next .given .1) .0) (λ c κs. let a = there (first c) in entry-fits (start (step a) .pre) _ (step a .step .ensures) (a .next .given .1)) (λ c. let a = there (first (c .before)) in omega (arith, cell-small (start (step a) .pre) _ (step a .step .ensures) (a .next .given .1))) (λ c. let a = there (first (c .before)) in cell-fits (start (step a) .pre) _ (step a .step .ensures) (a .next .given .1) .1)
     (λ c. omega (arith, tail-small (start (step (there (first (c .before)))) .pre))) slice-write-queue
     (λ c. omega (arith, tail-small (start (step (there (first (c .before)))) .pre))) (λ c. search needs) (λ c. search needs) (λ c. search needs)
     returns-4)

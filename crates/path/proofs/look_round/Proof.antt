@@ -21,9 +21,6 @@ start c = c .before .before .before .before .before
 abbrev head : tie.After-look Inv-loop μ-loop → tie.At-loop Inv-loop μ-loop
 head c = c .before .before .before .before .before .before
 
-loop-again : tie.Need-loop-again Inv-loop μ-loop
-loop-again c = let l = c .before .before .before .before .before .before in round-on (head l .loop .inv) (omega arith) (l .look .ensures)
-
 same-length : tie.Need-same-length Inv-loop μ-loop
 same-length c =
     let k = c .before in
@@ -50,4 +47,4 @@ pub look-round-spec : {M : Type 1} → statement M
 look-round-spec =
     tie.close (tie.spec Inv-loop μ-loop (λ c. round-start) (λ c. omega arith)
     (λ c κs. let k = c .before .before .before .before .before in looks-on (start k .pre) (k .loop .inv .follows)) (λ c. omega arith)
-    (λ c. omega arith) loop-again same-length same-length-2 same-length-3 returns)
+    (λ c. omega arith) (λ c. let l = c .before .before .before .before .before .before in round-on (head l .loop .inv) (omega arith) (l .look .ensures)) same-length same-length-2 same-length-3 returns)

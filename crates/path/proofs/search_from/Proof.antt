@@ -1,5 +1,4 @@
--- `path::search_from` meets its contract: the invariant `Going`, one law of `Loop` for the start, a turn and each of the two ends.
--- Assumes nothing.
+-- `path::search_from` meets its contract: the invariant `Going`, one law of `Loop` for the start, a turn and each of the two ends. Assumes nothing.
 use Prim.Native.Nat.{_-_}
 use mathlib.Core.Path.{sym, _∙_}
 use native.Mathlib.Omega.{arith}
@@ -31,28 +30,16 @@ last c = c .before .before .before .before
 abbrev looked : tie.After-slice-known7 Inv-loop μ-loop → tie.After-look-round Inv-loop μ-loop
 looked c = c .before .before .before .before .before .before
 
-slice-write-finders : tie.Need-slice-write-finders Inv-loop μ-loop
-slice-write-finders c = let p = begin c .pre in omega (arith, p .0 .start-cell, cells-le _ (p .0 .limits), p .1 .finders-long)
-
 slice-read-cell : tie.Need-slice-read-cell Inv-loop μ-loop
 slice-read-cell c =
     let k = c .before .before in
     omega (arith, k .loop .inv .kept .queue-long, head-fits (start k .pre .0) (k .loop .inv) (c .before .loop-test .taken))
-
-same-length : tie.Need-same-length Inv-loop μ-loop
-same-length c = let k = c .before .before .before in k .loop .inv .kept .traced .finders-long ∙ sym (start k .pre .1 .finders-long)
-
-same-length-2 : tie.Need-same-length-2 Inv-loop μ-loop
-same-length-2 c = let k = c .before .before .before in k .loop .inv .kept .traced .entries-long ∙ sym (start k .pre .1 .entries-long)
 
 returns : tie.Need-returns Inv-loop μ-loop
 returns c =
     let t = c .before .before in
     let k = t .before in
     going-found (start k .pre .0) (k .loop .inv) (t .loop-test .taken) (c .if1 .taken)
-
-add-head : tie.Need-add-head Inv-loop μ-loop
-add-head c = let t = turn c in omega (arith, head-fits (start (t .before) .pre .0) (t .before .loop .inv) (t .loop-test .taken))
 
 look-round-requires : tie.Need-look-round-requires Inv-loop μ-loop
 look-round-requires c κs =
@@ -66,10 +53,10 @@ loop-again c =
 
 pub search-from-spec : {M : Type 1} → statement M
 search-from-spec =
-    tie.close (tie.spec Inv-loop μ-loop (λ c. let p = begin c .pre in omega (arith, p .0 .start-cell, cells-le _ (p .0 .limits))) slice-write-finders
+    tie.close (tie.spec Inv-loop μ-loop (λ c. let p = begin c .pre in omega (arith, p .0 .start-cell, cells-le _ (p .0 .limits))) (λ c. let p = begin c .pre in omega (arith, p .0 .start-cell, cells-le _ (p .0 .limits), p .1 .finders-long))
     (λ c. omega (arith, begin c .pre .1 .queue-long)) (λ c. going-start (begin c .pre .0) (begin c .pre .1))
-    (λ c. let k = c .before in omega (arith, head-fits (start k .pre .0) (k .loop .inv) (c .loop-test .taken))) slice-read-cell same-length
-    same-length-2 (λ c. let k = c .before .before .before in k .loop .inv .kept .queue-long ∙ sym (start k .pre .1 .queue-long)) returns add-head
+    (λ c. let k = c .before in omega (arith, head-fits (start k .pre .0) (k .loop .inv) (c .loop-test .taken))) slice-read-cell (λ c. let k = c .before .before .before in k .loop .inv .kept .traced .finders-long ∙ sym (start k .pre .1 .finders-long))
+    (λ c. let k = c .before .before .before in k .loop .inv .kept .traced .entries-long ∙ sym (start k .pre .1 .entries-long)) (λ c. let k = c .before .before .before in k .loop .inv .kept .queue-long ∙ sym (start k .pre .1 .queue-long)) returns (λ c. let t = turn c in omega (arith, head-fits (start (t .before) .pre .0) (t .before .loop .inv) (t .loop-test .taken)))
     look-round-requires (λ c. let t = turn (last (looked c)) in omega (arith, t .loop-test .taken, t .before .loop .inv .kept .room)) loop-again
     (λ c. let k = c .before in k .loop .inv .kept .traced .finders-long ∙ sym (start k .pre .1 .finders-long))
     (λ c. let k = c .before in k .loop .inv .kept .traced .entries-long ∙ sym (start k .pre .1 .entries-long))

@@ -1,5 +1,4 @@
--- `path::walk_back` meets its contract: the invariant `Walking`, one law of `Walk` for the start, a turn and the end.
--- Assumes nothing.
+-- `path::walk_back` meets its contract: the invariant `Walking`, one law of `Walk` for the start, a turn and the end. Assumes nothing.
 use Prim.Native.Nat.{_-_, _<_}
 use native.Mathlib.Omega.{arith}
 use lib.ListN.{length}

@@ -1,5 +1,4 @@
--- `room_parts::counts_below` meets its contract: `Taken` of the edges so far, one law for each way through a turn.
--- Assumes nothing.
+-- `room_parts::counts_below` meets its contract: `Taken` of the edges so far, one law for each way through a turn. Assumes nothing.
 use Prim.Native.Nat.{ℕ, _≤_, _-_}
 use mathlib.Core.Logic.{⊎-elim}
 use native.Mathlib.Omega.{arith}

@@ -1,5 +1,4 @@
--- `room_parts::in_state` meets its contract: `r` counts the edges before `i` that have the state.
--- Assumes nothing.
+-- `room_parts::in_state` meets its contract: `r` counts the edges before `i` that have the state. Assumes nothing.
 use Prim.Native.Nat.{_≤_, _-_}
 use mathlib.Core.Path.{_≡_, refl, ap, _∙_}
 use mathlib.Core.Logic.{⊎-elim}

@@ -1,5 +1,4 @@
--- `room_parts::joined_parts` meets its contract: `Linking` of the edges so far, and then the sweep's count.
--- Assumes nothing.
+-- `room_parts::joined_parts` meets its contract: `Linking` of the edges so far, and then the sweep's count. Assumes nothing.
 use Prim.Native.Nat.{_+_, _<_, _-_}
 use mathlib.Core.Logic.{⊎-elim}
 use native.Mathlib.Omega.{arith}

@@ -1,5 +1,4 @@
--- `room_parts::most_parts` meets its contract: no marked vertex begins a part, so that the unmarked ones bound the parts.
--- Assumes nothing.
+-- `room_parts::most_parts` meets its contract: no marked vertex begins a part, so that the unmarked ones bound the parts. Assumes nothing.
 use Prim.Native.Nat.{_-_}
 use native.Mathlib.Omega.{arith}
 use borrow.Author.Needs.{needs}

@@ -1,5 +1,4 @@
--- `room_parts::outnumber` meets its contract: the parts are above the lower bound, below the upper one, or counted.
--- Assumes nothing.
+-- `room_parts::outnumber` meets its contract: the parts are above the lower bound, below the upper one, or counted. Assumes nothing.
 use mathlib.Core.Path.{ap}
 use native.Mathlib.Omega.{arith}
 use borrow.Author.Needs.{needs}
@@ -27,10 +26,7 @@ returns c =
     let b = joined-least (s .args .n) (s .args .m) (now (s .args .us)) (now (s .args .vs)) (now (s .args .states)) (s .pre) (l .left-by .result) (k .in-state .result) (l .left-by .ensures) (k .in-state .ensures) in
     above-least (s .args .count) (l .left-by .result) (c .if1 .taken) b
 
-returns-2 : tie.Need-returns-2
-returns-2 c = let p = c .before in below-most (start p .args .count) (p .most-parts .result) (c .if2 .taken) (p .most-parts .ensures)
-
 pub outnumber-spec : {M : Type 1} → statement M
 outnumber-spec =
-    tie.close (tie.spec (λ c κs. search needs) sub-left-by (λ c κs. search needs) returns (λ c κs. search needs) returns-2 (λ c κs. search needs)
+    tie.close (tie.spec (λ c κs. search needs) sub-left-by (λ c κs. search needs) returns (λ c κs. search needs) (λ c. let p = c .before in below-most (start p .args .count) (p .most-parts .result) (c .if2 .taken) (p .most-parts .ensures)) (λ c κs. search needs)
     (λ c. ap (ltb (start (c .before .before) .args .count)) (c .joined-parts .ensures)))

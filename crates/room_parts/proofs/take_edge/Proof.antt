@@ -1,5 +1,4 @@
--- `room_parts::take_edge` meets its contract: a Connected edge's ends are united, and no other's.
--- Assumes nothing.
+-- `room_parts::take_edge` meets its contract: a Connected edge's ends are united, and no other's. Assumes nothing.
 use mathlib.Core.Path.{refl}
 use borrow.Author.Needs.{needs}
 use borrow.Author.Tests.{eq-eqb, ne-eqb}

@@ -1,5 +1,4 @@
--- `room_parts::tipped` meets its contract: where all Connected edges could not go below the count they do not, and else the union counts.
--- Assumes nothing.
+-- `room_parts::tipped` meets its contract: where all Connected edges could not go below the count they do not, and else the union counts. Assumes nothing.
 use native.Mathlib.Omega.{arith}
 use borrow.Author.Needs.{needs}
 use denote.Ref.{now}

@@ -1,5 +1,4 @@
--- `room_parts::unmarked` meets its contract: `k` counts the vertices before `i` without a mark.
--- Assumes nothing.
+-- `room_parts::unmarked` meets its contract: `k` counts the vertices before `i` without a mark. Assumes nothing.
 use Prim.Native.Nat.{_≤_, _-_}
 use mathlib.Core.Path.{_≡_, refl, ap, _∙_}
 use mathlib.Core.Logic.{⊎-elim}

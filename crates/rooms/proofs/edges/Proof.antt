@@ -64,9 +64,6 @@ space c =
 mul-us-2 : tie.Need-mul-us-2 Inv-loop μ-loop
 mul-us-2 c = let k = turn (told c) in omega (arith, few _ _ _ _ (begun (k .before) .pre .0), k .before .loop .inv .few)
 
-shared-slice-read-here : tie.Need-shared-slice-read-here Inv-loop μ-loop
-shared-slice-read-here c = omega (arith, seen-edge (c .before) .border-lt, begun (turn (told (c .before)) .before) .pre .0 .states-long)
-
 loop-again : tie.Need-loop-again Inv-loop μ-loop
 unfolding nowhere
 loop-again c =
@@ -92,6 +89,6 @@ edges-spec =
     (λ c. writing-none _ _ _ _ _ _ _) (λ c. let s = begun c in omega (arith, few _ _ _ _ (s .pre .0))) (λ c. search needs) (λ c. search needs)
     (λ c κs. search needs) (λ c. search needs) (λ c κs. search needs) edge-requires (λ c. search needs) (λ c. omega (arith, seen-edge c .cell-lt))
     (λ c. seen-edge c .cell-lt) (λ c. omega (arith, seen-edge c .from-is)) mul-us-2 (λ c. space c .0) (λ c. omega (arith, seen-edge c .next-lt))
-    (λ c. seen-edge c .next-lt) (λ c. omega (arith, seen-edge c .into-is)) mul-us-2 (λ c. space c .1) shared-slice-read-here
+    (λ c. seen-edge c .next-lt) (λ c. omega (arith, seen-edge c .into-is)) mul-us-2 (λ c. space c .1) (λ c. omega (arith, seen-edge (c .before) .border-lt, begun (turn (told (c .before)) .before) .pre .0 .states-long))
     (λ c. space (c .before) .2) (λ c. search needs) (λ c. search needs) (λ c. search needs) loop-again (λ c. search needs) (λ c. search needs)
     (λ c. search needs) (λ c. writing-all _ _ _ _ _ _ _ _ _ _ _ _ (c .before .loop .inv) (c .loop-test .left)))

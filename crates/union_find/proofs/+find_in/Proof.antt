@@ -1,5 +1,4 @@
--- `union_find::find_in` meets its contract: one law of `climb` and one of `shortened` for each return. The measure is the depth.
--- Assumes nothing.
+-- `union_find::find_in` meets its contract: one law of `climb` and one of `shortened` for each return. The measure is the depth. Assumes nothing.
 use Prim.Native.Nat.{ℕ, _<_, _-_}
 use mathlib.Core.Path.{sym, _∙_}
 use native.Mathlib.Omega.{arith}

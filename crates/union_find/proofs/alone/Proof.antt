@@ -1,5 +1,4 @@
--- `union_find::alone` meets its contract: what is left to store is the numbers from i on.
--- Assumes nothing.
+-- `union_find::alone` meets its contract: what is left to store is the numbers from i on. Assumes nothing.
 use Prim.Native.Nat.{_≤_, _-_}
 use mathlib.Core.Path.{_≡_, refl, sym, _∙_}
 use native.Mathlib.Omega.{arith}

@@ -1,5 +1,4 @@
--- `union_find::chains_end` meets its contract: q keeps the roots while each vertex is found in it (`Looked`).
--- Assumes nothing.
+-- `union_find::chains_end` meets its contract: q keeps the roots while each vertex is found in it (`Looked`). Assumes nothing.
 use Prim.Native.Nat.{_≤_, _<_, _-_}
 use mathlib.Core.Path.{sym, _∙_}
 use native.Mathlib.Omega.{arith}

@@ -1,5 +1,4 @@
--- `union_find::find` meets its contract: the questions in their order, and then `find_in`.
--- Assumes nothing.
+-- `union_find::find` meets its contract: the questions in their order, and then `find_in`. Assumes nothing.
 use mathlib.Core.Path.{_≡_, sym, _∙_}
 use mathlib.Core.Bool.{true, false}
 use borrow.Author.Needs.{needs}

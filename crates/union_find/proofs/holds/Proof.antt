@@ -1,5 +1,4 @@
--- `union_find::holds` meets its contract: both halves of question 2.
--- Assumes nothing.
+-- `union_find::holds` meets its contract: both halves of question 2. Assumes nothing.
 use mathlib.Core.Path.{refl, sym, _∙_}
 use borrow.Author.Needs.{needs}
 use borrow.Author.Tests.{not-true, not-false}

@@ -1,5 +1,4 @@
--- `union_find::new` meets its contract: too many vertices are refused, and the others are made alone.
--- Assumes nothing.
+-- `union_find::new` meets its contract: too many vertices are refused, and the others are made alone. Assumes nothing.
 use borrow.Author.Needs.{needs}
 use borrow.Author.Tests.{lt-ltb, le-ltb}
 use Rattle.union_find.specs.UnionFind.{zeros}

@@ -1,5 +1,4 @@
--- `union_find::parents_exist` meets its contract: the parents of the vertices before i exist.
--- Assumes nothing.
+-- `union_find::parents_exist` meets its contract: the parents of the vertices before i exist. Assumes nothing.
 use Prim.Native.Nat.{ℕ, _≤_, _<_, _-_}
 use native.Mathlib.Omega.{arith}
 use borrow.Author.Needs.{needs}

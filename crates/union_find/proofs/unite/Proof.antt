@@ -1,5 +1,4 @@
--- `union_find::unite` meets its contract: the questions in their order, and then `unite_in`.
--- Assumes nothing.
+-- `union_find::unite` meets its contract: the questions in their order, and then `unite_in`. Assumes nothing.
 use mathlib.Core.Path.{_≡_, sym, _∙_}
 use mathlib.Core.Bool.{true, false}
 use borrow.Author.Needs.{needs}

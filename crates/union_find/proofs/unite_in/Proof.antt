@@ -1,5 +1,4 @@
--- `union_find::unite_in` meets its contract: the roots are found one after the other, and differ or not.
--- Assumes nothing.
+-- `union_find::unite_in` meets its contract: the roots are found one after the other, and differ or not. Assumes nothing.
 use Prim.Native.Nat.{_<_}
 use native.Mathlib.Omega.{arith}
 use denote.Ref.{now}

@@ -20,9 +20,6 @@ module _ (part handed out : List ℕ) (e : part ≡ handed) where
   long : {out' : List ℕ} → length part ≤ length out → out' ≡ sets out 0 part → Copied (length part) out'
   long h q = rw (← e) (rw (le-leb (length part) (length out) h) (refl, q))
 
-returns : tie.Need-returns
-returns c = let g = c .before in short _ _ (g .before .before .before .args .out .now) (g .group .ensures .0) (c .if1 .taken)
-
 returns-2 : tie.Need-returns-2
 returns-2 c =
     let k = c .before .before in
@@ -31,4 +28,4 @@ returns-2 c =
     long _ _ (g .before .before .before .args .out .now) (g .group .ensures .0) (t .if1 .left) (k .copy .ensures)
 
 pub sendai-group-spec : {M : Type 1} → statement M
-sendai-group-spec = tie.close (tie.spec (λ c κs. search needs) returns (λ c κs. search needs) (λ c. search needs) returns-2)
+sendai-group-spec = tie.close (tie.spec (λ c κs. search needs) (λ c. let g = c .before in short _ _ (g .before .before .before .args .out .now) (g .group .ensures .0) (c .if1 .taken)) (λ c κs. search needs) (λ c. search needs) returns-2)

@@ -25,9 +25,6 @@ up c = c .before .before .before
 abbrev down : tie.After-fails3 → tie.After-fails2
 down c = c .before .before .before
 
-returns : tie.Need-returns
-returns c = let f = c .before .before .before in fail-hit (at f) Up (Down ∷ Left ∷ Right ∷ []) _ (sym (c .before .up .given .1) ∙ f .fails .ensures)
-
 returns-2 : tie.Need-returns-2
 returns-2 c =
     let b = c .before .before .before in
@@ -56,5 +53,5 @@ returns-4 c =
 
 pub fail-around-spec : {M : Type 1} → statement M
 fail-around-spec =
-    tie.close (tie.spec (λ c κs. search needs) (λ c. search needs) returns (λ c. search needs) (λ c κs. search needs) (λ c. search needs) returns-2
+    tie.close (tie.spec (λ c κs. search needs) (λ c. search needs) (λ c. let f = c .before .before .before in fail-hit (at f) Up (Down ∷ Left ∷ Right ∷ []) _ (sym (c .before .up .given .1) ∙ f .fails .ensures)) (λ c. search needs) (λ c κs. search needs) (λ c. search needs) returns-2
     (λ c. search needs) (λ c κs. search needs) (λ c. search needs) returns-3 (λ c. search needs) (λ c κs. search needs) returns-4)

@@ -18,9 +18,6 @@ use Rattle.offsets.proofs.landings.fail_forward.Tie as tie
 abbrev at : tie.After-fails → Direction → Option ℕ
 at c = let a = c .before .before .before .args in failAt (a .g) (a .s) (now (a .states)) (unitsIn (a .g) (now (a .table))) true (a .c)
 
-returns : tie.Need-returns
-returns c = let f = c .before .before .before in fail-hit (at f) Down (Right ∷ []) _ (sym (c .before .down .given .1) ∙ f .fails .ensures)
-
 returns-2 : tie.Need-returns-2
 returns-2 c =
     let f = c .before .before .before in
@@ -28,4 +25,4 @@ returns-2 c =
 
 pub fail-forward-spec : {M : Type 1} → statement M
 fail-forward-spec =
-    tie.close (tie.spec (λ c κs. search needs) (λ c. search needs) returns (λ c. search needs) (λ c κs. search needs) returns-2)
+    tie.close (tie.spec (λ c κs. search needs) (λ c. search needs) (λ c. let f = c .before .before .before in fail-hit (at f) Down (Right ∷ []) _ (sym (c .before .down .given .1) ∙ f .fails .ensures)) (λ c. search needs) (λ c κs. search needs) returns-2)

@@ -20,12 +20,6 @@ landed c = c .before .before .before
 abbrev read : tie.After-bad → tie.After-known-told
 read c = c .before .before
 
-returns : tie.Need-returns
-returns c = let k = c .before in not-kept (start k .pre) _ _ (sym (k .kept .ensures) ∙ not-true (k .kept .result) (c .if1 .taken))
-
-landing-of-requires : tie.Need-landing-of-requires
-landing-of-requires c κs = let s = start (c .before .before .before) in turning-small (s .pre) (s .args .inner) (s .args .direction) (c .before .row .ensures) (c .col .ensures)
-
 returns-2 : tie.Need-returns-2
 returns-2 c =
     let l = c .before .before in
@@ -68,7 +62,7 @@ returns-4 c =
 
 pub fails-spec : {M : Type 1} → statement M
 fails-spec =
-    tie.close (tie.spec (λ c κs. search needs) returns
+    tie.close (tie.spec (λ c κs. search needs) (λ c. let k = c .before in not-kept (start k .pre) _ _ (sym (k .kept .ensures) ∙ not-true (k .kept .result) (c .if1 .taken)))
     (λ c κs. let p = start (c .before) .pre in listed _ _ (p .seen .limits) (p .seen .table-of) _ (p .seen .cell))
-    (λ c κs. let p = start (c .before .before) .pre in listed _ _ (p .seen .limits) (p .seen .table-of) _ (p .seen .cell)) landing-of-requires
+    (λ c κs. let p = start (c .before .before) .pre in listed _ _ (p .seen .limits) (p .seen .table-of) _ (p .seen .cell)) (λ c κs. let s = start (c .before .before .before) in turning-small (s .pre) (s .args .inner) (s .args .direction) (c .before .row .ensures) (c .col .ensures))
     (λ c. search needs) (λ c. search needs) returns-2 shared-slice-read-bad (λ c κs. search needs) entry-requires returns-3 returns-4)

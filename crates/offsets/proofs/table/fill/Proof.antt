@@ -1,5 +1,4 @@
--- `offsets::table::fill` meets its contract: the loop's invariant is that the cells before this one have their four numbers.
--- Assumes nothing.
+-- `offsets::table::fill` meets its contract: the loop's invariant is that the cells before this one have their four numbers. Assumes nothing.
 use Prim.Native.Nat.{_-_}
 use mathlib.Core.Path.{sym, _∙_}
 use mathlib.Core.Logic.{⊎-elim, inl, inr}
@@ -27,12 +26,6 @@ turn c = c .before .before .before .before
 abbrev column : tie.After-wide Inv-loop μ-loop → tie.After-put Inv-loop μ-loop
 column c = c .before .before .before
 
-add-x : tie.Need-add-x Inv-loop μ-loop
-add-x c = let t = turn (c .before .before) in omega (arith, low-column (start t .pre) (t .before .loop .inv) (t .loop-test .taken))
-
-add-y : tie.Need-add-y Inv-loop μ-loop
-add-y c = let t = turn (column (c .before)) in omega (arith, low-row (start t .pre) (t .before .loop .inv) (t .loop-test .taken))
-
 loop-again : tie.Need-loop-again Inv-loop μ-loop
 loop-again c =
     let w = c .before in
@@ -48,7 +41,7 @@ fill-spec =
     (λ c. let t = c .before .before in omega (arith, start t .pre .ids-long, t .loop-test .taken))
     (λ c. omega (arith, cells-le _ (start (c .before .before) .pre .limits)))
     (λ c. let t = c .before .before .before in omega (arith, start t .pre .pids-long, t .loop-test .taken))
-    (λ c κs. let t = c .before .before .before in place-listed (start t .pre) (t .before .loop .inv) (t .loop-test .taken)) add-x
-    (λ c κs. search needs) add-y (λ c. let t = turn (column (c .before)) in omega (arith, cells-le _ (start t .pre .limits))) (λ c. omega arith)
+    (λ c κs. let t = c .before .before .before in place-listed (start t .pre) (t .before .loop .inv) (t .loop-test .taken)) (λ c. let t = turn (c .before .before) in omega (arith, low-column (start t .pre) (t .before .loop .inv) (t .loop-test .taken)))
+    (λ c κs. search needs) (λ c. let t = turn (column (c .before)) in omega (arith, low-row (start t .pre) (t .before .loop .inv) (t .loop-test .taken))) (λ c. let t = turn (column (c .before)) in omega (arith, cells-le _ (start t .pre .limits))) (λ c. omega arith)
     loop-again (λ c. c .before .loop .inv .long)
     (λ c. filling-end (c .before .before .before .before .before .pre) (c .before .loop .inv) (c .loop-test .left)))

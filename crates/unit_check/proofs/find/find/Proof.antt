@@ -1,5 +1,4 @@
--- `unit_check::find::find` meets its contract: the loop's invariant is that each unit so far fits somewhere and nothing is marked.
--- Assumes nothing.
+-- `unit_check::find::find` meets its contract: the loop's invariant is that each unit so far fits somewhere and nothing is marked. Assumes nothing.
 use Prim.Native.Nat.{_-_}
 use mathlib.Core.Path.{_≡_, refl, sym, _∙_}
 use native.Mathlib.Omega.{arith}
@@ -123,12 +122,9 @@ loop-again c =
       (n .unmark-adjacent .kept .1 .1 .1 .0) ∙ (m .mark-adjacent .kept .1 .1 .1 .0) ∙ i .2,
     )
 
-returns-2 : tie.Need-returns-2 Inv-loop μ-loop
-returns-2 c = let i = c .before .loop .inv in (fit-all (i .0) (c .loop-test .left), λ l. absurd (omega (arith, c .loop-test .left)))
-
 pub find-spec : {M : Type 1} → statement M
 find-spec =
     tie.close (tie.spec Inv-loop μ-loop (λ c. (fit-none _ _, c .before .before .before .before .before .before .before .pre .1, refl))
     (λ c κs. turn-slot (start c .pre .0 .units) (c .loop-test .taken)) shared-slice-read-wide (λ c κs. search needs) potential-requires
     mark-adjacent-requires fits-requires same-length returns unmark-adjacent-requires add-unit (λ c. omega arith) loop-again
-    (λ c. c .before .loop .inv .2) returns-2)
+    (λ c. c .before .loop .inv .2) (λ c. let i = c .before .loop .inv in (fit-all (i .0) (c .loop-test .left), λ l. absurd (omega (arith, c .loop-test .left)))))

@@ -1,0 +1,3 @@
+pub mod Loops
+pub mod ListsCode
+pub mod Fitting

@@ -1,0 +1,2 @@
+pub mod RoomChecks
+pub mod Housed
