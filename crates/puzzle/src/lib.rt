@@ -334,8 +334,38 @@ pub fn undo(p: Puzzle) -> Made
     out
 }
 
-// The shape check, and then the counts of the clued rooms, on a puzzle whose borders have these states. The rooms' cells are put in turn only
-// where the shape check is clear.
+// The shape check, and then the counts of the clued rooms, on a board whose borders have these states: what an ask finds. The rooms' cells are
+// put in turn only where the shape check is clear.
+pub fn fault_of<'a>(
+    g: Grid,
+    given: &'a [u16],
+    states: &'a [u8],
+    clues: &'a [u16],
+    buffer: &mut [u16],
+) -> Answer
+    requires { ⌜ Finding g (now given) (now states) (now clues) (now buffer) ⌝ }
+    ensures { λ r. ⌜ r ≡ says 0 (faultOf g (now (given .entry)) (now (clues .entry)) (now (states .entry))) ⌝ }
+    ensures { λ _. ⌜ now (buffer .exit) ≡ writes 0 (faultOf g (now (given .entry)) (now (clues .entry)) (now (states .entry))) (now (buffer .entry)) ⌝ }
+{
+    let shape = shape_check::shape_fault(g, states, buffer);
+    if let Found::Fault(n) = shape {
+        return Answer::Fault(Check::Shape, n);
+    }
+    let n = g.height * g.width;
+    let mut ids = [0u16; limits::CELLS];
+    let mut sizes = [0u16; limits::CELLS];
+    let count = rooms::rooms_of(g, given, &mut ids, &mut sizes);
+    let mut starts = [0u16; limits::CELLS];
+    let mut flat = [0u16; limits::CELLS];
+    groups::in_turn(&ids, n, &mut sizes[..count], &mut starts, &mut flat);
+    let counted = room_checks::rooms_fault(g, given, states, clues, &starts, &flat, buffer);
+    let Counted::Fault(room, n) = counted else {
+        return Answer::Clear;
+    };
+    Answer::Fault(Check::Room(room), n)
+}
+
+// What an ask finds on a puzzle's arrays, of which the given walls and clues are cut to their counts.
 fn find<'a>(
     z: Counts,
     given: &'a [u16],
@@ -349,34 +379,9 @@ fn find<'a>(
     ensures { λ _.
         ⌜ now (buffer .exit) ≡ writes 0 (faultOf (z .grid) (take (z .given) (now (given .entry))) (take (z .clues) (now (clues .entry))) (now (states .entry))) (now (buffer .entry)) ⌝ }
 {
-    let g = z.grid;
-    let shape = shape_check::shape_fault(g, states, buffer);
-    if let Found::Fault(n) = shape {
-        return Answer::Fault(Check::Shape, n);
-    }
     let many = z.given;
     let rooms = z.clues;
-    let n = g.height * g.width;
-    let walls = &given[..many];
-    let mut ids = [0u16; limits::CELLS];
-    let mut sizes = [0u16; limits::CELLS];
-    let count = rooms::rooms_of(g, walls, &mut ids, &mut sizes);
-    let mut starts = [0u16; limits::CELLS];
-    let mut flat = [0u16; limits::CELLS];
-    groups::in_turn(&ids, n, &mut sizes[..count], &mut starts, &mut flat);
-    let counted = room_checks::rooms_fault(
-        g,
-        walls,
-        states,
-        &clues[..rooms],
-        &starts,
-        &flat,
-        buffer,
-    );
-    let Counted::Fault(room, n) = counted else {
-        return Answer::Clear;
-    };
-    Answer::Fault(Check::Room(room), n)
+    fault_of(z.grid, &given[..many], states, &clues[..rooms], buffer)
 }
 
 // What stands wrong on a puzzle as it stands: the shape check, then the clued rooms in order, up to the first fault, whose list goes to the
