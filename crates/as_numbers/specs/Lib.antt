@@ -1,4 +1,5 @@
--- Defined here: the numbers by which enums are handed over (`Files`, `Places`, `Prints`, `Puzzles`).
+-- Defined here: the numbers by which enums are handed over (`Boards`, `Files`, `Places`, `Prints`, `Puzzles`).
+pub mod Boards
 pub mod Files
 pub mod Places
 pub mod Prints

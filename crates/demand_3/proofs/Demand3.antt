@@ -32,13 +32,13 @@ use Rattle.demand_3.proofs.Asks.{fault-some, some-fault, clear-none, no
 use Rattle.demand_3.proofs.Orders.{Free, Apart, decided-ledger, decided-state, standing-apart, all-accepted}
 
 module _ (h w : ℕ) (given clues : List ℕ) (made : makeOf h w given clues .code ≡ 0) where
-  accepted : Accepted h w given clues
+  pub accepted : Accepted h w given clues
   accepted = made-accepted h w given clues made
 
   fresh-is : freshOf h w given clues ≡ freshPuzzle (grid h w) given clues
   fresh-is = ap (λ (m : Made). m .puzzle) (made-fresh h w given clues made)
 
-  reached-calls : (calls : List Call) → Reached h w given clues (ledgerAfter h w given calls) (after h w given clues calls)
+  pub reached-calls : (calls : List Call) → Reached h w given clues (ledgerAfter h w given calls) (after h w given clues calls)
   reached-calls calls = rw fresh-is (reached h w given clues accepted calls)
 
   -- what stands after the calls, as a list of states, and what the checks find there

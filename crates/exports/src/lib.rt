@@ -42,6 +42,7 @@ pub use puzzles::sendai_puzzle_ask;
 pub use puzzles::sendai_puzzle_check;
 pub use puzzles::sendai_puzzle_decide;
 pub use puzzles::sendai_puzzle_make;
+pub use puzzles::sendai_puzzle_right_boards;
 pub use puzzles::sendai_puzzle_undo;
 pub use rooms::sendai_room_ask;
 pub use rooms::sendai_room_check;

@@ -1,7 +1,11 @@
 // The puzzle's calls.
 ghost use mathlib.Core.Path.{_≡_};
 ghost use Rattle.puzzle.specs.Puzzle.{makeOf, puzzleCode, decideOf, undoOf, askOf};
+ghost use Rattle.enumerate.specs.Boards.{boardsOf};
+ghost use Rattle.as_numbers.specs.Boards.{listingOf};
 ghost use Rattle.as_numbers.specs.Puzzles.{outcomeOf};
+use as_numbers::boards;
+use as_numbers::boards::Listing;
 use as_numbers::puzzles;
 use as_numbers::puzzles::Outcome;
 use puzzle::Made;
@@ -46,4 +50,12 @@ pub extern "C" fn sendai_puzzle_ask(p: Puzzle, buffer: &mut [u16]) -> Outcome
     ensures { λ _. ⌜ now (buffer .exit) ≡ askOf p (now (buffer .entry)) .buffer ⌝ }
 {
     puzzles::outcome_of(puzzle::ask(p, buffer))
+}
+
+#[no_mangle]
+pub extern "C" fn sendai_puzzle_right_boards(p: Puzzle, cap: usize, buffer: &mut [u8]) -> Listing
+    ensures { λ r. ⌜ r ≡ listingOf (boardsOf p cap (now (buffer .entry)) .answer) ⌝ }
+    ensures { λ _. ⌜ now (buffer .exit) ≡ boardsOf p cap (now (buffer .entry)) .buffer ⌝ }
+{
+    boards::listing_of(enumerate::right_boards(p, cap, buffer))
 }

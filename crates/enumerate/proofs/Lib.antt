@@ -1,0 +1,9 @@
+pub mod Undecided
+pub mod Extensions
+pub mod Writing
+pub mod Codes
+pub mod Ways
+pub mod Starting
+pub mod Order
+pub mod AllAnswers
+pub mod Promise
