@@ -23,27 +23,29 @@
 extern "C" {
 #endif
 
-/* The questions put to each call, in this order; the first no is the code that refuses it. */
+/* The questions put to each call, in this order, but 11 first and 12 between 2 and 6; the first no is the code that refuses it. */
 enum {
     SENDAI_ACCEPTED = 0,
-    SENDAI_SIZES = 1,        /* are the sizes within the limits, and two edge slices equally long? */
-    SENDAI_RECORD = 2,       /* does the record hold together? */
-    SENDAI_MISSING = 3,      /* does every border, cell, vertex or group named exist? */
-    SENDAI_DECIDED = 4,      /* decide: is the border undecided? */
-    SENDAI_EMPTY_LEDGER = 5, /* undo: is the ledger non-empty? */
-    SENDAI_SHORT_BUFFER = 6, /* is the buffer long enough? each call below says what it wants */
-    SENDAI_GIVEN_ORDER = 7,  /* do the given walls rise strictly? */
-    SENDAI_CLUE_COUNT = 8,   /* are there as many clues as rooms? */
-    SENDAI_CLUE_VALUE = 9,   /* is each clue 65535 or at most its room's cells? */
-    SENDAI_NOT_JOINED = 10,  /* path: are the cells joined by Connected borders? */
-    SENDAI_FILE = 11         /* is the file sound? */
+    SENDAI_SIZES = 1,          /* are the sizes within the limits, and two edge slices equally long? */
+    SENDAI_RECORD = 2,         /* does the record hold together? */
+    SENDAI_MISSING = 3,        /* does every border, cell, vertex or group named exist? */
+    SENDAI_DECIDED = 4,        /* decide: is the border undecided? */
+    SENDAI_EMPTY_LEDGER = 5,   /* undo: is the ledger non-empty? */
+    SENDAI_SHORT_BUFFER = 6,   /* is the buffer long enough? each call below says what it wants */
+    SENDAI_GIVEN_ORDER = 7,    /* do the given walls rise strictly? */
+    SENDAI_CLUE_COUNT = 8,     /* are there as many clues as rooms? */
+    SENDAI_CLUE_VALUE = 9,     /* is each clue 65535 or at most its room's cells? */
+    SENDAI_NOT_JOINED = 10,    /* path: are the cells joined by Connected borders? */
+    SENDAI_FILE = 11,          /* is the file sound? */
+    SENDAI_MANY_UNDECIDED = 12 /* all answers: are at most 24 borders undecided? */
 };
 
-/* The limits, and a length that is enough for any list of a board or puzzle (9*h*w at 32 by 32). */
+/* The limits, the most undecided borders for all answers, and a length that any list of a board or puzzle fits (9*h*w at 32 by 32). */
 enum {
     SENDAI_MAX_SIDE = 32,
     SENDAI_MAX_CELLS = 1024,
     SENDAI_MAX_BORDERS = 1984,
+    SENDAI_MAX_UNDECIDED = 24,
     SENDAI_MAX_LIST = 9216
 };
 
@@ -233,6 +235,15 @@ SENDAI_LAYOUT(SendaiOutcome, 24, length, 16);
 SENDAI_LAYOUT(SendaiOutcome, 24, code, 1);
 SENDAI_LAYOUT(SendaiOutcome, 24, room, 8);
 
+/* How many right boards stand in the buffer, and whether more exist beyond them. */
+typedef struct SendaiBoards {
+    uint8_t code;
+    bool more;
+    size_t count;
+} SendaiBoards;
+SENDAI_LAYOUT(SendaiBoards, 16, count, 8);
+SENDAI_LAYOUT(SendaiBoards, 16, more, 1);
+
 /* A case file's puzzle, the first call's byte, and how many calls there are; or zeros, and the number that refuses the file (11) or its
  * puzzle. */
 typedef struct SendaiCase {
@@ -349,6 +360,12 @@ SendaiPuzzleAnswer sendai_puzzle_undo(SendaiPuzzle puzzle);
 /* The shape check, then the counts of the clued rooms: clear, or the first fault, whose listed borders can't all hold.
  * Refused (kind SENDAI_REFUSED): 1, 2, 6 (9*h*w entries). */
 SendaiOutcome sendai_puzzle_ask(SendaiPuzzle puzzle, uint16_t *buffer, size_t buffer_length);
+
+/* All answers: the right full boards on which all that is decided stands, at most `cap` of them, each once, and whether more exist
+ * beyond these: a cap of 0 tells whether there is one, a cap of 1 whether there is just one. A board has a byte a border
+ * (SENDAI_CONNECTED or SENDAI_WALL); they stand one behind the other from the buffer's front, rising, border 0 compared first, and the
+ * bytes behind them stay. Refused: 1, 2, 12, 6 (cap times borders bytes). */
+SendaiBoards sendai_puzzle_right_boards(SendaiPuzzle puzzle, size_t cap, uint8_t *buffer, size_t buffer_length);
 
 /* ---- Room graphs ---- */
 

@@ -1,11 +1,16 @@
 #!/usr/bin/env python3
-"""Case files for the Sendai border checker: made from a drawing in text, and drawn with their answers.
+"""Case files for the Sendai border checker: made from a drawing in text, drawn with their answers, and with all right boards.
 
     case.py make DRAWING [FILE]           write the case of a drawing to FILE (sendai.bin)
     case.py show [FILE] [options]         draw a case file (sendai.bin) as text
         --answers LINES                   the lines that the program printed for it ('-': standard input)
         --program PATH                    or the program itself, which is run on the file
         --svg PICTURE                     draw the board of each ask as an SVG picture too
+    case.py answers [FILE] [options]      draw the right boards that extend what the calls of a case file decide
+        --cap N                           at most so many of them (10); 0: only whether there is one
+        --svg PICTURE                     draw them as an SVG picture too
+        --library PATH                    the archive with the checker's calls, or a shared library of it
+                                          (target/staticlib/libexports.a of this repository)
 
 A drawing has a row of cells and a row of borders in turn, three characters a cell:
 
@@ -13,7 +18,7 @@ A drawing has a row of cells and a row of borders in turn, three characters a ce
     | 2   . x   |        |  ---   a given wall, or the board's edge
     +   +---+ o +        x        decided Wall         (a letter in the middle of the three for a border below)
     |   |   o   |        o        decided Connected
-    +---+---+---+        a blank  undecided
+    +---+---+---+        a blank  undecided            (? too)
 
 A number in a cell is the clue of the cell's room; a dot is a blank. Lines behind the drawing are calls, in order, after the
 drawn borders, which are decided in the order of their numbers:
@@ -23,6 +28,8 @@ drawn borders, which are decided in the order of their numbers:
 A drawing without such a call ends with an ask. A line that starts with '#' is a comment.
 
 In a drawing that `show` makes, X and O stand for the borders that the fault lists: X for a listed Wall, O for a listed Connected.
+In one that `answers` makes, they stand for the borders in which the puzzle's answers differ, shown or not; what all answers share
+is drawn first, with ? for these borders.
 Only Python's standard library is used.
 """
 import argparse
@@ -31,6 +38,8 @@ import subprocess
 import sys
 import tempfile
 from xml.sax.saxutils import escape
+
+import library
 
 NO_CLUE = 65535
 UNDO, CONNECT, WALL, ASK = range(4)
@@ -186,7 +195,7 @@ def mark(letter, where, number, walls, decided):
         decided.append((WALL, number))
     elif letter in ("o", "O"):
         decided.append((CONNECT, number))
-    elif letter != " ":
+    elif letter not in (" ", "?"):
         raise Mistake("%s: %r is no border" % (where, letter))
 
 
@@ -288,7 +297,7 @@ def turns(case, lines):
 
 def letter(case, number, standing, listed):
     if number in listed:
-        return "X" if listed[number] else "O"
+        return {None: "?", 0: "O", 1: "X"}[listed[number]]
     if number in case.walls:
         return "|"
     if number in standing:
@@ -330,10 +339,14 @@ def spoken(call):
     return NAMES[kind] if border is None else "%s %d" % (NAMES[kind], border)
 
 
+def heading(case):
+    clues = " ".join("-" if c == NO_CLUE else str(c) for c in case.clues) or "none"
+    return "%d by %d, %d given walls, clues: %s" % (case.height, case.width, len(case.walls), clues)
+
+
 def report(case, lines):
     """The case as text: its board, then each call with its answer, and the board of each ask."""
-    out = ["%d by %d, %d given walls, clues: %s" % (
-        case.height, case.width, len(case.walls), " ".join("-" if c == NO_CLUE else str(c) for c in case.clues) or "none")]
+    out = [heading(case)]
     if not drawable(case):
         return "\n".join(out + ["no such board is drawn"])
     out.append(draw(case))
@@ -356,6 +369,7 @@ STYLE = """
 .wall { stroke: #2465b8; stroke-width: 4 }
 .connected { stroke: #2465b8; stroke-width: 2 }
 .listed { stroke: #d22; stroke-width: 7; stroke-linecap: round }
+.differs { stroke: #d22; stroke-width: 3; stroke-dasharray: 5 4 }
 text { font-family: sans-serif; font-size: 14px; fill: #222 }
 .clue { text-anchor: middle }
 """
@@ -370,7 +384,7 @@ def border_lines(case, number, side, link, standing, listed):
     value = listed.get(number, 1 if number in case.walls else standing.get(number))
     out = []
     if value is None:
-        return [line_of(*side, "open")]
+        return [line_of(*side, "differs" if number in listed else "open")]
     if number in listed:
         out.append(line_of(*(side if value else link), "listed"))
     if value:
@@ -380,15 +394,15 @@ def border_lines(case, number, side, link, standing, listed):
     return out
 
 
-def panel(case, title, standing, listed, top):
-    """One board with its title, and the height that it takes."""
-    out = ['<text x="%d" y="%d">%s</text>' % (GAP, top + 16, escape(title))]
-    y0 = top + GAP
-    out.append('<rect class="board" x="%d" y="%d" width="%d" height="%d"/>' % (GAP, y0, case.width * CELL, case.height * CELL))
+def panel(case, title, standing, listed, left, top):
+    """One board with its title."""
+    x0, y0 = left + GAP, top + GAP
+    out = ['<text x="%d" y="%d">%s</text>' % (x0, top + 16, escape(title))]
+    out.append('<rect class="board" x="%d" y="%d" width="%d" height="%d"/>' % (x0, y0, case.width * CELL, case.height * CELL))
     marked, plain = [], []
     for y in range(case.height):
         for x in range(case.width):
-            cx, cy = GAP + x * CELL, y0 + y * CELL
+            cx, cy = x0 + x * CELL, y0 + y * CELL
             half = CELL / 2
             if x + 1 < case.width:
                 n = right_of(case, y, x)
@@ -400,8 +414,21 @@ def panel(case, title, standing, listed, top):
                 (marked if n in listed else plain).extend(got)
     out += plain + marked
     for (y, x), clue in clue_texts(case).items():
-        out.append('<text class="clue" x="%g" y="%g">%s</text>' % (GAP + (x + 0.5) * CELL, y0 + (y + 0.5) * CELL + 5, escape(clue)))
-    return out, case.height * CELL + 2 * GAP
+        out.append('<text class="clue" x="%g" y="%g">%s</text>' % (x0 + (x + 0.5) * CELL, y0 + (y + 0.5) * CELL + 5, escape(clue)))
+    return out
+
+
+def picture(case, boards, widest=0):
+    """A picture of boards with their titles, side by side as far as they fit a width, at least one in a row."""
+    tall = case.height * CELL + 2 * GAP
+    wide = max([case.width * CELL + 2 * GAP] + [len(title) * 8 + 2 * GAP for title, _, _ in boards])
+    columns = max(1, min(len(boards), widest // wide))
+    out = []
+    for i, (title, standing, listed) in enumerate(boards):
+        out += panel(case, title, standing, listed, i % columns * wide, i // columns * tall)
+    size = (columns * wide, -(-len(boards) // columns) * tall) if boards else (0, 0)
+    head = '<svg xmlns="http://www.w3.org/2000/svg" width="%d" height="%d">' % size
+    return "\n".join([head, "<style>%s</style>" % STYLE] + out + ["</svg>", ""])
 
 
 def svg(case, lines):
@@ -411,21 +438,69 @@ def svg(case, lines):
         asks = [(i, t) for i, t in enumerate(turns(case, lines)) if t.call[0] == ASK]
         boards = [("%d  ask%s" % (i + 1, "" if t.line is None else "  ->  " + t.line), t.standing, t.listed) for i, t in asks]
         boards = boards or [("%d by %d" % (case.height, case.width), {}, {})]
-    top, out = 0, []
-    for title, standing, listed in boards:
-        part, tall = panel(case, title, standing, listed, top)
-        out += part
-        top += tall
-    wide = max([case.width * CELL + 2 * GAP if drawable(case) else 0] + [len(title) * 8 + 2 * GAP for title, _, _ in boards])
-    head = '<svg xmlns="http://www.w3.org/2000/svg" width="%d" height="%d">' % (wide, top)
-    return "\n".join([head, "<style>%s</style>" % STYLE] + out + ["</svg>", ""])
+    return picture(case, boards)
+
+
+# All answers of a puzzle, which the checker's own calls find.
+
+class Answers:
+    """The right boards of a puzzle up to a cap, whether more exist, and the borders in which all that exist differ."""
+
+    def __init__(self, calls, puzzle, cap):
+        self.case = Case(puzzle.board.height, puzzle.board.width, puzzle.given[:puzzle.given_len], puzzle.clues[:puzzle.clues_len])
+        self.standing = values(puzzle.states())
+        boards, self.more = calls.right_boards(puzzle, cap)
+        self.boards = [values(board) for board in boards]
+        self.differing = self.differences(calls, puzzle) if boards else []
+
+    def differences(self, calls, puzzle):
+        """A border in which the shown answers agree is tried the other way, where answers exist that aren't shown."""
+        found = []
+        for border, value in self.boards[0].items():
+            if any(board[border] != value for board in self.boards):
+                found.append(border)
+            elif self.more and border not in self.standing and calls.right_boards(calls.decided(puzzle, border, not value), 0)[1]:
+                found.append(border)
+        return found
+
+    def told(self):
+        count = len(self.boards)
+        if count == 0:
+            return "an answer exists" if self.more else "no answer"
+        return "%d answer%s%s" % (count, "" if count == 1 else "s", " and more" if self.more else "")
+
+    def drawings(self):
+        """What stands, what all answers share where there are several, and each answer: titles, borders that stand, marked ones."""
+        drawn = [("started", self.standing, {})]
+        if self.differing:
+            shared = {b: v for b, v in self.boards[0].items() if b not in self.differing}
+            drawn.append(("in all answers", shared, dict.fromkeys(self.differing)))
+        return drawn + [("%d" % k, board, {b: board[b] for b in self.differing}) for k, board in enumerate(self.boards, 1)]
+
+
+def values(states):
+    """The decided borders, each with 1 for Wall and 0 for Connected."""
+    return {border: int(state == WALL) for border, state in enumerate(states) if state in (CONNECT, WALL)}
+
+
+def beside(blocks, widest=100):
+    """Blocks of lines, side by side as far as they fit a width, at least one in a row."""
+    wide = max(len(line) for block in blocks for line in block)
+    columns = max(1, (widest + 3) // (wide + 3))
+    rows = [zip(*blocks[i:i + columns]) for i in range(0, len(blocks), columns)]
+    return [(" " * 3).join(line.ljust(wide) for line in lines).rstrip() for row in rows for lines in row]
+
+
+def answers_report(found):
+    blocks = [[title] + draw(found.case, standing, marked).split("\n") for title, standing, marked in found.drawings()]
+    return "\n".join([heading(found.case), found.told()] + beside(blocks))
 
 
 # The command.
 
 def read(path, kind="r"):
     if path == "-":
-        return sys.stdin.read()
+        return sys.stdin.buffer.read() if "b" in kind else sys.stdin.read()
     with open(path, kind) as f:
         return f.read()
 
@@ -459,6 +534,23 @@ def show(args):
             f.write(svg(case, lines))
 
 
+def answers(args):
+    calls = library.Library(args.library)
+    found = Answers(calls, calls.puzzle_of(read(args.file, "rb")), args.cap)
+    print(answers_report(found))
+    if args.svg:
+        drawings = found.drawings()
+        drawings[0] = ("started: " + found.told(),) + drawings[0][1:]
+        with open(args.svg, "w") as f:
+            f.write(picture(found.case, drawings, widest=1000))
+
+
+def natural(text):
+    if not text.isdigit():
+        raise argparse.ArgumentTypeError("%r is no natural number" % text)
+    return int(text)
+
+
 def main(words):
     parser = argparse.ArgumentParser(description=__doc__, formatter_class=argparse.RawDescriptionHelpFormatter)
     commands = parser.add_subparsers(dest="command", required=True)
@@ -472,11 +564,19 @@ def main(words):
     two.add_argument("--program")
     two.add_argument("--svg")
     two.set_defaults(act=show)
+    three = commands.add_parser("answers", help="draw the right boards of a case file's puzzle")
+    three.add_argument("file", nargs="?", default="sendai.bin")
+    three.add_argument("--cap", type=natural, default=10)
+    three.add_argument("--svg")
+    three.add_argument("--library")
+    three.set_defaults(act=answers)
     args = parser.parse_args(words)
     try:
         args.act(args)
-    except (Unsound, Mistake, OSError) as e:
+    except (Unsound, Mistake, OSError, library.NoLibrary, library.Refused) as e:
         sys.exit("case.py: %s%s" % ("unsound: " if isinstance(e, Unsound) else "", e))
+    except MemoryError:
+        sys.exit("case.py: no memory for so many boards: a smaller --cap")
 
 
 if __name__ == "__main__":

@@ -84,6 +84,74 @@ static void puzzles(void) {
     CHECK(sendai_puzzle_check(puzzle) == SENDAI_RECORD);
 }
 
+static uint8_t bytes[64];
+
+/* What each byte holds before a call. */
+enum { UNTOUCHED = 0x55 };
+
+static SendaiBoards right_boards(SendaiPuzzle puzzle, size_t cap, size_t length) {
+    memset(bytes, UNTOUCHED, sizeof bytes);
+    return sendai_puzzle_right_boards(puzzle, cap, bytes, length);
+}
+
+/* Whether the bytes are these boards, written as digits, and untouched behind them. */
+static bool stand(const char *boards) {
+    size_t count = strlen(boards);
+    for (size_t i = 0; i < sizeof bytes; i++)
+        if (bytes[i] != (i < count ? boards[i] - '0' : UNTOUCHED)) return false;
+    return true;
+}
+
+/* Whether these are the answers up to a cap, with a buffer of just the length that is wanted. */
+static bool answers(SendaiPuzzle puzzle, size_t cap, size_t borders, size_t count, const char *boards, bool more) {
+    SendaiBoards told = right_boards(puzzle, cap, cap * borders);
+    return told.code == SENDAI_ACCEPTED && told.count == count && told.more == more && stand(boards);
+}
+
+/* Whether a call is refused by this number, with no byte changed. */
+static bool refuses(SendaiPuzzle puzzle, size_t cap, size_t length, int code) {
+    SendaiBoards told = right_boards(puzzle, cap, length);
+    return told.code == code && told.count == 0 && !told.more && stand("");
+}
+
+/* A puzzle of one room without given walls and clue. */
+static SendaiPuzzle plain(size_t height, size_t width) {
+    const uint16_t nothing[] = {0}, clues[] = {SENDAI_NO_CLUE};
+    return sendai_puzzle_make(height, width, nothing, 0, clues, 1).puzzle;
+}
+
+static void all_answers(void) {
+    const uint16_t given[] = {1}, clues[] = {1, SENDAI_NO_CLUE};
+    const size_t huge = (size_t)1 << 63;
+    SendaiPuzzle one_by_two = plain(1, 2), one_by_four = plain(1, 4), two_by_two = plain(2, 2), many = plain(4, 5);
+    CHECK(answers(one_by_two, 0, 1, 0, "", true));
+    CHECK(answers(one_by_two, 1, 1, 1, "2", false));
+    CHECK(answers(one_by_four, 1, 3, 1, "121", true));
+    CHECK(answers(one_by_four, 2, 3, 2, "121222", false));
+    CHECK(answers(one_by_four, 5, 3, 2, "121222", false));
+    CHECK(answers(two_by_two, 2, 4, 2, "11222211", true));
+    CHECK(answers(two_by_two, 3, 4, 3, "112222112222", false));
+    CHECK(answers(plain(1, 1), 0, 0, 0, "", false));
+    CHECK(answers(plain(1, 1), huge, 0, 0, "", false));
+
+    /* what stands is kept, a fault that stands leaves no answer, and given walls and clues count */
+    CHECK(answers(sendai_puzzle_decide(two_by_two, 3, true).puzzle, 4, 4, 2, "11222222", false));
+    CHECK(answers(sendai_puzzle_decide(one_by_two, 0, false).puzzle, 1, 1, 0, "", false));
+    CHECK(answers(sendai_puzzle_make(1, 4, given, 1, clues, 2).puzzle, 4, 3, 1, "121", false));
+
+    /* 24 undecided borders are few enough, 25 are not; the questions in their order */
+    CHECK(answers(plain(1, 25), 0, 24, 0, "", true));
+    CHECK(refuses(plain(1, 26), 0, 0, SENDAI_MANY_UNDECIDED));
+    CHECK(answers(sendai_puzzle_decide(plain(1, 26), 0, true).puzzle, 0, 25, 0, "", true));
+    CHECK(refuses(one_by_four, 2, 5, SENDAI_SHORT_BUFFER));
+    CHECK(refuses(plain(1, 3), huge, 0, SENDAI_SHORT_BUFFER));
+    CHECK(refuses(many, 1, 0, SENDAI_MANY_UNDECIDED));
+    many.board.states[0] = SENDAI_WALL;
+    CHECK(refuses(many, 1, 0, SENDAI_RECORD));
+    many.board.width = 33;
+    CHECK(refuses(many, 1, 0, SENDAI_SIZES));
+}
+
 static void rooms(void) {
     const uint16_t us[] = {0, 1}, vs[] = {1, 2}, fault[] = {1};
     const SendaiEdge edges[] = {{0, 1}, {1, 2}};
@@ -144,6 +212,7 @@ int main(void) {
     boards();
     lists();
     puzzles();
+    all_answers();
     rooms();
     unions();
     files();

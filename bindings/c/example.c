@@ -1,4 +1,5 @@
-/* One row of three cells: a Wall after the first, none after the second. Asks, hands the fault's list over, prints it, undoes. */
+/* One row of three cells: a Wall after the first, none after the second. Asks, hands the fault's list over, prints it, undoes, and
+ * prints every answer that is left. */
 #include "sendai.h"
 
 #include <stdio.h>
@@ -8,6 +9,20 @@ static void print(const char *what, const uint16_t *list, size_t length) {
     printf("%s:", what);
     for (size_t i = 0; i < length; i++) printf(" %d", list[i]);
     printf("\n");
+}
+
+/* The right boards on which all that is decided stands, up to two of them. */
+static void print_answers(SendaiPuzzle puzzle) {
+    enum { BORDERS = 2, CAP = 2 };
+    uint8_t boards[CAP * BORDERS];
+    SendaiBoards right = sendai_puzzle_right_boards(puzzle, CAP, boards, sizeof boards);
+    if (right.code != SENDAI_ACCEPTED) printf("refused %d\n", right.code);
+    for (size_t k = 0; k < right.count; k++) {
+        printf("answer %d:", (int)k + 1);
+        for (size_t i = 0; i < BORDERS; i++) printf(" %s", boards[k * BORDERS + i] == SENDAI_WALL ? "Wall" : "Connected");
+        printf("\n");
+    }
+    printf(right.more ? "and more\n" : "and no other\n");
 }
 
 /* The puzzle that an accepted call returns. */
@@ -40,6 +55,7 @@ int main(void) {
 
     puzzle = accepted(sendai_puzzle_undo(puzzle));
     printf("after undo: kind %d\n", sendai_puzzle_ask(puzzle, list, SENDAI_MAX_LIST).kind);
+    print_answers(puzzle);
     printf("border 0 again: refused %d\n", sendai_puzzle_decide(puzzle, 0, false).code);
     printf("a buffer of 26 places: refused %d\n", sendai_puzzle_ask(puzzle, list, 26).code);
 

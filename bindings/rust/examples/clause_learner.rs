@@ -184,6 +184,10 @@ fn main() -> Result<(), Refusal> {
         let mut learner = Learner { puzzle, clauses: vec![], trail: vec![], asks: 0 };
         let found = learner.count()?;
         assert_eq!(found, laws::count(height, width, given, clues), "the learner lost a board, or took a wrong one");
+        // every decision is undone by now, and the checker's own search finds as many
+        let mut boards = vec![0; learner.puzzle.boards_len(found)?];
+        let right = learner.puzzle.right_boards(found, &mut boards)?;
+        assert_eq!((right.len(), right.more()), (found, false), "all answers are others");
         print!("{height} by {width}, given {given:?}, clues {clues:?}: {found} right boards of {}; ", 1 << free);
         println!("{} asks, {} clauses", learner.asks, learner.clauses.len());
     }

@@ -1,7 +1,8 @@
 //! The Sendai border checker: a safe interface to its proved calls.
 //!
 //! A solver decides the borders of a Sendai grid one by one. An ask says whether the borders decided so far can all hold, and where
-//! they can't it lists some of them that can't: a clause, once each is negated.
+//! they can't it lists some of them that can't: a clause, once each is negated. [`Puzzle::right_boards`] finds every answer of a
+//! started grid, and whether it has just one.
 //!
 //! ```
 //! use sendai::{hand_over, Check, Puzzle, NO_CLUE};
@@ -36,6 +37,7 @@ mod case;
 mod groups;
 mod puzzle;
 mod refusal;
+mod right_boards;
 mod room_graph;
 pub mod sys;
 mod union;
@@ -48,6 +50,7 @@ pub use case::Case;
 pub use groups::Groups;
 pub use puzzle::Puzzle;
 pub use refusal::Refusal;
+pub use right_boards::{RightBoard, RightBoards};
 pub use room_graph::RoomGraph;
 pub use sys::Edge;
 pub use union::Union;
@@ -60,6 +63,8 @@ pub const MAX_SIDE: usize = 32;
 pub const MAX_CELLS: usize = 1024;
 /// The most borders of a board, and the most edges of a room graph.
 pub const MAX_BORDERS: usize = 1984;
+/// The most undecided borders of a puzzle whose answers are all asked for.
+pub const MAX_UNDECIDED: usize = 24;
 /// A buffer of so many places is long enough for every list of every board and puzzle.
 pub const MAX_LIST: usize = 9216;
 /// The bytes that any line of a case's call fits.

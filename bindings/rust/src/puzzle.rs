@@ -1,4 +1,4 @@
-use crate::{accepted, board, sys, Board, Check, Fault, Refusal, State};
+use crate::{accepted, board, sys, Board, Check, Fault, Refusal, RightBoards, State, MAX_UNDECIDED};
 use std::fmt;
 
 /// A puzzle: a board, its given walls and a clue for each room. Rooms are the parts into which the given walls cut the board, numbered
@@ -59,6 +59,40 @@ impl Puzzle {
         Ok(Some(Fault { check, list: &buffer[..told.length] }))
     }
 
+    /// All answers: every right full board on which all that is decided stands, each once, rising, at most `cap` of them, and whether
+    /// more exist. Refused: `ManyUndecided`, `ShortBuffer` ([`boards_len`](Puzzle::boards_len)).
+    ///
+    /// ```
+    /// # use sendai::{Puzzle, State::*, NO_CLUE};
+    /// let mut puzzle = Puzzle::make(1, 4, &[], &[NO_CLUE])?;
+    /// let mut buffer = vec![0; puzzle.boards_len(10)?];
+    /// let right = puzzle.right_boards(10, &mut buffer)?;
+    /// assert_eq!((right.len(), right.more()), (2, false));     // two units of two cells, or four of one
+    /// assert!(right.get(0).unwrap().states().eq([Connected, Wall, Connected]));
+    /// assert!(right.get(1).unwrap().states().eq([Wall, Wall, Wall]));
+    ///
+    /// puzzle.decide(2, true)?;
+    /// assert!(puzzle.right_boards(1, &mut buffer)?.unique());  // a cap of 1 is enough to know
+    /// # Ok::<(), sendai::Refusal>(())
+    /// ```
+    pub fn right_boards<'b>(&self, cap: usize, buffer: &'b mut [u8]) -> Result<RightBoards<'b>, Refusal> {
+        // SAFETY: the buffer lives through the call.
+        let told = unsafe { sys::sendai_puzzle_right_boards(self.0, cap, buffer.as_mut_ptr(), buffer.len()) };
+        accepted(told.code)?;
+        let (borders, count) = (self.borders(), told.count);
+        Ok(RightBoards { bytes: &buffer[..count * borders], borders, count, more: told.more })
+    }
+
+    /// The length of a buffer for the right boards up to a cap: `cap` · borders. Refused, before a buffer is made: `ManyUndecided`, and
+    /// `ShortBuffer` where no buffer is so long.
+    pub fn boards_len(&self, cap: usize) -> Result<usize, Refusal> {
+        if self.undecided() > MAX_UNDECIDED {
+            return Err(Refusal::ManyUndecided);
+        }
+        // no slice has more than isize::MAX bytes
+        cap.checked_mul(self.borders()).filter(|&len| len <= isize::MAX as usize).ok_or(Refusal::ShortBuffer)
+    }
+
     /// Whether the record holds together; it does.
     pub fn check(&self) -> Result<(), Refusal> {
         accepted(sys::sendai_puzzle_check(self.0))
@@ -80,6 +114,11 @@ impl Puzzle {
     /// How many borders there are.
     pub fn borders(&self) -> usize {
         board::borders(&self.0.board)
+    }
+
+    /// How many borders are undecided.
+    pub fn undecided(&self) -> usize {
+        self.states().filter(|&state| state == State::Undecided).count()
     }
 
     /// The length of a buffer that every list of this puzzle fits: 9 · h · w.

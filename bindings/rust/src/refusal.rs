@@ -1,6 +1,7 @@
 use std::fmt;
 
-/// Why a call was refused: the question that was answered no, first in this order. `as u8` gives its number.
+/// Why a call was refused: the question that was answered no, first in this order, but 11 put first and 12 between 2 and 6. `as u8` gives
+/// its number.
 ///
 /// ```
 /// use sendai::{Board, Refusal};
@@ -33,10 +34,12 @@ pub enum Refusal {
     NotJoined = 10,
     /// Is the file sound?
     File = 11,
+    /// All answers: are at most [`MAX_UNDECIDED`](crate::MAX_UNDECIDED) borders undecided?
+    ManyUndecided = 12,
 }
 
 impl Refusal {
-    const ALL: [Refusal; 11] = [
+    const ALL: [Refusal; 12] = [
         Refusal::Sizes,
         Refusal::Record,
         Refusal::Missing,
@@ -48,6 +51,7 @@ impl Refusal {
         Refusal::ClueValue,
         Refusal::NotJoined,
         Refusal::File,
+        Refusal::ManyUndecided,
     ];
 
     /// The refusal with this number.

@@ -106,6 +106,11 @@ records! {
         room: usize = 8,
         length: usize = 16,
     }
+    Boards, 16 {
+        code: u8 = 0,
+        more: bool = 1,
+        count: usize = 8,
+    }
     Case, 12032 {
         code: u8 = 0,
         puzzle: Puzzle = 8,
@@ -175,6 +180,7 @@ unsafe extern "C" {
     pub safe fn sendai_puzzle_decide(puzzle: Puzzle, border: usize, wall: bool) -> PuzzleAnswer;
     pub safe fn sendai_puzzle_undo(puzzle: Puzzle) -> PuzzleAnswer;
     pub fn sendai_puzzle_ask(puzzle: Puzzle, buffer: *mut u16, length: usize) -> Outcome;
+    pub fn sendai_puzzle_right_boards(puzzle: Puzzle, cap: usize, buffer: *mut u8, length: usize) -> Boards;
 
     pub fn sendai_room_make(
         vertices: usize,

@@ -5,6 +5,7 @@ mod cases;
 mod forms;
 mod paper;
 mod refusals;
+mod right_boards;
 
 use crate::{Board, Refusal};
 
