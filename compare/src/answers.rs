@@ -1,4 +1,5 @@
 //! Answers that both sides give, in the terms of docs/SPEC.md.
+use std::fmt::{Debug, Formatter, Result as Formatted};
 
 #[derive(Debug, PartialEq, Eq)]
 pub struct Groups {
@@ -16,4 +17,24 @@ pub enum Answer {
     Clear,
     Shape(Vec<u16>),
     Room(usize, Vec<u16>),
+}
+
+/// Right boards: how many, whether there are more, and their borders' bytes, board after board.
+#[derive(PartialEq, Eq)]
+pub struct Boards {
+    pub count: usize,
+    pub more: bool,
+    pub bytes: Vec<u8>,
+}
+
+impl Debug for Boards {
+    /// A word a board.
+    fn fmt(&self, f: &mut Formatter) -> Formatted {
+        write!(f, "{} boards, more: {}", self.count, self.more)?;
+        let each = (self.bytes.len() / self.count.max(1)).max(1);
+        self.bytes.chunks(each).try_for_each(|board| {
+            let word: String = board.iter().map(u8::to_string).collect();
+            write!(f, " {word}")
+        })
+    }
 }

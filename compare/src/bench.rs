@@ -1,12 +1,14 @@
 //! Times of both sides from one driver, and docs/PERFORMANCE.md, which it writes. A ratio above 1 says that the port is faster.
 mod calls;
 mod paper;
+mod searches;
 mod stack;
 
 use crate::boards::{Standing, CONNECTED, UNDECIDED, WALL};
 use crate::random::Random;
 use calls::{Asked, Laid};
 use paper::{micros, number, Pair, Row};
+use searches::Searched;
 use std::hint::black_box;
 use std::process::Command;
 use std::time::Instant;
@@ -123,7 +125,13 @@ fn met(yes: bool) -> &'static str {
 }
 
 /// Each goal, what was found, and whether it is met.
-fn goals(asks: &[(String, Pair)], walls: Pair, turns: &[(String, Pair, f64)], stacks: &[(String, usize)]) -> String {
+fn goals(
+    asks: &[(String, Pair)],
+    walls: Pair,
+    turns: &[(String, Pair, f64)],
+    searched: &[Searched],
+    stacks: &[(String, usize)],
+) -> String {
     let slowest = asks.iter().min_by(|a, b| a.1.ratio().total_cmp(&b.1.ratio())).expect("asks");
     let part = |t: &&(String, Pair, f64)| t.1.port / t.2;
     let dearest = turns.iter().max_by(|a, b| part(a).total_cmp(&part(b))).expect("boards");
@@ -139,6 +147,9 @@ fn goals(asks: &[(String, Pair)], walls: Pair, turns: &[(String, Pair, f64)], st
         format!("up to {} of it ({}: {} µs, the ask {} µs)", number(turn / ask), dearest.0, micros(turn), micros(ask)),
         turn * 20.0 < ask,
     );
+    let dearest = searched.iter().max_by(|a, b| a.in_asks().total_cmp(&b.in_asks())).expect("grids");
+    let found = format!("up to {:.2} times ({})", dearest.in_asks(), dearest.name);
+    line("all right boards take at most 1.3 times the asks of their search", found, dearest.in_asks() <= 1.3);
     if let Some(names) = foreign() {
         let heap = names.iter().any(|name| name.contains("alloc"));
         line("no heap", format!("the archive takes {} from elsewhere, and nothing more", names.join(" and ")), !heap);
@@ -158,7 +169,9 @@ pub fn run() {
     let others = calls::others();
     let (columns, on_boards) = calls::on_boards(&boards(32));
     let turns = calls::decide_and_undo(&boards(32), &eight);
-    let stacks = calls::stacks(&boards(32), &puzzles(32));
+    let searched = searches::all();
+    let mut stacks = calls::stacks(&boards(32), &puzzles(32));
+    stacks.push(("right boards, 24 borders undecided".into(), searches::stack()));
     let asked = rooms.iter().map(|row| (format!("room check, {}", row.name), row.times));
     let mut all: Vec<(String, Pair)> = grown
         .iter()
@@ -172,12 +185,13 @@ pub fn run() {
     let text = format!(
         "{HEAD}\n## Goals\n\n{}\n{WHY}\n## Asks at 32 by 32\n\n{}\n## How an ask grows\n\nThe port's µs, and the ratio in brackets.\n\n{}\n\
          ## The other calls on the eight boards, 32 by 32\n\n{OTHER_CALLS}\n{}\n## Decide and undo\n\n{DECIDES}\n{}\n\
-         ## Rooms, unions, hand-over\n\n{ROOMS}\n{}\n{}\n## Stack\n\n{STACK}\n| call | KB |\n|---|---|\n{stack_lines}",
-        goals(&all, eight[0].1, &turns, &stacks),
+         ## All right boards of a started grid\n\n{SEARCHES}\n{}\n## Rooms, unions, hand-over\n\n{ROOMS}\n{}\n{}\n## Stack\n\n{STACK}\n| call | KB |\n|---|---|\n{stack_lines}",
+        goals(&all, eight[0].1, &turns, &searched, &stacks),
         paper::pairs("shape check and puzzles", &shape),
         paper::grid("ask", &sides, &grown),
         paper::grid("board", &columns, &on_boards),
         paper::pairs("a decide and an undo", &turned),
+        searches::table(&searched),
         paper::pairs("room check, 1,024 vertices and 1,984 edges", &rooms),
         paper::pairs("call", &others),
     );
@@ -206,6 +220,12 @@ the largest unit or potential unit. A boundary call of the port groups the board
 
 const DECIDES: &str = "Each call of the port puts question 2 to the whole record and moves it by value (6 KB for a board, 12 KB for a puzzle), where the Rust
 changes one place. The calls in place are thin ones over those by value. On a full board the first border is left open.
+";
+
+const SEARCHES: &str = "Each grid has 24 undecided borders, and all right boards over it are written. The search asks on each board that it comes by, and
+unless that is a fault it goes on over the lowest undecided border, Connected first; the Rust's time is that of the same search by its
+own checks. In asks: the call's time, divided by that of the plain puzzle's asks on the same boards, of which one ask is the mean.
+The 16 by 16 board is dominoes in one room, 8 of them without their inner border, and the clue wants 4 of these parted.
 ";
 
 const ROOMS: &str = "The port's room check puts question 2 to the record, which the Rust does not; it unites, and lists the arcs for the walk, only where

@@ -8,6 +8,7 @@ pub mod hand_over;
 pub mod numbering;
 pub mod path;
 pub mod puzzle;
+pub mod right_boards;
 pub mod shape;
 pub mod union_find;
 
@@ -32,7 +33,7 @@ pub struct Layer {
     pub run: fn(&Limits) -> Tally,
 }
 
-pub const LAYERS: [Layer; 11] = [
+pub const LAYERS: [Layer; 12] = [
     Layer { name: "numbering", run: numbering::run },
     Layer { name: "board", run: board::run },
     Layer { name: "groups", run: groups::run },
@@ -42,6 +43,7 @@ pub const LAYERS: [Layer; 11] = [
     Layer { name: "union_find", run: union_find::run },
     Layer { name: "city_count", run: city_count::run },
     Layer { name: "puzzle", run: puzzle::run },
+    Layer { name: "right_boards", run: right_boards::run },
     Layer { name: "hand_over", run: hand_over::run },
     Layer { name: "files", run: files::run },
 ];

@@ -134,6 +134,13 @@ mod c {
     }
 
     #[repr(C)]
+    pub struct Boards {
+        pub code: u8,
+        pub more: bool,
+        pub count: usize,
+    }
+
+    #[repr(C)]
     pub struct Opened {
         pub code: u8,
         pub puzzle: Puzzle,
@@ -207,6 +214,7 @@ mod c {
             clues_length: usize,
         ) -> PuzzleMade;
         pub fn sendai_puzzle_ask(puzzle: Puzzle, buffer: *mut u16, room: usize) -> Outcome;
+        pub fn sendai_puzzle_right_boards(puzzle: Puzzle, cap: usize, buffer: *mut u8, room: usize) -> Boards;
         pub fn sendai_room_make(
             vertices: usize,
             us: *const u16,

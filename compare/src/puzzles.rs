@@ -230,3 +230,11 @@ pub fn drawn(random: &mut Random, low: usize, high: usize) -> (Standing, Making)
     let making = on(random, &mut board);
     (board, making)
 }
+
+/// A record on which a board stands, decided in any order.
+pub fn record(random: &mut Random, board: &Standing, making: &Making) -> PuzzleRecord {
+    let mut order: Vec<u16> = (0..board.states.len() as u16).collect();
+    order.retain(|border| board.states[*border as usize] != UNDECIDED && making.given.binary_search(border).is_err());
+    random.shuffle(&mut order);
+    PuzzleRecord::of((making.height, making.width), &board.states, &order, &making.given, &making.clues)
+}

@@ -1,6 +1,6 @@
 //! The script that crate `vectors` runs in the gate, and the Rust's answers to it: a line for each call. README.md has the calls.
 use crate::boards::{self, Standing, UNDECIDED};
-use crate::layers::{board, boundary, city_count, groups, hand_over, numbering, path, puzzle, shape, union_find};
+use crate::layers::{board, boundary, city_count, groups, hand_over, numbering, path, puzzle, right_boards, shape, union_find};
 use crate::random::Random;
 use std::fmt::Display;
 use std::path::Path;
@@ -87,6 +87,7 @@ pub fn write(folder: &Path) {
     city_count::sample(sample);
     puzzle::sample(sample);
     hand_over::sample(sample);
+    right_boards::sample(sample);
     sample.script += ".  00000 00000\n";
     sample.answers += "end\n";
     println!("{} calls", sample.script.lines().count() - 1);

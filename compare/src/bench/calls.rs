@@ -27,9 +27,9 @@ pub fn ask(board: &Standing) -> Asked {
 
 /// A puzzle with what stands on it.
 pub struct Laid {
-    board: Standing,
-    given: Vec<usize>,
-    clues: Vec<u16>,
+    pub board: Standing,
+    pub given: Vec<usize>,
+    pub clues: Vec<u16>,
 }
 
 impl Laid {
@@ -65,14 +65,14 @@ impl Laid {
         states.filter(|(border, state)| *state != UNDECIDED && self.given.binary_search(border).is_err())
     }
 
-    fn rust(&self) -> reference::Puzzle {
+    pub fn rust(&self) -> reference::Puzzle {
         let (height, width) = (self.board.height, self.board.width);
         let mut rust = reference::Puzzle::new(height, width, &self.given, &self.clues, false).expect("made");
         self.stands().for_each(|(border, state)| rust.decide(border, state == WALL).expect("decided"));
         rust
     }
 
-    fn port(&self) -> port::Puzzle {
+    pub fn port(&self) -> port::Puzzle {
         let given: Vec<u16> = self.given.iter().map(|&border| border as u16).collect();
         let ledger: Vec<u16> = self.stands().map(|(border, _)| border as u16).collect();
         let size = (self.board.height, self.board.width);

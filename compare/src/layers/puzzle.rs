@@ -199,11 +199,7 @@ fn random_run(compared: &mut Compared, random: &mut Random, low: usize, high: us
 
 fn random_record(compared: &mut Compared, random: &mut Random) {
     let (board, making) = puzzles::drawn(random, 1, 8);
-    let mut order: Vec<u16> = (0..board.states.len() as u16).collect();
-    order.retain(|&border| board.states[border as usize] != UNDECIDED && !making.given.contains(&border));
-    random.shuffle(&mut order);
-    let size = (making.height, making.width);
-    let record = PuzzleRecord::of(size, &board.states, &order, &making.given, &making.clues);
+    let record = puzzles::record(random, &board, &making);
     compared.record(puzzles::damaged(random, record), random.below(board.states.len() + 2));
 }
 

@@ -21,10 +21,10 @@ impl Lent {
     }
 
     /// Lends so many places to a call that answers how many it wrote, and takes those out.
-    fn lend<T>(&mut self, room: usize, call: impl FnOnce(*mut u8, usize) -> (T, usize)) -> (T, Vec<u8>) {
+    pub(super) fn lend<T>(&mut self, room: usize, call: impl FnOnce(*mut u8, usize) -> (T, usize)) -> (T, Vec<u8>) {
         let lent = &mut self.bytes[..room];
         let (answer, used) = call(lent.as_mut_ptr(), room);
-        assert!(used <= room && self.bytes[used..] == self.blank[used..], "places behind the lines were written");
+        assert!(used <= room && self.bytes[used..] == self.blank[used..], "places behind what was written were touched");
         let written = self.bytes[..used].to_vec();
         self.bytes[..used].fill(BLANK);
         (answer, written)

@@ -31,6 +31,10 @@ impl Puzzle {
     pub fn ask_in(&self, buffer: &mut [u16]) -> u8 {
         unsafe { c::sendai_puzzle_ask(self.0, buffer.as_mut_ptr(), buffer.len()) }.kind
     }
+
+    pub fn right_boards_in(&self, cap: usize, buffer: &mut [u8]) -> usize {
+        unsafe { c::sendai_puzzle_right_boards(self.0, cap, buffer.as_mut_ptr(), buffer.len()) }.count
+    }
 }
 
 pub fn hand_over_in(entries: &[u16], buffer: &mut [u16]) -> usize {

@@ -1,6 +1,8 @@
 //! The puzzle's calls.
+use super::file::Lent;
 use super::{accepted, c, UNTOUCHED};
-use crate::answers::Answer;
+use crate::answers::{Answer, Boards};
+use crate::boards::border_count;
 use std::fmt::{Debug, Formatter, Result as Formatted};
 
 pub use c::Puzzle as PuzzleRecord;
@@ -89,4 +91,23 @@ impl Puzzle {
             numbers => panic!("{numbers:?} are no answer"),
         }
     }
+    /// At most `cap` right boards into so many bytes; those behind the boards, and some behind the buffer, must be untouched.
+    pub fn right_boards(&self, cap: usize, room: usize) -> Result<Boards, u8> {
+        let mut lent = Lent::new(room + BEHIND);
+        let (told, bytes) = lent.lend(room, |buffer, room| {
+            // the buffer lives through the call
+            let told = unsafe { c::sendai_puzzle_right_boards(self.0, cap, buffer, room) };
+            let each = if told.count == 0 { 0 } else { border_count(self.0.board.height, self.0.board.width) };
+            let used = told.count.saturating_mul(each);
+            (told, used)
+        });
+        match (told.code, told.count, told.more) {
+            (0, count, more) => Ok(Boards { count, more, bytes }),
+            (code, 0, false) => Err(code),
+            numbers => panic!("{numbers:?} are no answer"),
+        }
+    }
 }
+
+/// How many bytes behind a buffer are looked at.
+const BEHIND: usize = 9;

@@ -1,9 +1,11 @@
-// Calls on a puzzle: make (its given walls and clues wait in two queues), decide, undo and ask; its board's record.
+// Calls on a puzzle: make (its given walls and clues wait in two queues), decide, undo and ask; its board's record; its right boards.
 use crate::queue;
 use crate::queue::Queue;
 use crate::say;
 use crate::script::Command;
 use answers::Plain;
+use enumerate::Boards;
+use grid::Grid;
 use puzzle::Answer;
 use puzzle::Check;
 use puzzle::Made;
@@ -74,6 +76,37 @@ fn say_record(p: Puzzle, n: usize) {
     say::record(&b.book.states, n, &b.book.names, b.book.len);
 }
 
+// How many digits a board has. A size beyond the limits has none, and its puzzle is refused anyway.
+fn borders(g: Grid) -> usize {
+    if !grid::sizes_ok(g) {
+        return 0;
+    }
+    grid::border_count(g)
+}
+
+fn say_listed(count: usize, more: bool, boards: &[u8], g: Grid) {
+    say::number(0);
+    say::spaced(count);
+    say::spaced(if more { 1 } else { 0 });
+    say::words(boards, count, borders(g));
+    say::text(b"\n");
+}
+
+// The right boards, lent so many bytes.
+fn boards_lent(p: Puzzle, cap: usize, bytes: usize, buffer: &mut [u8]) -> Boards {
+    let n = queue::bytes_within(buffer, bytes);
+    enumerate::right_boards(p, cap, &mut buffer[..n])
+}
+
+// The buffer takes a board of the largest size, or many small ones.
+fn say_boards(p: Puzzle, cap: usize, bytes: usize) {
+    let mut buffer = [0u8; limits::BORDERS];
+    match boards_lent(p, cap, bytes, &mut buffer) {
+        Boards::Listed(count, more) => say_listed(count, more, &buffer, p.board.grid),
+        Boards::Refused(code) => say::code(code),
+    }
+}
+
 pub fn call(p: Puzzle, c: Command) -> Puzzle {
     let call = c.call;
     match call {
@@ -81,6 +114,10 @@ pub fn call(p: Puzzle, c: Command) -> Puzzle {
         b'u' => kept(puzzle::undo(p)),
         b'r' => {
             say_record(p, c.x);
+            p
+        }
+        b'b' => {
+            say_boards(p, c.x, c.y);
             p
         }
         _ => {

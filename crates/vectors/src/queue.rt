@@ -44,3 +44,13 @@ pub fn within(list: &[u16], n: usize) -> usize
     }
     n
 }
+
+// How many of n bytes the list has.
+pub fn bytes_within(list: &[u8], n: usize) -> usize
+    ensures { λ r. ⌜ Counts r (now (list .entry)) ⌝ }
+{
+    if list.len() < n {
+        return list.len();
+    }
+    n
+}

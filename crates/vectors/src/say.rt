@@ -10,7 +10,7 @@ pub fn number(n: usize) {
     io::print_decimal(STDOUT_FILENO, n as u64);
 }
 
-fn spaced(n: usize) {
+pub fn spaced(n: usize) {
     text(b" ");
     number(n);
 }
@@ -40,6 +40,32 @@ fn bytes(list: &[u8], n: usize) {
         }
         spaced(wide(list[i]));
         i += 1;
+    }
+}
+
+// The n bytes of a list from `from` on, as one word of digits after a space. Answers where the word ends.
+fn word(list: &[u8], from: usize, n: usize) -> usize {
+    text(b" ");
+    let mut at = from;
+    let mut left = n;
+    while 0 < left {
+        if list.len() <= at {
+            return at;
+        }
+        number(wide(list[at]));
+        at += 1;
+        left -= 1;
+    }
+    at
+}
+
+// The first words of a list, each of n digits.
+pub fn words(list: &[u8], count: usize, n: usize) {
+    let mut at = 0;
+    let mut left = count;
+    while 0 < left {
+        at = word(list, at, n);
+        left -= 1;
     }
 }
 
