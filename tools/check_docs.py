@@ -9,6 +9,7 @@ import sys
 
 TOP = os.path.dirname(os.path.dirname(os.path.abspath(__file__)))
 PAPERS = ["README.md", "compare/README.md"] + ["docs/%s.md" % n for n in ("SPEC", "CLAIMS", "DECISIONS", "DIFFERENCES", "PERFORMANCE")]
+PAPERS += sorted(os.path.relpath(p, TOP) for p in glob.glob(os.path.join(TOP, "docs", "requests", "*.md")))
 COMMENTS = ["crates/*/src/*.rt", "crates/*/specs/*.antt", "crates/*/proofs/**/*.antt", "compare/**/*.rs", "compare/fuzz/*.c", "bindings/sendai.h"]
 FILE = r"\b([a-z][a-z0-9_]*)/(specs|proofs)/([A-Z]\w*)\b"
 

@@ -11,7 +11,7 @@ use grid::Grid;
 use puzzle::Answer;
 use puzzle::Puzzle;
 
-// More undecided borders are refused: 2 to the 24th boards is what a search can look through.
+// More undecided borders are refused: a search may have to look at 2 to their number boards.
 const UNDECIDED: usize = 24;
 
 // What is answered: how many boards were written and whether there are more, or refused with the question's number.
