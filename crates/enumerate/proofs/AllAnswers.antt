@@ -1,4 +1,4 @@
--- THE PROMISE, for every accepted call and for every list of calls from a fresh puzzle. Assumes nothing.
+-- The boards of the definition are exactly the answers, rising, and of those as many as the cap are what is promised. Assumes nothing.
 use Prim.Native.Nat.{ℕ, _+_, _≤_, _<_}
 use mathlib.Core.Path.{_≡_, refl, ap, sym, _∙_}
 use mathlib.Core.Logic.{_⊎_, inl, inr, ⊎-elim, _≢_}

@@ -38,7 +38,7 @@ use Rattle.demand_3.proofs.Demand3.{accepted, reached-calls}
 use Rattle.enumerate.specs.declared.Boards.{Boards}
 use Rattle.enumerate.specs.declared.Boards.the-variants.{Listed, Refused}
 use Rattle.enumerate.specs.Boards.{rights, statesIn, rightsOf, placesCode, boardsCode, Enumerated, listing, answered, boardsOf}
-use Rattle.enumerate.specs.AllAnswers.{IsAnswer, boardsIn, AllAnswers, Fulfilled}
+use Rattle.enumerate.specs.AllAnswers.{IsAnswer, JustOne, boardsIn, AllAnswers, Fulfilled}
 use Rattle.enumerate.proofs.Codes.{enough-places}
 use Rattle.enumerate.proofs.Starting.{right-long, states-good, walls-stand}
 use Rattle.enumerate.proofs.Order.{not-itself}
@@ -171,20 +171,39 @@ exactly a b = (
       (a .whole b k),
 )
 
--- a cap of 1 that is met without more: there is an answer, and every answer is this one
-pub just-one : (p : Puzzle) (buf : List ℕ) → boardsOf p 1 buf .answer ≡ Listed 1 false
-    → (b : List ℕ) × IsAnswer (gridOf p) (givenOf p) (cluesOf p) (stateAt (bookOf p .states)) b
-    × ((c : List ℕ) → IsAnswer (gridOf p) (givenOf p) (cluesOf p) (stateAt (bookOf p .states)) c → c ≡ b)
-just-one p buf q = go (boardsIn (bordersOf p) 1 (boardsOf p 1 buf .buffer)) (take (bordersOf p) (boardsOf p 1 buf .buffer)) (unfold boardsIn in refl) (every-puzzle p 1 buf 1 false q .answers)
-  where
-    go : (boards : List (List ℕ)) (b : List ℕ) → boards ≡ b ∷ [] → AllAnswers (gridOf p) (givenOf p) (cluesOf p) (stateAt (bookOf p .states)) 1 boards false
-        → (b : List ℕ) × IsAnswer (gridOf p) (givenOf p) (cluesOf p) (stateAt (bookOf p .states)) b
-        × ((c : List ℕ) → IsAnswer (gridOf p) (givenOf p) (cluesOf p) (stateAt (bookOf p .states)) c → c ≡ b)
-    go boards b e a = (b, exactly a b .0 (rw e (inl refl)), λ c k. only-one c (rw e at (exactly a c .1 k)))
-      where
-        only-one : (c : List ℕ) → In c (b ∷ []) → c ≡ b
-        only-one c (inl q) = q
-        only-one c (inr m) = absurd m
+-- of boards up to a cap of 1, one is written and no more is said exactly when there is one answer and no other
+module _ {g : Grid} {given clues : List ℕ} {s : States} where
+  one-of : (boards : List (List ℕ)) (more : Bool) → AllAnswers g given clues s 1 boards more → ((length boards ≡ 1) × (more ≡ false)) ↔ JustOne g given clues s
+  one-of [] more a = (
+    λ o. absurd (omega (arith, o .0)),
+    λ u. absurd (⊎-elim (λ m. m) (λ o. omega (arith, o .0)) (a .whole (u .board) (u .answer))),
+  )
+  one-of (b ∷ []) more a = (
+    λ o. record { board = b; answer = a .only b (inl refl); only = λ c k. alone c (exactly (rw (o .1) at a) c .1 k) },
+    λ u. (refl, said more a u),
+  )
+    where
+      alone : (c : List ℕ) → In c (b ∷ []) → c ≡ b
+      alone c (inl q) = q
+      alone c (inr m) = absurd m
+
+      said : (t : Bool) → AllAnswers g given clues s 1 (b ∷ []) t → JustOne g given clues s → t ≡ false
+      said false x u = refl
+      said true x u = let o = x .beyond .0 refl in absurd (o .2 (inl (u .only (o .0) (o .1) ∙ sym (u .only b (x .only b (inl refl))))))
+  one-of (b ∷ c ∷ bs) more a = absurd (omega (arith, a .most))
+
+boards-many : (n k : ℕ) (buf : List ℕ) → length (boardsIn n k buf) ≡ k
+unfolding boardsIn
+boards-many n zero buf = refl
+boards-many n (suc k) buf = ap suc (boards-many n k (drop n buf))
+
+-- a cap of 1 tells whether there is just one answer
+pub just-one : (p : Puzzle) (buf : List ℕ) (count : ℕ) (more : Bool) → boardsOf p 1 buf .answer ≡ Listed count more
+    → ((count ≡ 1) × (more ≡ false)) ↔ JustOne (gridOf p) (givenOf p) (cluesOf p) (stateAt (bookOf p .states))
+just-one p buf count more q =
+    let k = one-of (boardsIn (bordersOf p) count (boardsOf p 1 buf .buffer)) more (every-puzzle p 1 buf count more q .answers) in
+    let e = boards-many (bordersOf p) count (boardsOf p 1 buf .buffer) in
+    (λ o. k .0 (e ∙ o .0, o .1), λ u. (sym e ∙ k .1 u .0, k .1 u .1))
 
 -- AFTER EVERY LIST OF CALLS from a fresh puzzle
 module _ (h w : ℕ) (given clues : List ℕ) (made : makeOf h w given clues .code ≡ 0) where

@@ -1,17 +1,18 @@
 -- The search's ways through, over plain values: the cap is met, a fault, a full board, two values; and what each next call is given. Assumes nothing.
 use Prim.Native.Nat.{ℕ, _+_, _*_, _≤_, _<_}
 use mathlib.Core.Path.{_≡_, refl, ap, sym, _∙_}
-use mathlib.Core.Logic.{_⊎_, inl, inr, ⊎-elim, _≢_}
-use mathlib.Core.Bool.{Bool, true, false}
-use mathlib.Core.List.{List, [], _∷_, _++_, append-assoc}
+use mathlib.Core.Logic.{_⊎_, ⊎-elim, _≢_}
+use mathlib.Core.Bool.{true}
+use mathlib.Core.List.{List, [], _∷_, _++_}
 use mathlib.Core.Option.{Option, none, some}
 use native.Mathlib.Omega.{arith}
 use denote.Enum.Declared.{tagOf}
 use lib.ListN.{length, getD, set, length-set}
 use lib.Seq.{set-set, set-getD, getD-set-same, getD-set-other}
 use Rattle.lists.specs.Choice.{when}
-use Rattle.lists.specs.Lists.{In, count, keep}
+use Rattle.lists.specs.Lists.{count, keep}
 use Rattle.lists.proofs.Cases.{eq-or-ne}
+use Rattle.lists.proofs.ListLaws.{keep-append, keep-none}
 use Rattle.grid.specs.declared.Grid.{Grid}
 use Rattle.grid.specs.Grid.{borderCount}
 use Rattle.borders.specs.Entry.{Standing}
@@ -28,17 +29,6 @@ use Rattle.enumerate.specs.Search.{firstUndecided, Written, add, addAll,
 use Rattle.enumerate.proofs.Undecided.{first-most, first-zero, one-less}
 use Rattle.enumerate.proofs.Extensions.{Over, in-extensions, over-stands, over-full, full-alone, split-first}
 use Rattle.enumerate.proofs.Writing.{all-append, fits-all, no-more}
-
-module _ {A : Type 0} where
-  keep-append : (p : A → Bool) (xs ys : List A) → keep p (xs ++ ys) ≡ keep p xs ++ keep p ys
-  unfolding keep
-  keep-append p [] ys = refl
-  keep-append p (x ∷ xs) ys = ap (λ l. when (p x) x ++ l) (keep-append p xs ys) ∙ sym (append-assoc (when (p x) x) (keep p xs) (keep p ys))
-
-  keep-none : (p : A → Bool) (xs : List A) → ((x : A) → In x xs → p x ≡ false) → keep p xs ≡ []
-  unfolding keep when
-  keep-none p [] h = refl
-  keep-none p (x ∷ xs) h = rw (h x (inl refl)) (keep-none p xs (λ y m. h y (inr m)))
 
 -- WHAT IS RIGHT over the states s
 module _ (g : Grid) (given clues s : List ℕ) where

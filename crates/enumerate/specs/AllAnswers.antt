@@ -20,6 +20,12 @@ pub record IsAnswer (g : Grid) (given clues : List ℕ) (s : States) (b : List �
   pub extends : (e : ℕ) → e < borderCount g → s e ≢ 0 → stateOf b e ≡ s e
   pub right : RightBoard g given clues (stateOf b)
 
+-- there is an answer, and no other
+pub record JustOne (g : Grid) (given clues : List ℕ) (s : States) : Type 0 where
+  pub board : List ℕ
+  pub answer : IsAnswer g given clues s board
+  pub only : (b : List ℕ) → IsAnswer g given clues s b → b ≡ board
+
 -- b comes before c (SPEC 10.3): in the first border in which they differ, border 0 compared first, b's state is the lower one
 pub record Before (b c : List ℕ) : Type 0 where
   pub at : ℕ
