@@ -10,8 +10,8 @@ use native.Mathlib.Nat.{add-zero, suc-mul, mul-le-mul-right}
 use native.Mathlib.Numerals.{add-one}
 use borrow.Author.Tests.{lt-ltb, le-ltb}
 use lib.Dec.{ltb}
-use lib.ListN.{length, getD, set, take, drop, drop-of-length-le}
-use lib.Seq.{sets, length-sets, drop-cons}
+use lib.ListN.{length, take}
+use lib.Seq.{sets, length-sets}
 use Rattle.lists.specs.Lists.{In, gather}
 use Rattle.lists.proofs.Cases.{le-or-lt}
 use Rattle.lists.proofs.SetsLaws.{sets-append}
@@ -95,14 +95,3 @@ all-from n cap (suc d) k q buf (b ∷ bs) each =
     ap (λ x. addAll x bs) (add-below (ended cap k false buf) b (omega arith))
     ∙ all-from n cap d (k + 1) (omega arith) (sets buf (k * length b) b) bs (λ c m. each c (inr m))
     ∙ one-then n cap d k (length bs) (length (take d bs)) buf b (gather (λ c. c) (take d bs)) (each b (inl refl))
-
--- A BOARD, byte by byte, from place `at` on
-module _ (board boards : List ℕ) (at : ℕ) where
-  pub write-start : sets boards (at + 0) (drop 0 board) ≡ sets boards at board
-  write-start = rw (add-zero at)
-
-  pub write-turn : (i : ℕ) → i < length board → sets boards (at + i) (drop i board) ≡ sets (set boards (at + i) (getD board i 0)) (at + (i + 1)) (drop (i + 1) board)
-  write-turn i h = let q : at + suc i ≡ suc (at + i) = omega arith in rw (drop-cons board i 0 h, add-one i, q)
-
-  pub write-end : (i : ℕ) → length board ≤ i → sets boards (at + i) (drop i board) ≡ boards
-  write-end i h = rw (drop-of-length-le board {i = i} h)

@@ -3,7 +3,6 @@
 ghost use mathlib.Core.Path.{_≡_};
 ghost use Prim.Native.Nat.{_+_, _*_, _≤_};
 ghost use lib.ListN.{length, take};
-ghost use lib.Seq.{sets};
 ghost use Rattle.lists.specs.Lists.{count};
 ghost use Rattle.enumerate.specs.Boards.{placesCode, listing, boardsOf};
 ghost use Rattle.enumerate.specs.Search.{firstUndecided, Fits, written, add, Searching, Trying, searched, Started, rightsAt};
@@ -70,18 +69,6 @@ fn first_undecided(states: &[u8]) -> usize
     i
 }
 
-// Writes a board from place `at` on.
-fn write_board(board: &[u8], boards: &mut [u8], at: usize)
-    requires { ⌜ at + length (now board) ≤ length (now boards) ⌝ }
-    ensures { λ _. ⌜ now (boards .exit) ≡ sets (now (boards .entry)) at (now (board .entry)) ⌝ }
-{
-    let mut i = 0;
-    while i < board.len() {
-        boards[at + i] = board[i];
-        i += 1;
-    }
-}
-
 // Writes a board behind those that are written, or notes that there is one more than the cap.
 fn keep(board: &[u8], boards: &mut [u8], tally: Tally) -> Tally
     requires { ⌜ Fits (length (now board)) (written tally (now boards)) ⌝ }
@@ -89,7 +76,7 @@ fn keep(board: &[u8], boards: &mut [u8], tally: Tally) -> Tally
 {
     let at = tally.count;
     if at < tally.cap {
-        write_board(board, boards, at * board.len());
+        lists::put(board, boards, at * board.len());
         return Tally {
             cap: tally.cap,
             count: at + 1,

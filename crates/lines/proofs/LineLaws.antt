@@ -20,25 +20,6 @@ use Rattle.lines.specs.declared.Line.{Line}
 use borrow.Author.Tests.{le-leb, lt-leb}
 use Rattle.lines.proofs.DecimalLaws.{digits-one, digits-more, digits-few, digits-most}
 
--- The loop that writes a word: the rest of it, stored from its place on, gives all of it stored from the first place on.
-pub record Putting (word buffer₀ : List ℕ) (at : ℕ) (buffer : List ℕ) (i : ℕ) : Type 0 where
-  pub within : i ≤ length word
-  pub long : length buffer ≡ length buffer₀
-  pub left : sets buffer (at + i) (drop i word) ≡ sets buffer₀ at word
-
-module _ {word buffer₀ : List ℕ} {at : ℕ} {buffer : List ℕ} {i : ℕ} (f : Putting word buffer₀ at buffer i) where
-  pub putting-next : i < length word → Putting word buffer₀ at (set buffer (at + i) (getD word i 0)) (i + 1)
-  putting-next h =
-      let e : at + (i + 1) ≡ suc (at + i) = omega arith in
-      record {
-        within = omega arith;
-        long = simp length-set (f .long);
-        left = rw (e, add-one) (rw (drop-cons word i 0 h) at (f .left));
-      }
-
-  pub putting-end : length word ≤ i → buffer ≡ sets buffer₀ at word
-  putting-end h = rw (drop-of-length-le word h) at (f .left)
-
 -- a digit behind the others
 module _ (places n at : ℕ) (buffer : List ℕ) (z : places ≢ 0) where
   pub one-digit : n < 10 → (at + 1 ≡ at + length (digitsOf places n)) × (set buffer at (48 + n % 10) ≡ sets buffer at (digitsOf places n))

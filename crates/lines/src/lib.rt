@@ -24,20 +24,6 @@ fn wide(x: u16) -> usize
     x as usize
 }
 
-// Writes a word from a place of the buffer on, and answers the place behind it.
-fn put(word: &[u8], buffer: &mut [u8], at: usize) -> usize
-    requires { ⌜ at + length (now word) ≤ length (now buffer) ⌝ }
-    ensures { λ r. ⌜ r ≡ at + length (now (word .entry)) ⌝ }
-    ensures { λ _. ⌜ now (buffer .exit) ≡ sets (now (buffer .entry)) at (now (word .entry)) ⌝ }
-{
-    let mut i = 0;
-    while i < word.len() {
-        buffer[at + i] = word[i];
-        i += 1;
-    }
-    at + i
-}
-
 // Writes a number in decimal, of at most so many digits.
 fn digits(n: usize, places: usize, buffer: &mut [u8], at: usize) -> usize
     requires { ⌜ at + length (digitsOf places n) ≤ length (now buffer) ⌝ }
@@ -79,9 +65,9 @@ fn shape(list: &[u16], buffer: &mut [u8]) -> usize
     ensures { λ r. ⌜ r ≡ length (shapeOf (now (list .entry))) ⌝ }
     ensures { λ _. ⌜ now (buffer .exit) ≡ sets (now (buffer .entry)) 0 (shapeOf (now (list .entry))) ⌝ }
 {
-    let at = put(b"shape:", buffer, 0);
+    let at = lists::put(b"shape:", buffer, 0);
     let at = entries(list, buffer, at);
-    put(b"\n", buffer, at)
+    lists::put(b"\n", buffer, at)
 }
 
 fn room(number: usize, list: &[u16], buffer: &mut [u8]) -> usize
@@ -89,11 +75,11 @@ fn room(number: usize, list: &[u16], buffer: &mut [u8]) -> usize
     ensures { λ r. ⌜ r ≡ length (roomOf number (now (list .entry))) ⌝ }
     ensures { λ _. ⌜ now (buffer .exit) ≡ sets (now (buffer .entry)) 0 (roomOf number (now (list .entry))) ⌝ }
 {
-    let at = put(b"room ", buffer, 0);
+    let at = lists::put(b"room ", buffer, 0);
     let at = digits(number, 20, buffer, at);
-    let at = put(b":", buffer, at);
+    let at = lists::put(b":", buffer, at);
     let at = entries(list, buffer, at);
-    put(b"\n", buffer, at)
+    lists::put(b"\n", buffer, at)
 }
 
 fn refused(number: u8, buffer: &mut [u8]) -> usize
@@ -101,9 +87,9 @@ fn refused(number: u8, buffer: &mut [u8]) -> usize
     ensures { λ r. ⌜ r ≡ length (refusedOf number) ⌝ }
     ensures { λ _. ⌜ now (buffer .exit) ≡ sets (now (buffer .entry)) 0 (refusedOf number) ⌝ }
 {
-    let at = put(b"refused ", buffer, 0);
+    let at = lists::put(b"refused ", buffer, 0);
     let at = digits(number as usize, 20, buffer, at);
-    put(b"\n", buffer, at)
+    lists::put(b"\n", buffer, at)
 }
 
 // Writes the line to the first places of a buffer that has room for it, and answers how many.
@@ -113,9 +99,9 @@ pub fn put_line(line: Line, list: &[u16], buffer: &mut [u8]) -> usize
     ensures { λ _. ⌜ now (buffer .exit) ≡ sets (now (buffer .entry)) 0 (lineOf line (now (list .entry))) ⌝ }
 {
     match line {
-        Line::Decided => put(b"decided\n", buffer, 0),
-        Line::Undone => put(b"undone\n", buffer, 0),
-        Line::Clear => put(b"clear\n", buffer, 0),
+        Line::Decided => lists::put(b"decided\n", buffer, 0),
+        Line::Undone => lists::put(b"undone\n", buffer, 0),
+        Line::Clear => lists::put(b"clear\n", buffer, 0),
         Line::Shape => shape(list, buffer),
         Line::Room(number) => room(number, list, buffer),
         Line::Refused(number) => refused(number, buffer),

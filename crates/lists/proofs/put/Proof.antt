@@ -1,18 +1,18 @@
--- `lines::put` meets its contract: the invariant `Putting` says what is left, one law a turn and one at the end. Assumes nothing.
+-- `lists::put` meets its contract: the invariant `Putting` says what is left, one law a turn and one at the end. Assumes nothing.
 use Prim.Native.Nat.{_-_}
 use mathlib.Core.Path.{refl}
 use native.Mathlib.Omega.{arith}
 use native.Mathlib.Nat.{add-zero}
 use lib.ListN.{length}
-use Rattle.lines.proofs.LineLaws.{Putting, putting-next, putting-end}
-use Rattle.lines.proofs.put.Statement.{statement}
-use Rattle.lines.proofs.put.Tie as tie
+use Rattle.lists.proofs.SetsLaws.{Putting, putting-next, putting-end}
+use Rattle.lists.proofs.put.Statement.{statement}
+use Rattle.lists.proofs.put.Tie as tie
 
 abbrev Inv-loop : tie.InvT-loop
-Inv-loop word buffer₀ at i₀ buffer i = Putting word buffer₀ at buffer i
+Inv-loop bytes buffer₀ at i₀ buffer i = Putting bytes buffer₀ at buffer i
 
 abbrev μ-loop : tie.MeasureT-loop
-μ-loop word buffer₀ at i₀ buffer i = length word - i
+μ-loop bytes buffer₀ at i₀ buffer i = length bytes - i
 
 pub put-spec : {M : Type 1} → statement M
 put-spec =
