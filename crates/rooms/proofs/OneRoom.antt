@@ -70,7 +70,7 @@ module _ (g : Grid) (limits : Limits g) where
   room-zero : (c : ℕ) → Cell g c → getD (roomIds g []) c 0 ≡ 0
   room-zero c l = sym (all-alike c l) ∙ zero-first
 
-  one-room : roomCount g [] ≡ 1
+  pub one-room : roomCount g [] ≡ 1
   one-room =
       ⊎-elim
       (λ (h : roomCount g [] ≤ 1). omega (arith, room-labels g [] .small 0 first-cell))
