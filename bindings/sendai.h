@@ -23,30 +23,33 @@
 extern "C" {
 #endif
 
-/* The questions put to each call, in this order, but 11 first and 12 between 2 and 6; the first no is the code that refuses it. */
+/* The questions put to each call, in this order, but 11 first, 13 after 1, 12 between 2 and 6; the first no is the code that refuses it. */
 enum {
     SENDAI_ACCEPTED = 0,
-    SENDAI_SIZES = 1,          /* are the sizes within the limits, and two edge slices equally long? */
-    SENDAI_RECORD = 2,         /* does the record hold together? */
-    SENDAI_MISSING = 3,        /* does every border, cell, vertex or group named exist? */
-    SENDAI_DECIDED = 4,        /* decide: is the border undecided? */
-    SENDAI_EMPTY_LEDGER = 5,   /* undo: is the ledger non-empty? */
-    SENDAI_SHORT_BUFFER = 6,   /* is the buffer long enough? each call below says what it wants */
-    SENDAI_GIVEN_ORDER = 7,    /* do the given walls rise strictly? */
-    SENDAI_CLUE_COUNT = 8,     /* are there as many clues as rooms? */
-    SENDAI_CLUE_VALUE = 9,     /* is each clue 65535 or at most its room's cells? */
-    SENDAI_NOT_JOINED = 10,    /* path: are the cells joined by Connected borders? */
-    SENDAI_FILE = 11,          /* is the file sound? */
-    SENDAI_MANY_UNDECIDED = 12 /* all answers: are at most 24 borders undecided? */
+    SENDAI_SIZES = 1,           /* are the sizes within the limits, and two edge slices equally long? */
+    SENDAI_RECORD = 2,          /* does the record hold together? */
+    SENDAI_MISSING = 3,         /* does every border, cell, vertex or group named exist? */
+    SENDAI_DECIDED = 4,         /* decide: is the border undecided? */
+    SENDAI_EMPTY_LEDGER = 5,    /* undo: is the ledger non-empty? */
+    SENDAI_SHORT_BUFFER = 6,    /* is the buffer long enough? each call below says what it wants */
+    SENDAI_GIVEN_ORDER = 7,     /* do the given walls rise strictly? */
+    SENDAI_CLUE_COUNT = 8,      /* are there as many clues as rooms? */
+    SENDAI_CLUE_VALUE = 9,      /* is each clue 65535 or at most its room's cells? */
+    SENDAI_NOT_JOINED = 10,     /* path: are the cells joined by Connected borders? */
+    SENDAI_FILE = 11,           /* is the file sound? */
+    SENDAI_MANY_UNDECIDED = 12, /* all answers: are at most 24 borders undecided? */
+    SENDAI_ZERO_SEED = 13       /* case file from a seed: is the seed not 0? */
 };
 
-/* The limits, the most undecided borders for all answers, and a length that any list of a board or puzzle fits (9*h*w at 32 by 32). */
+/* The limits, the most undecided borders for all answers, a length that any list of a board or puzzle fits (9*h*w at 32 by 32), and the
+ * bytes of the longest case file. */
 enum {
     SENDAI_MAX_SIDE = 32,
     SENDAI_MAX_CELLS = 1024,
     SENDAI_MAX_BORDERS = 1984,
     SENDAI_MAX_UNDECIDED = 24,
-    SENDAI_MAX_LIST = 9216
+    SENDAI_MAX_LIST = 9216,
+    SENDAI_MAX_FILE = 60003
 };
 
 /* A border's or edge's state. */
@@ -406,6 +409,13 @@ SendaiUnited sendai_union_unite(SendaiUnion parts, size_t x, size_t y);
 SendaiAnswer sendai_hand_over(const uint16_t *entries, size_t entries_length, uint16_t *buffer, size_t buffer_length);
 
 /* ---- Case files, in the format of the README ---- */
+
+/* Writes the case file that a seed makes, the same each time: no given walls, one room without a clue, `count` calls. For each call a 32-bit
+ * state, at first the seed, is replaced by its xor with itself shifted left 13, that by the same with right 17, that with left 5; modulo 4
+ * it is the kind. For a decide it is replaced again; modulo the number of borders it is the border. Without borders an ask takes a decide's
+ * place, and nothing is replaced again. The file has `length` bytes, those behind it stay; sendai_case_open accepts it, and every border
+ * in it exists. Refused: 1 (each side 1 to 32), 13, 6 (as many places as the file has bytes, and it may have at most SENDAI_MAX_FILE). */
+SendaiAnswer sendai_case_generate(uint32_t seed, size_t height, size_t width, size_t count, uint8_t *buffer, size_t buffer_length);
 
 /* A case file's puzzle and where its calls stand. Refused: 11, or as sendai_puzzle_make refuses the file's puzzle. */
 SendaiCase sendai_case_open(const uint8_t *file, size_t file_length);

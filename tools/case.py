@@ -1,5 +1,5 @@
 #!/usr/bin/env python3
-"""Case files for the Sendai border checker: made from a drawing in text, drawn with their answers, and with all right boards.
+"""Case files for the Sendai border checker: made from a drawing in text or a seed, drawn with their answers, and with all right boards.
 
     case.py make DRAWING [FILE]           write the case of a drawing to FILE (sendai.bin)
     case.py show [FILE] [options]         draw a case file (sendai.bin) as text
@@ -11,6 +11,9 @@
         --svg PICTURE                     draw them as an SVG picture too
         --library PATH                    the archive with the checker's calls, or a shared library of it
                                           (target/staticlib/libexports.a of this repository)
+    case.py load SEED HEIGHT WIDTH COUNT [FILE] [options]
+                                          write a case file of COUNT calls, the same each time for a seed, to FILE (sendai.bin)
+        --library PATH                    as for answers
 
 A drawing has a row of cells and a row of borders in turn, three characters a cell:
 
@@ -30,10 +33,15 @@ A drawing without such a call ends with an ask. A line that starts with '#' is a
 In a drawing that `show` makes, X and O stand for the borders that the fault lists: X for a listed Wall, O for a listed Connected.
 In one that `answers` makes, they stand for the borders in which the puzzle's answers differ, shown or not; what all answers share
 is drawn first, with ? for these borders.
+
+A seed is a number of 32 bits other than 0, decimal or after 0x hexadecimal. The case that `load` makes of it has no given walls and
+one room without a clue. A file has at most 60,003 bytes: a load of more is refused.
+
 Only Python's standard library is used.
 """
 import argparse
 import os
+import re
 import subprocess
 import sys
 import tempfile
@@ -51,7 +59,7 @@ class Unsound(Exception):
 
 
 class Mistake(Exception):
-    """A drawing that makes no case."""
+    """A drawing or a seed that makes no case."""
 
 
 class Case:
@@ -520,6 +528,14 @@ def make(args):
         f.write(with_file)
 
 
+def load(args):
+    if args.seed >= 2 ** 32:
+        raise Mistake("the seed does not fit 32 bits")
+    file = library.Library(args.library).generated(args.seed, args.height, args.width, args.count)
+    with open(args.file, "wb") as f:
+        f.write(file)
+
+
 def show(args):
     data = read(args.file, "rb")
     case = decode(data)
@@ -551,6 +567,10 @@ def natural(text):
     return int(text)
 
 
+def seed_number(text):
+    return int(text, 16) if re.fullmatch("0[xX][0-9a-fA-F]+", text) else natural(text)
+
+
 def main(words):
     parser = argparse.ArgumentParser(description=__doc__, formatter_class=argparse.RawDescriptionHelpFormatter)
     commands = parser.add_subparsers(dest="command", required=True)
@@ -570,6 +590,13 @@ def main(words):
     three.add_argument("--svg")
     three.add_argument("--library")
     three.set_defaults(act=answers)
+    four = commands.add_parser("load", help="write the case file that a seed makes")
+    four.add_argument("seed", type=seed_number)
+    for name in ("height", "width", "count"):
+        four.add_argument(name, type=natural)
+    four.add_argument("file", nargs="?", default="sendai.bin")
+    four.add_argument("--library")
+    four.set_defaults(act=load)
     args = parser.parse_args(words)
     try:
         args.act(args)

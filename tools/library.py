@@ -6,15 +6,17 @@ import os
 import shlex
 import subprocess
 import tempfile
-from ctypes import CDLL, POINTER, Structure, c_bool, c_size_t, c_uint8, c_uint16
+from ctypes import CDLL, POINTER, Structure, c_bool, c_size_t, c_uint8, c_uint16, c_uint32
 
 TOP = os.path.dirname(os.path.dirname(os.path.abspath(__file__)))
 ARCHIVE = os.path.join(TOP, "target", "staticlib", "libexports.a")
 LINKED = os.path.join(TOP, "target", "libsendai.so")
 MAX_LINE = 55323
 MAX_UNDECIDED = 24
+MAX_FILE = 60003
 AT_ONCE = 16  # so many calls of a file are run at a time: their lines fit a small buffer
 UNDECIDED = 0
+SIZE_MAX = c_size_t(-1).value
 
 WORDS = {
     1: "a side is not within 1 to 32",
@@ -26,6 +28,7 @@ WORDS = {
     9: "a clue is above its room's cells",
     11: "the file is not sound",
     12: "more than %d borders are undecided" % MAX_UNDECIDED,
+    13: "the seed is 0",
 }
 
 
@@ -36,8 +39,8 @@ class NoLibrary(Exception):
 class Refused(Exception):
     """A call was refused by this number."""
 
-    def __init__(self, number, detail=""):
-        super().__init__("refused %d: %s%s" % (number, WORDS.get(number, "bindings/sendai.h has the question"), detail))
+    def __init__(self, number, detail="", words=WORDS):
+        super().__init__("refused %d: %s%s" % (number, words.get(number, "bindings/sendai.h has the question"), detail))
         self.number = number
 
 
@@ -69,12 +72,17 @@ class Ran(Structure):
     _fields_ = [("code", c_uint8), ("puzzle", Puzzle), ("at", c_size_t), ("done", c_size_t), ("length", c_size_t)]
 
 
+class Answer(Structure):
+    _fields_ = [("code", c_uint8), ("fault", c_bool), ("length", c_size_t)]
+
+
 class Boards(Structure):
     _fields_ = [("code", c_uint8), ("more", c_bool), ("count", c_size_t)]
 
 
 BYTES = POINTER(c_uint8)
 CALLS = {
+    "sendai_case_generate": (Answer, [c_uint32, c_size_t, c_size_t, c_size_t, BYTES, c_size_t]),
     "sendai_case_open": (Case, [BYTES, c_size_t]),
     "sendai_case_run": (Ran, [BYTES, c_size_t, c_size_t, c_size_t, Puzzle, BYTES, c_size_t]),
     "sendai_puzzle_decide": (PuzzleAnswer, [Puzzle, c_size_t, c_bool]),
@@ -87,9 +95,9 @@ def lent(length, content=b""):
     return (c_uint8 * max(1, length))(*content)
 
 
-def accepted(answer, detail=""):
+def accepted(answer, detail="", words=WORDS):
     if answer.code:
-        raise Refused(answer.code, detail)
+        raise Refused(answer.code, detail, words)
     return answer
 
 
@@ -135,6 +143,16 @@ class Library:
                 raise NoLibrary("%s has no %s: run `rt staticlib exports` in %s" % (path, name, TOP))
             getattr(library, name).restype, getattr(library, name).argtypes = answer, arguments
         self.calls = library
+
+    def generated(self, seed, height, width, count):
+        """The case file that a seed of 32 bits makes: a board of this size, so many calls."""
+        # ctypes would cut off a number above size_t; it is refused as the greatest one is
+        sizes = [min(number, SIZE_MAX) for number in (height, width, count)]
+        buffer = lent(MAX_FILE)
+        told = self.calls.sendai_case_generate(seed, *sizes, buffer, MAX_FILE)
+        # every file that may be fits the buffer, so that 6 is about the file's own length
+        words = {**WORDS, 6: "%d calls make a file of more than %d bytes" % (count, MAX_FILE)}
+        return bytes(buffer[:accepted(told, words=words).length])
 
     def puzzle_of(self, data):
         """The puzzle of a case file, as all its calls leave it."""

@@ -7,6 +7,7 @@ import os
 import random
 import re
 import shutil
+import subprocess
 import sys
 import tempfile
 import unittest
@@ -272,13 +273,13 @@ def at_hand():
     return os.path.exists(library.ARCHIVE) and shutil.which(os.environ.get("CC", "cc").split()[0]) is not None
 
 
-class Called(unittest.TestCase):
-    """The command on the checker's own calls."""
+class WithCalls(unittest.TestCase):
+    """A command on the checker's own calls."""
 
     @classmethod
     def setUpClass(cls):
         if not at_hand():
-            reason = "no %s (run `rt staticlib exports`), or no C compiler: `answers` is not tried" % library.ARCHIVE
+            reason = "no %s (run `rt staticlib exports`), or no C compiler: `answers` and `load` are not tried" % library.ARCHIVE
             print(reason, file=sys.stderr)
             raise unittest.SkipTest(reason)
 
@@ -287,17 +288,23 @@ class Called(unittest.TestCase):
         self.addCleanup(folder.cleanup)
         self.path = os.path.join(folder.name, "sendai.bin")
 
-    def answers(self, made, *options):
-        """What the command prints for a case, or a file's bytes; a refusal's words where it ends with status 1."""
-        with open(self.path, "wb") as f:
-            f.write(made if isinstance(made, bytes) else case.encode(made))
+    def printed(self, *words):
+        """What the command prints; a refusal's words where it ends with status 1."""
         printed = io.StringIO()
         try:
             with contextlib.redirect_stdout(printed):
-                case.main(["answers", self.path, *options])
+                case.main(words)
         except SystemExit as e:
             return e.code
         return printed.getvalue()
+
+
+class Called(WithCalls):
+    def answers(self, made, *options):
+        """What the command prints for a case, or a file's bytes."""
+        with open(self.path, "wb") as f:
+            f.write(made if isinstance(made, bytes) else case.encode(made))
+        return self.printed("answers", self.path, *options)
 
     def count(self, made, *options):
         return self.answers(made, *options).split("\n")[1]
@@ -365,6 +372,79 @@ class Called(unittest.TestCase):
                 some = case.Answers(calls, puzzle, cap)
                 told = (whole.boards[:cap], len(whole.boards) > cap, whole.differing)
                 self.assertEqual((some.boards, some.more, some.differing), told)
+
+
+# What `load` refuses, and how it says so.
+REFUSED_LOADS = [
+    ("1 0 1 1", "refused 1: a side is not within 1 to 32"),
+    ("0 1 33 1", "refused 1: a side is not within 1 to 32"),
+    ("1 18446744073709551617 1 1", "refused 1: a side is not within 1 to 32"),
+    ("1 1 18446744073709551617 1", "refused 1: a side is not within 1 to 32"),
+    ("0 1 1 1", "refused 13: the seed is 0"),
+    ("0x0 32 32 59991", "refused 13: the seed is 0"),
+    ("1 1 1 59991", "refused 6: 59991 calls make a file of more than 60003 bytes"),
+    ("1 1 1 18446744073709551617", "refused 6: 18446744073709551617 calls make a file of more than 60003 bytes"),
+    ("4294967297 1 1 1", "the seed does not fit 32 bits"),
+    ("0x100000000 1 1 1", "the seed does not fit 32 bits"),
+]
+
+
+class Loaded(WithCalls):
+    def load(self, words, *options):
+        """The file that the command writes; a refusal's words where it ends with status 1."""
+        return self.printed("load", *words.split(), self.path, *options) or case.read(self.path, "rb")
+
+    def test_bytes(self):
+        for words, rest in (("7 3 2 0", "000a 0302 0000 0001 ffff 0000"),
+                            ("16 1 1 1", "000b 0101 0000 0001 ffff 0001 03"),
+                            ("9 1 1 2", "000c 0101 0000 0001 ffff 0002 03 03"),
+                            ("1 1 2 2", "0010 0102 0000 0001 ffff 0002 010000 010000"),
+                            ("20 2 3 4", "0012 0203 0000 0001 ffff 0004 010003 00 020005 03"),
+                            ("4294967295 2 3 4", "0010 0203 0000 0001 ffff 0004 03 03 03 020004"),
+                            ("1 32 32 1", "000d 2020 0000 0001 ffff 0001 010081")):
+            self.assertEqual(self.load(words).hex(), "01" + rest.replace(" ", ""), words)
+
+    def test_hexadecimal_seeds(self):
+        for seed in ("0xFFFFffff", "0Xffffffff", "0x0ffffffff"):
+            self.assertEqual(self.load(seed + " 5 7 50"), self.load("4294967295 5 7 50"))
+        self.assertEqual(self.load("0x10 5 7 50"), self.load("16 5 7 50"))
+        self.assertNotEqual(self.load("10 5 7 50"), self.load("16 5 7 50"))
+
+    def test_the_case_of_a_seed(self):
+        for height, width, count in ((1, 1, 0), (1, 1, 99), (1, 2, 99), (2, 1, 99), (5, 7, 999), (32, 32, 9999), (1, 1, 59990)):
+            made = case.decode(self.load("99 %d %d %d" % (height, width, count)))
+            self.assertEqual(made, Case(height, width, [], [NO_CLUE], made.calls))
+            self.assertEqual(len(made.calls), count)
+            self.assertEqual([b for _, b in made.calls if b is not None and b >= case.border_count(made)], [])
+
+    def test_refusals_leave_the_file(self):
+        kept = self.load("1 1 2 2")
+        for words, said in REFUSED_LOADS:
+            self.assertEqual(self.load(words), "case.py: " + said)
+            self.assertEqual(case.read(self.path, "rb"), kept)
+
+    def test_words_that_are_no_numbers(self):
+        for words in ("x 1 1 1", "-1 1 1 1", "0x 1 1 1", "0xg 1 1 1", "1_0 1 1 1", "1 0x1 1 1", "1 1 1.5 1", "1 1 1 -1"):
+            with contextlib.redirect_stderr(io.StringIO()) as said:
+                self.assertEqual(self.load(words), 2)
+            self.assertRegex(said.getvalue(), "is no natural number\n$")
+
+    def test_as_a_command(self):
+        def done(words):
+            command = [sys.executable, os.path.abspath(case.__file__), "load", *words.split()]
+            ran = subprocess.run(command, cwd=os.path.dirname(self.path), stdout=subprocess.PIPE, stderr=subprocess.PIPE)
+            return ran.returncode, ran.stdout.decode(), ran.stderr.decode()
+        self.assertEqual(done("1 1 2 2"), (0, "", ""))
+        kept = case.read(self.path, "rb")
+        self.assertEqual(len(kept), 19)
+        for words, said in REFUSED_LOADS:
+            self.assertEqual(done(words), (1, "", "case.py: %s\n" % said))
+        self.assertEqual(case.read(self.path, "rb"), kept)
+
+    def test_another_archive(self):
+        copied = shutil.copy(library.ARCHIVE, self.path + ".a")
+        self.assertEqual(self.load("20 2 3 4", "--library", copied), self.load("20 2 3 4"))
+        self.assertRegex(self.load("20 2 3 4", "--library", self.path + ".none"), "^case.py: no .*none$")
 
 
 if __name__ == "__main__":

@@ -84,7 +84,8 @@ static void puzzles(void) {
     CHECK(sendai_puzzle_check(puzzle) == SENDAI_RECORD);
 }
 
-static uint8_t bytes[64];
+/* Some more bytes than the longest file has: those behind a lent buffer stand here too. */
+static uint8_t bytes[SENDAI_MAX_FILE + 8];
 
 /* What each byte holds before a call. */
 enum { UNTOUCHED = 0x55 };
@@ -94,12 +95,18 @@ static SendaiBoards right_boards(SendaiPuzzle puzzle, size_t cap, size_t length)
     return sendai_puzzle_right_boards(puzzle, cap, bytes, length);
 }
 
+/* Whether all bytes are untouched from a place on. */
+static bool untouched(size_t place) {
+    while (place < sizeof bytes && bytes[place] == UNTOUCHED) place++;
+    return place == sizeof bytes;
+}
+
 /* Whether the bytes are these boards, written as digits, and untouched behind them. */
 static bool stand(const char *boards) {
     size_t count = strlen(boards);
-    for (size_t i = 0; i < sizeof bytes; i++)
-        if (bytes[i] != (i < count ? boards[i] - '0' : UNTOUCHED)) return false;
-    return true;
+    for (size_t i = 0; i < count; i++)
+        if (bytes[i] != boards[i] - '0') return false;
+    return untouched(count);
 }
 
 /* Whether these are the answers up to a cap, with a buffer of just the length that is wanted. */
@@ -204,6 +211,76 @@ static void files(void) {
     CHECK(sendai_line(SENDAI_LINE_ROOM, 4, entries, 2, out, 38).code == SENDAI_SHORT_BUFFER);
 }
 
+static SendaiAnswer generate(uint32_t seed, size_t height, size_t width, size_t count, size_t length) {
+    memset(bytes, UNTOUCHED, sizeof bytes);
+    return sendai_case_generate(seed, height, width, count, bytes, length);
+}
+
+/* Whether a call is refused by this number, with no byte changed. */
+static bool generates_none(uint32_t seed, size_t height, size_t width, size_t count, size_t length, int code) {
+    SendaiAnswer told = generate(seed, height, width, count, length);
+    return told.code == code && !told.fault && told.length == 0 && untouched(0);
+}
+
+/* Whether this file is generated, with a buffer just as long and with a longer one, and none with a buffer one byte short. */
+static bool generates(uint32_t seed, size_t height, size_t width, size_t count, const uint8_t *file, size_t length) {
+    for (size_t more = 0; more <= 5; more += 5) {
+        SendaiAnswer told = generate(seed, height, width, count, length + more);
+        if (told.code != SENDAI_ACCEPTED || told.fault || told.length != length) return false;
+        if (memcmp(bytes, file, length) != 0 || !untouched(length)) return false;
+    }
+    return generates_none(seed, height, width, count, length - 1, SENDAI_SHORT_BUFFER);
+}
+
+/* Whether so many calls of the seed 1 make a file of the greatest length, and one call more makes none, whatever the buffer. */
+static bool generates_at_most(size_t height, size_t width, size_t count) {
+    SendaiAnswer told = generate(1, height, width, count, SENDAI_MAX_FILE);
+    return told.code == SENDAI_ACCEPTED && told.length == SENDAI_MAX_FILE && untouched(SENDAI_MAX_FILE) &&
+           sendai_case_open(bytes, SENDAI_MAX_FILE).count == count &&
+           generates_none(1, height, width, count, SENDAI_MAX_FILE - 1, SENDAI_SHORT_BUFFER) &&
+           generates_none(1, height, width, count + 1, sizeof bytes, SENDAI_SHORT_BUFFER);
+}
+
+static void generated_files(void) {
+    const uint8_t no_call[] = {1, 0, 10, 3, 2, 0, 0, 0, 1, 0xff, 0xff, 0, 0};
+    const uint8_t one_ask[] = {1, 0, 11, 1, 1, 0, 0, 0, 1, 0xff, 0xff, 0, 1, 3};
+    const uint8_t two_asks[] = {1, 0, 12, 1, 1, 0, 0, 0, 1, 0xff, 0xff, 0, 2, 3, 3};
+    const uint8_t two_decides[] = {1, 0, 16, 1, 2, 0, 0, 0, 1, 0xff, 0xff, 0, 2, 1, 0, 0, 1, 0, 0};
+    const uint8_t every_kind[] = {1, 0, 18, 2, 3, 0, 0, 0, 1, 0xff, 0xff, 0, 4, 1, 0, 3, 0, 2, 0, 5, 3};
+    const uint8_t all_bits[] = {1, 0, 16, 2, 3, 0, 0, 0, 1, 0xff, 0xff, 0, 4, 3, 3, 3, 2, 0, 4};
+    CHECK(generates(7, 3, 2, 0, no_call, sizeof no_call));
+    CHECK(generates(16, 1, 1, 1, one_ask, sizeof one_ask));
+    CHECK(generates(9, 1, 1, 2, two_asks, sizeof two_asks));
+    CHECK(generates(1, 1, 2, 2, two_decides, sizeof two_decides));
+    CHECK(generates(20, 2, 3, 4, every_kind, sizeof every_kind));
+    CHECK(generates(UINT32_MAX, 2, 3, 4, all_bits, sizeof all_bits));
+    /* the seed 1 is replaced by 270369, kind 1, and that by 67634689, which leaves 129 for the 1,984 borders */
+    const uint8_t one_decide[] = {1, 0, 13, 32, 32, 0, 0, 0, 1, 0xff, 0xff, 0, 1, 1, 0, 129};
+    CHECK(generates(1, 32, 32, 1, one_decide, sizeof one_decide));
+
+    /* 1 by 1 has no borders, and each call is a byte; with borders a decide takes three */
+    CHECK(generates_at_most(1, 1, 59990));
+    CHECK(generates_at_most(32, 32, 29984));
+    CHECK(generates_none(1, 1, 1, SIZE_MAX, sizeof bytes, SENDAI_SHORT_BUFFER));
+
+    /* no number is cut off: in fewer bits each of these is 1 */
+    for (int bits = 8; bits <= 32; bits *= 2) {
+        const size_t beyond = ((size_t)1 << bits) + 1;
+        CHECK(generates_none(1, beyond, 1, 1, sizeof bytes, SENDAI_SIZES));
+        CHECK(generates_none(1, 1, beyond, 1, sizeof bytes, SENDAI_SIZES));
+        CHECK(generates_none(1, 1, 1, beyond, 14, SENDAI_SHORT_BUFFER));
+    }
+
+    /* the questions in their order */
+    CHECK(generates_none(1, 1, 1, 0, 0, SENDAI_SHORT_BUFFER));
+    CHECK(generates_none(0, 1, 1, 1, sizeof bytes, SENDAI_ZERO_SEED));
+    CHECK(generates_none(0, 32, 32, SIZE_MAX, 0, SENDAI_ZERO_SEED));
+    CHECK(generates_none(1, 0, 1, 1, sizeof bytes, SENDAI_SIZES));
+    CHECK(generates_none(1, 1, 33, 1, sizeof bytes, SENDAI_SIZES));
+    CHECK(generates_none(0, 33, 1, SIZE_MAX, 0, SENDAI_SIZES));
+    CHECK(generates_none(0, 1, 0, SIZE_MAX, 0, SENDAI_SIZES));
+}
+
 int main(void) {
     const uint16_t entries[] = {7, 2, 7}, handed[] = {2, 7};
     CHECK(is(sendai_hand_over(entries, 3, list, 3).length, handed, 2));
@@ -216,5 +293,6 @@ int main(void) {
     rooms();
     unions();
     files();
+    generated_files();
     return failed;
 }

@@ -1,4 +1,4 @@
-use crate::{accepted, sys, Puzzle, Refusal};
+use crate::{accepted, listed, sys, Puzzle, Refusal};
 
 /// A case file: its puzzle, and the calls on it that are left to do.
 ///
@@ -52,4 +52,26 @@ impl<'f> Case<'f> {
         accepted(ran.code)?;
         Ok(&out[..ran.length])
     }
+}
+
+/// The case file that a seed makes, the same each time: no given walls, one room without a clue, and `count` calls, none of which names a
+/// border that does not exist. It is the front part of the buffer, and the bytes behind it stay. Refused: `Sizes`, `ZeroSeed`, `ShortBuffer`
+/// ([`MAX_FILE`](crate::MAX_FILE) bytes fit every file; one that would be longer is refused, too).
+///
+/// ```
+/// use sendai::{generate_case, Case, MAX_FILE, MAX_LINE};
+///
+/// let mut buffer = [0; MAX_FILE];
+/// let file = generate_case(20, 2, 3, 4, &mut buffer)?;     // seed 20, 2 by 3, four calls
+/// assert_eq!(file[13..], [1, 0, 3, 0, 2, 0, 5, 3]);        // border 3 Connected, undo, border 5 a Wall, ask
+///
+/// let mut case = Case::open(file)?;
+/// let mut out = vec![0; MAX_LINE * case.left()];
+/// assert_eq!(case.run(4, &mut out)?, b"decided\nundone\ndecided\nclear\n");
+/// # Ok::<(), sendai::Refusal>(())
+/// ```
+pub fn generate_case(seed: u32, height: usize, width: usize, count: usize, buffer: &mut [u8]) -> Result<&[u8], Refusal> {
+    // SAFETY: the buffer lives through the call.
+    let told = unsafe { sys::sendai_case_generate(seed, height, width, count, buffer.as_mut_ptr(), buffer.len()) };
+    listed(told, buffer)
 }

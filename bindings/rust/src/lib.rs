@@ -2,7 +2,7 @@
 //!
 //! A solver decides the borders of a Sendai grid one by one. An ask says whether the borders decided so far can all hold, and where
 //! they can't it lists some of them that can't: a clause, once each is negated. [`Puzzle::right_boards`] finds every answer of a
-//! started grid, and whether it has just one.
+//! started grid, and whether it has just one. [`generate_case`] makes a case file from a seed, the same each time.
 //!
 //! ```
 //! use sendai::{hand_over, Check, Puzzle, NO_CLUE};
@@ -46,7 +46,7 @@ mod union;
 mod tests;
 
 pub use board::Board;
-pub use case::Case;
+pub use case::{generate_case, Case};
 pub use groups::Groups;
 pub use puzzle::Puzzle;
 pub use refusal::Refusal;
@@ -69,6 +69,8 @@ pub const MAX_UNDECIDED: usize = 24;
 pub const MAX_LIST: usize = 9216;
 /// The bytes that any line of a case's call fits.
 pub const MAX_LINE: usize = 55323;
+/// The bytes of the longest case file.
+pub const MAX_FILE: usize = 60003;
 /// No clue for a room.
 pub const NO_CLUE: u16 = 65535;
 
@@ -166,8 +168,8 @@ pub fn neighbour(height: usize, width: usize, cell: usize, direction: Direction)
     Ok((!place.ends).then_some((place.cell, place.border)))
 }
 
-/// The list that a call wrote to the front of the buffer.
-fn listed(told: sys::Answer, buffer: &[u16]) -> Result<&[u16], Refusal> {
+/// The list or the file that a call wrote to the front of the buffer.
+fn listed<T>(told: sys::Answer, buffer: &[T]) -> Result<&[T], Refusal> {
     accepted(told.code)?;
     Ok(&buffer[..told.length])
 }

@@ -1,7 +1,7 @@
 use std::fmt;
 
-/// Why a call was refused: the question that was answered no, first in this order, but 11 put first and 12 between 2 and 6. `as u8` gives
-/// its number.
+/// Why a call was refused: the question that was answered no, first in this order, but 11 put first, 13 after 1 and 12 between 2 and 6.
+/// `as u8` gives its number.
 ///
 /// ```
 /// use sendai::{Board, Refusal};
@@ -22,7 +22,7 @@ pub enum Refusal {
     Decided = 4,
     /// Undo: is the ledger non-empty?
     EmptyLedger = 5,
-    /// Is the buffer long enough?
+    /// Is the buffer long enough, and a case file from a seed at most [`MAX_FILE`](crate::MAX_FILE) bytes long?
     ShortBuffer = 6,
     /// Do the given walls rise strictly?
     GivenOrder = 7,
@@ -36,10 +36,12 @@ pub enum Refusal {
     File = 11,
     /// All answers: are at most [`MAX_UNDECIDED`](crate::MAX_UNDECIDED) borders undecided?
     ManyUndecided = 12,
+    /// A case file from a seed: is the seed not 0?
+    ZeroSeed = 13,
 }
 
 impl Refusal {
-    const ALL: [Refusal; 12] = [
+    const ALL: [Refusal; 13] = [
         Refusal::Sizes,
         Refusal::Record,
         Refusal::Missing,
@@ -52,6 +54,7 @@ impl Refusal {
         Refusal::NotJoined,
         Refusal::File,
         Refusal::ManyUndecided,
+        Refusal::ZeroSeed,
     ];
 
     /// The refusal with this number.

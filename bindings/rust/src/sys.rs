@@ -202,6 +202,7 @@ unsafe extern "C" {
 
     pub fn sendai_hand_over(entries: *const u16, length: usize, buffer: *mut u16, buffer_length: usize) -> Answer;
 
+    pub fn sendai_case_generate(seed: u32, height: usize, width: usize, count: usize, buffer: *mut u8, length: usize) -> Answer;
     pub fn sendai_case_open(file: *const u8, length: usize) -> Case;
     pub fn sendai_case_run(
         file: *const u8,

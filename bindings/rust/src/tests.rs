@@ -3,6 +3,7 @@
 mod buffers;
 mod cases;
 mod forms;
+mod generated;
 mod paper;
 mod refusals;
 mod right_boards;
@@ -11,6 +12,9 @@ use crate::{Board, Refusal};
 
 /// What the places of a buffer hold before a call.
 const UNTOUCHED: u16 = 0xbeef;
+
+/// The same of a buffer of bytes.
+const UNTOUCHED_BYTE: u8 = 0x55;
 
 fn marked(places: usize) -> Vec<u16> {
     vec![UNTOUCHED; places]

@@ -1,13 +1,30 @@
-// A case file's puzzle, and its calls on that puzzle. The bytes of the file are lent to both.
+// A case file from a seed; a case file's puzzle, and its calls on that puzzle. The bytes of the file are lent.
 ghost use mathlib.Core.Path.{_≡_};
 ghost use Prim.Native.Nat.{_≤_};
 ghost use lib.ListN.{length, drop};
 ghost use lib.Seq.{sets};
+ghost use Rattle.answers.specs.Answers.{listedOf, plainListed, written};
 ghost use Rattle.case_file.specs.Sound.{decodeOf};
 ghost use Rattle.case_run.specs.CaseRun.{openedOf, printedBy, codeIn, doneIn, ranOf};
+ghost use Rattle.generator.specs.Generator.{generated};
+use answers::Plain;
 use case_run::Opened;
 use case_run::Ran;
 use puzzle::Puzzle;
+
+#[no_mangle]
+pub extern "C" fn sendai_case_generate(
+    seed: u32,
+    height: usize,
+    width: usize,
+    count: usize,
+    buffer: &mut [u8],
+) -> Plain
+    ensures { λ r. ⌜ r ≡ plainListed (listedOf (generated seed height width count (length (now (buffer .entry))))) ⌝ }
+    ensures { λ _. ⌜ now (buffer .exit) ≡ written (generated seed height width count (length (now (buffer .entry)))) (now (buffer .entry)) ⌝ }
+{
+    answers::of_listed(generator::generate(seed, height, width, count, buffer))
+}
 
 #[no_mangle]
 pub extern "C" fn sendai_case_open(file: &[u8]) -> Opened

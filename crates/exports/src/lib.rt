@@ -23,6 +23,7 @@ pub use boards::sendai_board_make;
 pub use boards::sendai_board_undo;
 pub use boundaries::sendai_potential_unit_boundary;
 pub use boundaries::sendai_unit_boundary;
+pub use cases::sendai_case_generate;
 pub use cases::sendai_case_open;
 pub use cases::sendai_case_run;
 pub use edges::sendai_room_make_of_edges;

@@ -186,11 +186,11 @@ fn the_rest() {
     assert_eq!(neighbour(0, 3, 0, Direction::Up), Err(Refusal::Sizes));
     assert_eq!(neighbour(2, 3, 6, Direction::Up), Err(Refusal::Missing));
     assert_eq!(
-        (1..=12).filter_map(Refusal::from_number).map(|refusal| refusal as u8).collect::<Vec<_>>(),
-        Vec::from_iter(1..=12)
+        (1..=13).filter_map(Refusal::from_number).map(|refusal| refusal as u8).collect::<Vec<_>>(),
+        Vec::from_iter(1..=13)
     );
     assert_eq!(Refusal::from_number(0), None);
-    assert_eq!(Refusal::from_number(13), None);
+    assert_eq!(Refusal::from_number(14), None);
 }
 
 /// "A refused making returns a record whose every number is 0", and so does a refused grouping.

@@ -1,9 +1,6 @@
 //! All answers: the boards, their order, the cap, the buffer, and the refusals; and beside trying every full board.
-use super::{board, Drawn};
+use super::{board, Drawn, UNTOUCHED_BYTE};
 use crate::{sys, Puzzle, Refusal, RightBoards, State, MAX_UNDECIDED, NO_CLUE};
-
-/// What the bytes of a buffer hold before a call.
-const UNTOUCHED: u8 = 0x55;
 
 /// A puzzle of one room without given walls and clue, with these borders decided as Wall (`true`) or Connected.
 fn plain(height: usize, width: usize, decisions: &[(usize, bool)]) -> Puzzle {
@@ -18,7 +15,7 @@ fn plain(height: usize, width: usize, decisions: &[(usize, bool)]) -> Puzzle {
 fn answers(puzzle: &Puzzle, cap: usize) -> (Vec<Vec<u8>>, bool) {
     let before = puzzle.clone();
     let len = puzzle.boards_len(cap).unwrap();
-    let [mut exact, mut longer] = [len, len + 3].map(|bytes| vec![UNTOUCHED; bytes]);
+    let [mut exact, mut longer] = [len, len + 3].map(|bytes| vec![UNTOUCHED_BYTE; bytes]);
     let right = puzzle.right_boards(cap, &mut exact).unwrap();
     assert_eq!(puzzle.right_boards(cap, &mut longer), Ok(right));
     assert_eq!((right.len(), right.is_empty()), (right.iter().count(), right.get(0).is_none()));
@@ -26,7 +23,7 @@ fn answers(puzzle: &Puzzle, cap: usize) -> (Vec<Vec<u8>>, bool) {
     let written = told.0.concat();
     for buffer in [exact, longer] {
         assert_eq!(buffer[..written.len()], written);
-        assert!(buffer[written.len()..].iter().all(|&byte| byte == UNTOUCHED));
+        assert!(buffer[written.len()..].iter().all(|&byte| byte == UNTOUCHED_BYTE));
     }
     assert_eq!(*puzzle, before);
     told
@@ -34,9 +31,9 @@ fn answers(puzzle: &Puzzle, cap: usize) -> (Vec<Vec<u8>>, bool) {
 
 /// A call that must be refused by this number and leave every byte as it was.
 fn refused(number: u8, puzzle: &Puzzle, cap: usize, bytes: usize) {
-    let mut buffer = vec![UNTOUCHED; bytes];
+    let mut buffer = vec![UNTOUCHED_BYTE; bytes];
     assert_eq!(puzzle.right_boards(cap, &mut buffer).map_err(|refusal| refusal as u8), Err(number));
-    assert_eq!(buffer, vec![UNTOUCHED; bytes]);
+    assert_eq!(buffer, vec![UNTOUCHED_BYTE; bytes]);
 }
 
 #[test]
