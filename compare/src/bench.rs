@@ -1,5 +1,6 @@
 //! Times of both sides from one driver, and docs/PERFORMANCE.md, which it writes. A ratio above 1 says that the port is faster.
 mod calls;
+mod loads;
 mod paper;
 mod searches;
 mod stack;
@@ -170,8 +171,11 @@ pub fn run() {
     let (columns, on_boards) = calls::on_boards(&boards(32));
     let turns = calls::decide_and_undo(&boards(32), &eight);
     let searched = searches::all();
+    let generated = loads::generated();
+    let runs = loads::runs();
     let mut stacks = calls::stacks(&boards(32), &puzzles(32));
     stacks.push(("right boards, 24 borders undecided".into(), searches::stack()));
+    stacks.push(("a case file drawn from a seed".into(), loads::stack()));
     let asked = rooms.iter().map(|row| (format!("room check, {}", row.name), row.times));
     let mut all: Vec<(String, Pair)> = grown
         .iter()
@@ -185,13 +189,16 @@ pub fn run() {
     let text = format!(
         "{HEAD}\n## Goals\n\n{}\n{WHY}\n## Asks at 32 by 32\n\n{}\n## How an ask grows\n\nThe port's µs, and the ratio in brackets.\n\n{}\n\
          ## The other calls on the eight boards, 32 by 32\n\n{OTHER_CALLS}\n{}\n## Decide and undo\n\n{DECIDES}\n{}\n\
-         ## All right boards of a started grid\n\n{SEARCHES}\n{}\n## Rooms, unions, hand-over\n\n{ROOMS}\n{}\n{}\n## Stack\n\n{STACK}\n| call | KB |\n|---|---|\n{stack_lines}",
+         ## All right boards of a started grid\n\n{SEARCHES}\n{}\n## A repeatable load\n\n{LOADS}\n{}\n{}\n\
+         ## Rooms, unions, hand-over\n\n{ROOMS}\n{}\n{}\n## Stack\n\n{STACK}\n| call | KB |\n|---|---|\n{stack_lines}",
         goals(&all, eight[0].1, &turns, &searched, &stacks),
         paper::pairs("shape check and puzzles", &shape),
         paper::grid("ask", &sides, &grown),
         paper::grid("board", &columns, &on_boards),
         paper::pairs("a decide and an undo", &turned),
         searches::table(&searched),
+        loads::generated_table(&generated),
+        loads::runs_table(&runs),
         paper::pairs("room check, 1,024 vertices and 1,984 edges", &rooms),
         paper::pairs("call", &others),
     );
@@ -205,7 +212,7 @@ Written by `compare/run bench`: both sides from one driver, in one run, built fo
 ratios mean something. Above 1 the port is faster. A time is the best of 21 rounds, in which the two sides take turns. The port's
 time includes the record's way over the C interface by value, and question 2 of the whole record; it writes into one buffer, which
 is lent again and again and not cleared between calls. The Rust makes each list anew; in a puzzle it also verifies each list of the
-shape check, as `solve_sendai` has it (here at 4 by 4, Connected inside, alone).
+shape check, as `solve_sendai` has it (of the asks below at 4 by 4, Connected inside, alone).
 ";
 
 const WHY: &str = "Where an ask gains least, two costs of the port show, which the Rust does not have: its arrays have the length of the largest board, and
@@ -226,6 +233,13 @@ const SEARCHES: &str = "Each grid has 24 undecided borders, and all right boards
 unless that is a fault it goes on over the lowest undecided border, Connected first; the Rust's time is that of the same search by its
 own checks. In asks: the call's time, divided by that of the plain puzzle's asks on the same boards, of which one ask is the mean.
 The 16 by 16 board is dominoes in one room, 8 of them without their inner border, and the clue wants 4 of these parted.
+";
+
+const LOADS: &str = "Files are drawn from the seeds 1 to 1,000 in turn, by `sendai_case_generate` into one buffer. The Rust has no such call: beside it stands
+the comparison's own generator, which makes a list of the calls and then the file. A run is that of the file of seed 1:
+`sendai_case_open`, then `sendai_case_run` call by call into one buffer of a line, as the program does it, and nothing is written out. The
+Rust's time is that of its puzzle on the same calls, the file read and the lines printed into memory by the comparison, which refuses a
+decided border by a look at the board: a panic would take longer. Not verified: with its shape check alone, whose lists nothing verifies.
 ";
 
 const ROOMS: &str = "The port's room check puts question 2 to the record, which the Rust does not; it unites, and lists the arcs for the walk, only where

@@ -7,6 +7,9 @@ use crate::random::Random;
 use crate::reference::Puzzle;
 use crate::runs;
 
+/// The most bytes behind a file's length (SPEC 5.1).
+pub const MOST: usize = 60_000;
+
 /// A call of a file.
 #[derive(Clone, Copy, Debug, PartialEq, Eq)]
 pub enum Call {
@@ -68,7 +71,7 @@ impl Reader<'_> {
 pub fn decode(bytes: &[u8]) -> Option<Case> {
     let mut file = Reader(bytes);
     let (version, length) = (file.byte()?, file.word()? as usize);
-    if version != 1 || length > 60_000 || length != file.0.len() {
+    if version != 1 || length > MOST || length != file.0.len() {
         return None;
     }
     let (height, width) = (file.byte()? as usize, file.byte()? as usize);
@@ -148,7 +151,8 @@ fn handed_over(mut list: Vec<u16>) -> Vec<u16> {
     list
 }
 
-fn line(rust: &mut Puzzle, call: Call) -> Line {
+/// What is printed for a call on a puzzle.
+pub fn line(rust: &mut Puzzle, call: Call) -> Line {
     let (done, well) = match call {
         Call::Undo => (rust.undo(), Line::Undone),
         Call::Decide { border, wall } => (rust.decide(border as usize, wall), Line::Decided),

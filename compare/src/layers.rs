@@ -3,6 +3,7 @@ pub mod board;
 pub mod boundary;
 pub mod city_count;
 pub mod files;
+pub mod generator;
 pub mod groups;
 pub mod hand_over;
 pub mod numbering;
@@ -33,7 +34,7 @@ pub struct Layer {
     pub run: fn(&Limits) -> Tally,
 }
 
-pub const LAYERS: [Layer; 12] = [
+pub const LAYERS: [Layer; 13] = [
     Layer { name: "numbering", run: numbering::run },
     Layer { name: "board", run: board::run },
     Layer { name: "groups", run: groups::run },
@@ -46,6 +47,7 @@ pub const LAYERS: [Layer; 12] = [
     Layer { name: "right_boards", run: right_boards::run },
     Layer { name: "hand_over", run: hand_over::run },
     Layer { name: "files", run: files::run },
+    Layer { name: "generator", run: generator::run },
 ];
 
 /// Repeats a step for so long.

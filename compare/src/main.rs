@@ -6,6 +6,7 @@ mod bench;
 mod boards;
 mod files;
 mod findings;
+mod generator;
 mod layers;
 mod port;
 mod puzzles;

@@ -6,7 +6,7 @@ mod lent;
 mod puzzle;
 
 use crate::answers::Groups;
-pub use lent::hand_over_in;
+pub use lent::{generate_in, hand_over_in, run_in};
 pub use puzzle::{Puzzle, PuzzleRecord};
 
 /// The exported functions and records, as crates/exports declares them.
@@ -239,6 +239,14 @@ mod c {
         pub fn sendai_potential_unit_boundary(board: Board, unit: usize, buffer: *mut u16, room: usize) -> Answer;
         pub fn sendai_board_ask(board: Board, buffer: *mut u16, room: usize) -> Answer;
         pub fn sendai_hand_over(entries: *const u16, length: usize, buffer: *mut u16, room: usize) -> Answer;
+        pub fn sendai_case_generate(
+            seed: u32,
+            height: usize,
+            width: usize,
+            count: usize,
+            buffer: *mut u8,
+            room: usize,
+        ) -> Answer;
         pub fn sendai_case_open(file: *const u8, length: usize) -> Opened;
         pub fn sendai_case_run(
             file: *const u8,

@@ -14,11 +14,16 @@ pub struct Making {
     pub clues: Vec<u16>,
 }
 
-fn within_limits(height: usize, width: usize) -> bool {
+pub fn within_limits(height: usize, width: usize) -> bool {
     (1..=32).contains(&height) && (1..=32).contains(&width)
 }
 
 impl Making {
+    /// No given walls, and one room without a clue.
+    pub fn empty(height: usize, width: usize) -> Making {
+        Making { height, width, given: vec![], clues: vec![NO_CLUE] }
+    }
+
     pub fn walls(&self) -> Vec<usize> {
         self.given.iter().map(|&border| border as usize).collect()
     }

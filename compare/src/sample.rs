@@ -1,6 +1,6 @@
 //! The script that crate `vectors` runs in the gate, and the Rust's answers to it: a line for each call. README.md has the calls.
 use crate::boards::{self, Standing, UNDECIDED};
-use crate::layers::{board, boundary, city_count, groups, hand_over, numbering, path, puzzle, right_boards, shape, union_find};
+use crate::layers::{board, boundary, city_count, generator, groups, hand_over, numbering, path, puzzle, right_boards, shape, union_find};
 use crate::random::Random;
 use std::fmt::Display;
 use std::path::Path;
@@ -48,7 +48,7 @@ pub fn code<T>(answer: &Result<T, u8>) -> u8 {
 }
 
 /// The code, and the list where it is 0.
-pub fn listed(answer: &Result<Vec<u16>, u8>) -> String {
+pub fn listed<T: Display>(answer: &Result<Vec<T>, u8>) -> String {
     format!("{}{}", code(answer), numbers(answer.as_deref().unwrap_or(&[])))
 }
 
@@ -88,6 +88,7 @@ pub fn write(folder: &Path) {
     puzzle::sample(sample);
     hand_over::sample(sample);
     right_boards::sample(sample);
+    generator::sample(sample);
     sample.script += ".  00000 00000\n";
     sample.answers += "end\n";
     println!("{} calls", sample.script.lines().count() - 1);

@@ -4,7 +4,7 @@ use std::fmt::Debug;
 use std::time::{Duration, Instant};
 
 pub struct Tally {
-    layer: &'static str,
+    pub layer: &'static str,
     /// Boards, graphs, sizes or runs of calls.
     cases: u64,
     /// Answers held against each other.

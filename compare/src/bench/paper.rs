@@ -18,15 +18,23 @@ pub struct Row<T> {
     pub times: T,
 }
 
-/// With a comma before each three digits, and decimals where there are few digits.
+/// With decimals where there are few digits.
 pub fn number(n: f64) -> String {
-    let text = match n {
+    commas(match n {
         n if n >= 9.95 => format!("{n:.0}"),
         n if n >= 0.995 => format!("{n:.1}"),
         n if n >= 0.0995 => format!("{n:.2}"),
         n if n >= 0.00995 => format!("{n:.3}"),
         n => format!("{n:.4}"),
-    };
+    })
+}
+
+pub fn count(n: usize) -> String {
+    commas(n.to_string())
+}
+
+/// With a comma before each three digits.
+fn commas(text: String) -> String {
     let whole = text.split('.').next().unwrap_or_default().len();
     let comma = |(at, digit): (usize, char)| {
         let before = at > 0 && at < whole && (whole - at) % 3 == 0;

@@ -9,7 +9,7 @@ use crate::tally::Tally;
 use std::path::{Path, PathBuf};
 use std::process::Command;
 
-const ROOT: &str = concat!(env!("CARGO_MANIFEST_DIR"), "/..");
+pub(super) const ROOT: &str = concat!(env!("CARGO_MANIFEST_DIR"), "/..");
 
 /// How many calls at once are run at most.
 const AT_ONCE: usize = 6;
@@ -26,14 +26,15 @@ struct Counts {
     lines: [u64; 6],
 }
 
-struct Compared {
-    tally: Tally,
-    random: Random,
+/// A layer's files beside the Rust.
+pub(super) struct Compared {
+    pub(super) tally: Tally,
+    pub(super) random: Random,
     lent: Lent,
     counts: Counts,
 }
 
-fn hexadecimal(bytes: &[u8]) -> String {
+pub(super) fn hexadecimal(bytes: &[u8]) -> String {
     let digits: String = bytes.iter().take(400).map(|b| format!("{b:02x}")).collect();
     format!("{} bytes {digits}", bytes.len())
 }
@@ -60,6 +61,11 @@ fn parts(case: Option<&Case>) -> Parts {
 }
 
 impl Compared {
+    pub(super) fn new(layer: &'static str, limits: &Limits) -> Compared {
+        let (random, lent) = (Random::new(limits.seed), Lent::new(AT_ONCE * LINE_ROOM));
+        Compared { tally: Tally::new(layer), random, lent, counts: Counts::default() }
+    }
+
     /// A printed line: the Rust's, and one of SPEC 5.4 by its look alone.
     fn line(&mut self, expected: &Line, printed: &[u8], on: impl Fn() -> String) {
         self.counts.lines[expected.fields().0 as usize] += 1;
@@ -141,7 +147,7 @@ impl Compared {
 
     /// A file through the functions over slices: whether it is sound, and its lines. With `whole` also what is read of it, each line
     /// by itself, and the calls some at once.
-    fn file(&mut self, bytes: &[u8], whole: bool) -> (bool, String) {
+    pub(super) fn file(&mut self, bytes: &[u8], whole: bool) -> (bool, String) {
         self.tally.case();
         let on = || hexadecimal(bytes);
         let case = files::decode(bytes);
@@ -189,23 +195,35 @@ impl Compared {
         }
     }
 
-    /// A file through the functions and through the program, which finds it, or none, in a folder of its own.
-    fn program(&mut self, folder: &Path, bytes: Option<&[u8]>) {
+    /// A file through the functions and through the program, which finds it, or none, in a folder of its own: whether it is sound, and
+    /// its lines.
+    pub(super) fn program(&mut self, folder: &Path, bytes: Option<&[u8]>) -> (bool, String) {
         let file = folder.join("sendai.bin");
-        let expected = match bytes {
+        let (sound, expected) = match bytes {
             Some(bytes) => {
                 std::fs::write(&file, bytes).expect("a temporary folder");
-                self.file(bytes, false).1
+                self.file(bytes, false)
             }
-            None => Line::Refused(11).text(),
+            None => (false, Line::Refused(11).text()),
         };
         let program = Path::new(ROOT).join("target/bin/sendai").canonicalize().expect("the program");
         let output = Command::new(program).current_dir(folder).output().expect("the program runs");
         self.counts.programs += 1;
         let told = (output.status.code(), text(&output.stdout), text(&output.stderr));
         let on = || format!("the program on {}", bytes.map_or("no file".into(), hexadecimal));
-        self.tally.same(&(Some(0), expected, String::new()), &told, on);
+        let due = (Some(0), expected, String::new());
+        self.tally.same(&due, &told, on);
         drop(std::fs::remove_file(file));
+        (sound, due.1)
+    }
+
+    /// Says what of some files was compared, and how many lines of each kind.
+    pub(super) fn told(self, files: &str) -> Tally {
+        let (layer, Counts { programs, lines, .. }) = (self.tally.layer, self.counts);
+        println!("{layer}: {files}, {programs} through the program");
+        let [decided, undone, clear, shape, room, refused] = lines;
+        println!("{layer}: lines: {decided} decided, {undone} undone, {clear} clear, {shape} shape, {room} room, {refused} refused");
+        self.tally.done()
     }
 
     /// The files that a crate is run on: its `stdout` is what the Rust's side prints.
@@ -244,40 +262,44 @@ impl Compared {
     }
 }
 
-/// Files that the program is run on: sound and damaged ones, none, an empty one and ones that are too long.
-fn programs(compared: &mut Compared, limits: &Limits) {
+/// Lends a folder to a layer's runs of the program; where the program is not built there are none.
+pub(super) fn in_folder(layer: &str, runs: impl FnOnce(&Path)) {
     if !Path::new(ROOT).join("target/bin/sendai").exists() {
-        return println!("files: target/bin/sendai is not there: the program was not run");
+        return println!("{layer}: target/bin/sendai is not there: the program was not run");
     }
     let folder = std::env::temp_dir().join(format!("sendai-compare-{}", std::process::id()));
     std::fs::create_dir_all(&folder).expect("a temporary folder");
-    compared.program(&folder, None);
-    compared.program(&folder, Some(&[]));
+    runs(&folder);
+    drop(std::fs::remove_dir_all(folder));
+}
+
+/// Files that the program is run on: sound and damaged ones, none, an empty one and ones that are too long.
+fn programs(compared: &mut Compared, folder: &Path, limits: &Limits) {
+    compared.program(folder, None);
+    compared.program(folder, Some(&[]));
     for rest in [60_000, 60_001, 65_535] {
-        compared.program(&folder, Some(&files::of_length(rest)));
+        compared.program(folder, Some(&files::of_length(rest)));
     }
     for length in [65_536, 65_537, 300_000] {
         let mut bytes = files::of_length(60_000);
         bytes.resize(length, 3);
-        compared.program(&folder, Some(&bytes));
+        compared.program(folder, Some(&bytes));
     }
     until(limits.time / 4, || {
         let (most, length) = *compared.random.pick(&[(4, 20), (8, 80), (8, 80), (32, 300)]);
         let case = files::sound(&mut compared.random, 1, most, length);
         let bytes = files::encode(&case);
-        compared.program(&folder, Some(&bytes));
+        compared.program(folder, Some(&bytes));
         let bytes = files::damaged(&mut compared.random, &case, &bytes);
-        compared.program(&folder, Some(&bytes));
+        compared.program(folder, Some(&bytes));
     });
-    drop(std::fs::remove_dir_all(folder));
 }
 
 pub fn run(limits: &Limits) -> Tally {
-    let (random, lent) = (Random::new(limits.seed), Lent::new(AT_ONCE * LINE_ROOM));
-    let mut compared = Compared { tally: Tally::new("files"), random, lent, counts: Counts::default() };
+    let mut compared = Compared::new("files", limits);
     compared.stored();
     compared.lengths();
-    programs(&mut compared, limits);
+    in_folder("files", |folder| programs(&mut compared, folder, limits));
     until(limits.time / 4, || compared.case(1, 8, 60, 0));
     until(limits.time / 4, || compared.case(9, 32, 2000, 1));
     until(limits.time, || {
@@ -286,9 +308,6 @@ pub fn run(limits: &Limits) -> Tally {
         let bytes = files::scrap(&mut compared.random);
         compared.damaged(&bytes);
     });
-    let Counts { damaged, still_sound, programs, lines } = compared.counts;
-    println!("files: {damaged} damaged ({still_sound} of them sound), {programs} through the program");
-    let [decided, undone, clear, shape, room, refused] = lines;
-    println!("files: lines: {decided} decided, {undone} undone, {clear} clear, {shape} shape, {room} room, {refused} refused");
-    compared.tally.done()
+    let Counts { damaged, still_sound, .. } = compared.counts;
+    compared.told(&format!("{damaged} damaged ({still_sound} of them sound)"))
 }

@@ -209,17 +209,13 @@ fn started(random: &mut Random, making: &Making, full: &Standing, open: usize) -
     board
 }
 
-fn empty(height: usize, width: usize) -> Making {
-    Making { height, width, given: vec![], clues: vec![NO_CLUE] }
-}
-
 /// The puzzles of a size on which all standing sets are compared.
 fn makings(random: &mut Random, height: usize, width: usize, shapes: &Full) -> Vec<Making> {
     if border_count(height, width) < 7 || (height > 1 && width > 1) {
         return puzzles::every(height, width);
     }
     let drawn = (0..DRAWN).map(|_| laid(random, height, width, shapes).1);
-    [empty(height, width)].into_iter().chain(drawn).collect()
+    [Making::empty(height, width)].into_iter().chain(drawn).collect()
 }
 
 /// The empty puzzles of 10 to 17 borders and of 4 by 4, and puzzles drawn on these sizes, most often with rows and columns.
@@ -230,7 +226,7 @@ fn sampled(compared: &mut Compared, random: &mut Random, limits: &Limits) {
     }
     let judged: Vec<((usize, usize), Full)> = sizes.into_iter().map(|size| (size, shapes(size.0, size.1))).collect();
     for ((height, width), shapes) in &judged {
-        let making = empty(*height, *width);
+        let making = Making::empty(*height, *width);
         let board = Standing::all(*height, *width, UNDECIDED);
         compared.standing(random, &making, &right(&making, shapes), &board);
     }
@@ -343,7 +339,7 @@ pub fn sample(sample: &mut Sample) {
     let random = &mut Random::new(24);
     for (height, width) in boards::sizes(9).into_iter().chain([(3, 3)]) {
         let shapes = shapes(height, width);
-        let making = empty(height, width);
+        let making = Making::empty(height, width);
         store_boards(sample, &making, &right(&making, &shapes), &Standing::all(height, width, UNDECIDED));
         // nothing is drawn at 1 by 1, whose only board is not right
         let drawn = if height > 1 && width > 1 { 8 } else { shapes.len().min(1) };
@@ -355,7 +351,7 @@ pub fn sample(sample: &mut Sample) {
         }
     }
     for (width, cap) in [(26, 0), (26, 1), (3, LARGEST)] {
-        store(sample, &empty(1, width), &Standing::all(1, width, UNDECIDED));
+        store(sample, &Making::empty(1, width), &Standing::all(1, width, UNDECIDED));
         sample.call("pb", cap, 0, refusal(&walled(1, width, 0), cap, 0));
     }
 }

@@ -1,5 +1,6 @@
 //! The case file's calls.
 use super::{c, UNTOUCHED};
+use crate::generator::Load;
 
 pub use c::{Opened, Parts, Ran};
 
@@ -8,6 +9,9 @@ pub const LINE_ROOM: usize = 55_323;
 
 /// What the places of a buffer of bytes hold before a call.
 const BLANK: u8 = 0xbe;
+
+/// How many bytes behind a buffer are looked at.
+pub(super) const BEHIND: usize = 9;
 
 /// Bytes that are lent again and again; behind what a call wrote they must be untouched.
 pub struct Lent {
@@ -28,6 +32,22 @@ impl Lent {
         let written = self.bytes[..used].to_vec();
         self.bytes[..used].fill(BLANK);
         (answer, written)
+    }
+}
+
+/// A load's file in so many bytes; those behind it, and some behind the buffer, must be untouched.
+pub fn generate(load: Load, room: usize) -> Result<Vec<u8>, u8> {
+    let Load { seed, height, width, count } = load;
+    let (told, file) = Lent::new(room + BEHIND).lend(room, |buffer, room| {
+        // the buffer lives through the call
+        let told = unsafe { c::sendai_case_generate(seed, height, width, count, buffer, room) };
+        let length = told.length;
+        (told, length)
+    });
+    match (told.code, told.fault, told.length) {
+        (0, false, _) => Ok(file),
+        (code, false, 0) => Err(code),
+        numbers => panic!("{numbers:?} are no answer"),
     }
 }
 

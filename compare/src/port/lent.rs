@@ -1,5 +1,6 @@
 //! Calls with a buffer that is lent again and again and never cleared: for the benchmark.
 use super::{c, Board, City, Puzzle};
+use crate::generator::Load;
 
 // Each buffer lives through its call.
 impl Board {
@@ -39,4 +40,14 @@ impl Puzzle {
 
 pub fn hand_over_in(entries: &[u16], buffer: &mut [u16]) -> usize {
     unsafe { c::sendai_hand_over(entries.as_ptr(), entries.len(), buffer.as_mut_ptr(), buffer.len()) }.length
+}
+
+pub fn generate_in(load: Load, buffer: &mut [u8]) -> usize {
+    let Load { seed, height, width, count } = load;
+    unsafe { c::sendai_case_generate(seed, height, width, count, buffer.as_mut_ptr(), buffer.len()) }.length
+}
+
+/// The call of a file at a byte, with its line in the buffer.
+pub fn run_in(file: &[u8], at: usize, from: c::Puzzle, line: &mut [u8]) -> c::Ran {
+    unsafe { c::sendai_case_run(file.as_ptr(), file.len(), at, 1, from, line.as_mut_ptr(), line.len()) }
 }

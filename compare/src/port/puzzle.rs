@@ -1,5 +1,5 @@
 //! The puzzle's calls.
-use super::file::Lent;
+use super::file::{Lent, BEHIND};
 use super::{accepted, c, UNTOUCHED};
 use crate::answers::{Answer, Boards};
 use crate::boards::border_count;
@@ -108,6 +108,3 @@ impl Puzzle {
         }
     }
 }
-
-/// How many bytes behind a buffer are looked at.
-const BEHIND: usize = 9;

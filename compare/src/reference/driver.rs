@@ -317,6 +317,14 @@ impl Puzzle {
         Ok(())
     }
 
+    /// Whether a decide would panic, for the benchmark.
+    pub fn is_decided(&self, border: usize) -> bool {
+        let board = &self.board.0.board;
+        let (under, y, x) = board.idx_to_border(border);
+        let borders = if under { &board.vertical_borders } else { &board.horizontal_borders };
+        borders[(y, x)] != Border::Undecided
+    }
+
     /// The solver never undoes a given wall: an empty ledger is refused here.
     pub fn undo(&mut self) -> Result<(), u8> {
         let border = self.ledger.pop().ok_or(5)?;
@@ -326,6 +334,13 @@ impl Puzzle {
             self.rooms[room].check.undo();
         }
         Ok(())
+    }
+
+    /// A fresh puzzle with the shape check itself in the place of `ReasonVerifier` over it, for the benchmark.
+    pub fn unverified(mut self) -> Puzzle {
+        let board = &self.board.0.board;
+        self.shape = Box::new(Board::standing(board.height, board.width, &self.board.states()).0);
+        self
     }
 
     /// Without the net under a panic and the board that is read, for the benchmark.

@@ -1,5 +1,6 @@
-// What the calls of a script work on: a record of each kind, a size, and two lists that wait for a call that takes them.
+// What the calls of a script work on: a record of each kind, a size, a seed, and two lists that wait for a call that takes them.
 use crate::boards;
+use crate::cases;
 use crate::grids;
 use crate::puzzles;
 use crate::queue;
@@ -17,6 +18,7 @@ use union_find::UnionFind;
 
 pub struct Desk {
     grid: Grid,
+    seed: u32,
     board: Board,
     union: UnionFind,
     room: CityCountConstraint,
@@ -42,6 +44,7 @@ pub fn fresh() -> Desk {
             height: 0,
             width: 0,
         },
+        seed: 0,
         board: b,
         union: u,
         room: r,
@@ -64,6 +67,18 @@ pub fn on_grid(d: Desk, c: Command) -> Desk {
         return next;
     }
     grids::say_neighbour(d.grid, c.x, c.y);
+    next
+}
+
+// A seed is put down, or a case file drawn from it on the size.
+pub fn on_case(d: Desk, c: Command) -> Desk {
+    let mut next = d;
+    if c.call == b's' {
+        next.seed = cases::seed(c.x, c.y);
+        say::code(0);
+        return next;
+    }
+    cases::say_file(d.seed, d.grid, c.x, c.y);
     next
 }
 

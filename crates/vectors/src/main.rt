@@ -1,5 +1,6 @@
 // Runs the calls of a script and says each one's answer in a line. The file `stdout` has the answers of the Rust to the same calls.
 mod boards;
+mod cases;
 mod desk;
 mod grids;
 mod puzzles;
@@ -17,6 +18,7 @@ fn step(d: Desk, c: Command) -> Desk {
     let record = c.record;
     match record {
         b'g' => desk::on_grid(d, c),
+        b'c' => desk::on_case(d, c),
         b'l' => desk::on_lists(d, c),
         b'b' => desk::on_board(d, c),
         b'u' => desk::on_union(d, c),

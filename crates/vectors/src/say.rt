@@ -105,6 +105,13 @@ pub fn plain(a: Plain, list: &[u16]) {
     text(b"\n");
 }
 
+// What a call that writes a file answered, and its bytes.
+pub fn file(a: Plain, list: &[u8]) {
+    number(a.code as usize);
+    bytes(list, a.length);
+    text(b"\n");
+}
+
 // A record: how many borders are decided, their numbers in turn, and the first n states.
 pub fn record<'a>(states: &'a [u8], n: usize, names: &'a [u16], len: usize) {
     number(len);
