@@ -3,6 +3,7 @@ use Prim.Native.Nat.{ℕ, _≤_}
 use mathlib.Core.Path.{_≡_, refl, sym, _∙_}
 use mathlib.Core.Logic.{_≢_}
 use mathlib.Core.Bool.{Bool, true, false}
+use mathlib.Core.List.{List, [], _∷_}
 use native.Mathlib.Omega.{arith}
 use borrow.Author.Tests.{ne-eqb}
 use lib.ListN.{length}
@@ -12,12 +13,13 @@ use Rattle.grid.specs.declared.Grid.{Grid}
 use Rattle.grid.specs.Grid.{sizesOk, Limits, borderCount}
 use Rattle.grid.proofs.Geometry.{limits, limits-ok, borderCount-le}
 use Rattle.ledger.specs.declared.Book.{Book}
-use Rattle.ledger.specs.Ledger.{decideCode, undoCode, firstCode}
+use Rattle.ledger.specs.Ledger.{decisions, strokeCode, firstCode}
 use Rattle.ledger.specs.Books.{noneGiven, stateAt, bookHolds}
-use Rattle.ledger.proofs.Codes.{first-stops, first-passes}
-use Rattle.ledger.proofs.BookLaws.{Places, Placeable, Takeable, placeable, takeable}
+use Rattle.ledger.specs.Marks.{Entry}
+use Rattle.ledger.proofs.Codes.{first-stops, first-passes, as-decide}
+use Rattle.ledger.proofs.Found.{Places, Placeable, Takeable, placeable, takeable}
 use Rattle.board.specs.declared.Board.{Board}
-use Rattle.board.specs.Board.{answer, bordersOf, checkOf, boardCode, onto, answered}
+use Rattle.board.specs.Board.{answer, bordersOf, checkOf, boardCode, onto, answered, strokeOf, decideOf}
 
 -- parts that questions 1 and 2 accept
 pub record Ready (g : Grid) (k : Book) : Type 0 where
@@ -66,8 +68,14 @@ module _ (b : Board) (code : ℕ) (q : code ≡ boardCode b) where
       places : Places (bordersOf b) (b .book)
       places = record { few = few; states-are = s; names-are = l }
 
-      pub placing : (e n : ℕ) → n ≡ decideCode (bordersOf b) (stateAt (b .book .states)) e → n ≡ 0 → Placeable (b .book) e
-      placing e n p h = placeable (bordersOf b) noneGiven (b .book) (board-ready .holds) places e (sym p ∙ h)
+      pub placing : (es : List ℕ) (n : ℕ) → n ≡ strokeCode (bordersOf b) (stateAt (b .book .states)) (decisions es) → n ≡ 0 → Placeable (b .book) es
+      placing es n p h = placeable (bordersOf b) noneGiven (b .book) (board-ready .holds) places es (sym p ∙ h)
 
-      pub taking : (n : ℕ) → n ≡ undoCode (b .book .len) → n ≡ 0 → Takeable (b .book)
-      taking n p h = takeable (bordersOf b) noneGiven (b .book) (board-ready .holds) places (sym p ∙ h)
+      pub taking : Takeable (b .book)
+      taking = takeable (bordersOf b) noneGiven (b .book) (board-ready .holds) places
+
+-- a decide by way of its entry
+pub one-entry : (b : Board) (e : ℕ) (wall : Bool) (x : ℕ) → Entry e wall x → strokeOf b (decisions (x ∷ [])) ≡ decideOf b e wall
+one-entry b e wall x k =
+    as-decide (λ c m. answered c b m) (λ c z m m'. rw (ne-eqb c 0 z)) (boardCode b) (bordersOf b) (b .book) e wall x
+    (λ z. borderCount-le (b .grid) (ready (b .grid) (b .book) z .limits)) k

@@ -1,12 +1,13 @@
--- What a board's calls answer (SPEC 1.1 to 1.6, 3.1 to 3.5): the ledger's answers, around a size. Assumes nothing.
+-- What a board's calls answer (SPEC 1.1 to 1.6, 3.1 to 3.5, 12): the ledger's answers, around a size. Assumes nothing.
 use Prim.Native.Nat.{ℕ}
 use mathlib.Core.Bool.{Bool}
+use mathlib.Core.List.{List}
 use lib.Dec.{eqb}
 use Rattle.lists.specs.Choice.{pick}
 use Rattle.grid.specs.declared.Grid.{Grid}
 use Rattle.grid.specs.Grid.{grid, sizesOk, borderCount}
 use Rattle.ledger.specs.declared.Book.{Book}
-use Rattle.ledger.specs.Ledger.{decideCode, undoCode, firstCode}
+use Rattle.ledger.specs.Ledger.{Decision, single, strokeCode, undoCode, firstCode}
 use Rattle.ledger.specs.Books.{zeros, freshBook, noneGiven, stateAt, bookHolds, placed, taken}
 use Rattle.board.specs.declared.Board.{Board}
 use Rattle.board.specs.declared.Decided.{Decided}
@@ -47,8 +48,12 @@ onto b k = record { grid = b .grid; book = k }
 abbrev pub answered : ℕ → Board → Book → Decided
 answered n b k = pick (eqb n 0) (answer 0 (onto b k)) (answer n b)
 
+abbrev pub strokeOf : Board → List Decision → Decided
+strokeOf b ds = answered (firstCode (boardCode b) (strokeCode (bordersOf b) (stateAt (b .book .states)) ds)) b (placed (b .book) ds)
+
+-- a single decide is a stroke of one (SPEC 12.1)
 abbrev pub decideOf : Board → ℕ → Bool → Decided
-decideOf b e wall = answered (firstCode (boardCode b) (decideCode (bordersOf b) (stateAt (b .book .states)) e)) b (placed (b .book) e wall)
+decideOf b e wall = strokeOf b (single e wall)
 
 abbrev pub undoOf : Board → Decided
 undoOf b = answered (firstCode (boardCode b) (undoCode (b .book .len))) b (taken (b .book))

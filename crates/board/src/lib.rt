@@ -1,9 +1,10 @@
-// The board (`BoardManager`): a size around a book. Making, decide and undo on a record by value, and whether a record holds together.
+// The board (`BoardManager`): a size around a book. Making, stroke, decide and undo on a record by value, and whether a record holds together.
 ghost use mathlib.Core.Path.{_≡_};
 ghost use lib.ListN.{length};
 ghost use Rattle.limits.specs.Limits.{mostBorders};
+ghost use Rattle.ledger.specs.Ledger.{decisions};
 ghost use Rattle.ledger.specs.Books.{book};
-ghost use Rattle.board.specs.Board.{freshBoard, makeOf, checkOf, boardCode, decideOf, undoOf};
+ghost use Rattle.board.specs.Board.{freshBoard, makeOf, checkOf, boardCode, strokeOf, decideOf, undoOf};
 use grid::Grid;
 use ledger::Book;
 
@@ -79,10 +80,10 @@ pub fn check(b: Board) -> u8
     check_parts(b.grid, &b.book.states, &b.book.names, b.book.len)
 }
 
-// Decides a border as Wall or Connected. The answer is made first and changed where it stands: the record's 6 KB are
+// Decides the borders of a stroke, all or none. The answer is made first and changed where it stands: the record's 6 KB are
 // copied in and out, and not once more.
-pub fn decide(b: Board, border: usize, wall: bool) -> Decided
-    ensures { λ r. ⌜ r ≡ decideOf b border wall ⌝ }
+pub fn stroke(b: Board, entries: &[u16]) -> Decided
+    ensures { λ r. ⌜ r ≡ strokeOf b (decisions (now (entries .entry))) ⌝ }
 {
     let len = b.book.len;
     let mut out = Decided { code: 0, board: b };
@@ -92,18 +93,26 @@ pub fn decide(b: Board, border: usize, wall: bool) -> Decided
         return out;
     }
     let n = grid::border_count(b.grid);
-    let number = ledger::decide_code(&out.board.book.states, n, border);
+    let number = ledger::stroke_code(&out.board.book.states, entries, n);
     if number != 0 {
         out.code = number;
         return out;
     }
-    ledger::place_state(&mut out.board.book.states, border, wall);
-    ledger::place_name(&mut out.board.book.names, len, border);
-    out.board.book.len = len + 1;
+    ledger::place_states(&mut out.board.book.states, entries);
+    ledger::place_names(&mut out.board.book.names, len, entries);
+    out.board.book.len = len + entries.len();
     out
 }
 
-// Takes the last decision back: of a board that calls have made, the very record before it is there again.
+// Decides a border as Wall or Connected: a stroke of one.
+pub fn decide(b: Board, border: usize, wall: bool) -> Decided
+    ensures { λ r. ⌜ r ≡ decideOf b border wall ⌝ }
+{
+    let one = [ledger::entry_of(border, wall)];
+    stroke(b, &one)
+}
+
+// Takes the whole last stroke back: of a board that calls have made, the very record before it is there again.
 pub fn undo(b: Board) -> Decided
     ensures { λ r. ⌜ r ≡ undoOf b ⌝ }
 {
@@ -119,10 +128,9 @@ pub fn undo(b: Board) -> Decided
         out.code = number;
         return out;
     }
-    let at = len - 1;
-    let border = ledger::name_at(&out.board.book.names, at);
-    ledger::clear_state(&mut out.board.book.states, border);
-    ledger::clear_name(&mut out.board.book.names, at);
-    out.board.book.len = at;
+    let from = ledger::start_of(&out.board.book.names, len);
+    ledger::clear_states(&mut out.board.book.states, &b.book.names, from, len);
+    ledger::clear_names(&mut out.board.book.names, from, len);
+    out.board.book.len = from;
     out
 }

@@ -36,7 +36,7 @@ middle-potential = refl
 
 -- the same board by the public calls' definition: 27 places are enough, 26 are not; there is no unit 2
 abbrev three : Board
-three = record { grid = grid 1 3; book = record { states = 2 ∷ 1 ∷ []; names = 0 ∷ 1 ∷ []; len = 2 } }
+three = record { grid = grid 1 3; book = record { states = 2 ∷ 1 ∷ []; names = 1 ∷ 3 ∷ []; len = 2 } }
 
 three-unit : boundaryOutcome three false 1 27 ≡ listed (2 ∷ 1 ∷ [])
 unfolding unitBoundary groupIds groupCount bookHolds holdsOf count
@@ -55,6 +55,6 @@ unfolding potentialBoundary groupIds groupCount bookHolds holdsOf count
 short = refl
 
 -- its ledger names border 0 twice
-unsound : boundaryOutcome (record { grid = grid 1 3; book = record { states = 2 ∷ 1 ∷ []; names = 0 ∷ 0 ∷ []; len = 2 } }) true 1 27 ≡ refused 2
+unsound : boundaryOutcome (record { grid = grid 1 3; book = record { states = 2 ∷ 1 ∷ []; names = 1 ∷ 1 ∷ []; len = 2 } }) true 1 27 ≡ refused 2
 unfolding potentialBoundary groupIds groupCount bookHolds holdsOf count
 unsound = refl

@@ -14,7 +14,7 @@ use Rattle.lists.proofs.Cases.{eq-or-ne}
 use Rattle.borders.specs.Border.{StatesOk}
 use Rattle.ledger.proofs.Question.{holds-question}
 use Rattle.ledger.specs.Books.{namesIn}
-use Rattle.ledger.proofs.BookLaws.{held}
+use Rattle.ledger.proofs.Found.{held}
 use Rattle.rooms.specs.Rooms.{isGiven}
 use Rattle.grid.proofs.Geometry.{cells-le}
 use Rattle.hand_over.specs.Sorted.{sortedOnce}
@@ -56,7 +56,7 @@ module _ (p : Puzzle) where
   states-ok r e l =
       let n = bordersOf p in
       let given = isGiven (givenOf p) in
-      holds-question n given (p .board .book .states) (namesIn (p .board .book)) (held n given (p .board .book) (r .holds) .1) .kept e l .state
+      holds-question n given (p .board .book .states) (namesIn (p .board .book)) (held n given (p .board .book) (r .holds) .2) .kept e l .state
 
   -- a fault's list has its places in the program's buffer
   pub fault-few : (buf : List ℕ) (k : Check) (n : ℕ) → Fault k n ≡ askOf p buf .answer → n ≤ 9216

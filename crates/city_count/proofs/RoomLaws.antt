@@ -3,7 +3,7 @@ use Prim.Native.Nat.{ℕ, _≤_, _<_}
 use mathlib.Core.Path.{_≡_, refl, ap, sym, _∙_}
 use mathlib.Core.Logic.{_≢_}
 use mathlib.Core.Bool.{Bool, true, false}
-use mathlib.Core.List.{List}
+use mathlib.Core.List.{List, [], _∷_}
 use mathlib.Core.Option.{Option, none, some}
 use native.Mathlib.Omega.{arith}
 use borrow.Author.Tests.{eq-eqb, ne-eqb, le-leb, lt-leb, leb-true}
@@ -20,13 +20,14 @@ use Rattle.answers.specs.declared.Answer.the-variants as case-answer
 use Rattle.answers.specs.Answers.{answerOf, written, found, foundOf, Told}
 use Rattle.answers.proofs.Found.{the-type}
 use Rattle.ledger.specs.declared.Book.{Book}
-use Rattle.ledger.specs.Ledger.{decideCode, undoCode, firstCode}
+use Rattle.ledger.specs.Ledger.{decisions, strokeCode, firstCode}
 use Rattle.ledger.specs.Books.{zeros, noneGiven, stateAt, bookHolds}
-use Rattle.ledger.proofs.Codes.{first-stops, first-passes}
-use Rattle.ledger.proofs.BookLaws.{Places, Placeable, Takeable, placeable, takeable}
+use Rattle.ledger.specs.Marks.{Entry}
+use Rattle.ledger.proofs.Codes.{first-stops, first-passes, as-decide}
+use Rattle.ledger.proofs.Found.{Places, Placeable, Takeable, placeable, takeable}
 use Rattle.room_parts.specs.Graph as rooms
 use Rattle.city_count.specs.declared.CityCountConstraint.{CityCountConstraint}
-use Rattle.city_count.specs.Room.{zeroRoom, freshRoom, answer, endsExist, checkOf, roomCode, makeOf, onto, answered, faultOf, askOf, Sized}
+use Rattle.city_count.specs.Room.{zeroRoom, freshRoom, answer, endsExist, checkOf, roomCode, makeOf, onto, answered, strokeOf, decideOf, faultOf, askOf, Sized}
 use Rattle.city_count.proofs.LoopLaws.{Ends, all-ends, ends-all}
 
 -- a graph within the limits whose ends exist
@@ -103,7 +104,7 @@ lent-room n m us vs b r z =
       vs-exist = λ i h. f .ends i h .1;
     }
 
--- DECIDE, UNDO and ASK of a graph that question 1 or 2 refuses, or none of them
+-- STROKE, UNDO and ASK of a graph that question 1 or 2 refuses, or none of them
 module _ (r : CityCountConstraint) (code : ℕ) (q : code ≡ roomCode r) where
   pub stopped : (next : ℕ) (b : Book) → code ≢ 0 → answer code r ≡ answered (firstCode (roomCode r) next) r b
   stopped next b z = rw (← q, first-stops code next z, ne-eqb code 0 z)
@@ -126,11 +127,11 @@ module _ (r : CityCountConstraint) (code : ℕ) (q : code ≡ roomCode r) where
       places : Places (r .edges) (r .book)
       places = record { few = room-ready .fits .few-edges; states-are = s; names-are = l }
 
-      pub placing : (e n : ℕ) → n ≡ decideCode (r .edges) (stateAt (r .book .states)) e → n ≡ 0 → Placeable (r .book) e
-      placing e n p k = placeable (r .edges) noneGiven (r .book) (room-ready .holds) places e (sym p ∙ k)
+      pub placing : (es : List ℕ) (n : ℕ) → n ≡ strokeCode (r .edges) (stateAt (r .book .states)) (decisions es) → n ≡ 0 → Placeable (r .book) es
+      placing es n p k = placeable (r .edges) noneGiven (r .book) (room-ready .holds) places es (sym p ∙ k)
 
-      pub taking : (n : ℕ) → n ≡ undoCode (r .book .len) → n ≡ 0 → Takeable (r .book)
-      taking n p k = takeable (r .edges) noneGiven (r .book) (room-ready .holds) places (sym p ∙ k)
+      pub taking : Takeable (r .book)
+      taking = takeable (r .edges) noneGiven (r .book) (room-ready .holds) places
 
     pub ask-short : (buffer : List ℕ) → length buffer < r .edges
         → (case-answer.Refused 6 ≡ answerOf (askOf r (length buffer))) × (buffer ≡ written (askOf r (length buffer)) buffer)
@@ -161,3 +162,9 @@ module _ (r : CityCountConstraint) (code : ℕ) (q : code ≡ roomCode r) where
 -- an ask of a record that holds together, with a long enough buffer
 pub ask-accepted : (r : CityCountConstraint) (places : ℕ) → roomCode r ≡ 0 → r .edges ≤ places → askOf r places ≡ found (faultOf r)
 ask-accepted r places z h = simp (z, le-leb (r .edges) places h)
+
+-- a decide by way of its entry
+pub one-entry : (r : CityCountConstraint) (e : ℕ) (wall : Bool) (x : ℕ) → Entry e wall x → strokeOf r (decisions (x ∷ [])) ≡ decideOf r e wall
+one-entry r e wall x k =
+    as-decide (λ c m. answered c r m) (λ c z m m'. rw (ne-eqb c 0 z)) (roomCode r) (r .edges) (r .book) e wall x
+    (λ z. ready (r .vertices) (r .edges) (r .us) (r .vs) (r .book) z .fits .few-edges) k

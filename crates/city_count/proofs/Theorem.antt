@@ -89,7 +89,7 @@ module _ (n : ℕ) (us vs : List ℕ) (count : ℕ) (ok : Accepted n us vs count
 
     -- the record's states are the standing edges
     pub states-stand : (e : ℕ) → e < length us → getD (afterCalls n us vs count cs .book .states) e 0 ≡ stateAfter us cs e
-    states-stand e h = rw there (reached n (length us) firsts seconds count fits cs .follows .stands e h)
+    states-stand e h = rw there (reached n (length us) firsts seconds count fits cs .stands e h)
 
     -- the record holds together
     pub run-holds : roomCode (afterCalls n us vs count cs) ≡ 0
@@ -100,7 +100,7 @@ module _ (n : ℕ) (us vs : List ℕ) (count : ℕ) (ok : Accepted n us vs count
     fault-stands =
         rw there
         (room-ends n (length us) firsts seconds us vs count (statesIn (kept .states)) first-at second-at
-        ∙ room-agrees (graphFrom n us vs) count (statesIn (kept .states)) (stateAfter us cs) (reached n (length us) firsts seconds count fits cs .follows .stands))
+        ∙ room-agrees (graphFrom n us vs) count (statesIn (kept .states)) (stateAfter us cs) (reached n (length us) firsts seconds count fits cs .stands))
 
     -- the next ask with a long enough buffer comes to that
     pub ask-answers : (places : ℕ) → length us ≤ places → askOf (afterCalls n us vs count cs) places ≡ found (roomFault (graphFrom n us vs) count (stateAfter us cs))

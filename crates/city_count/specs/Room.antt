@@ -1,4 +1,4 @@
--- What a room graph's calls answer (SPEC 1.8, 3.1 to 3.6, 4.14): the ledger's answers, around a graph and a count. Assumes nothing.
+-- What a room graph's calls answer (SPEC 1.8, 3.1 to 3.6, 4.14, 12): the ledger's answers, around a graph and a count. Assumes nothing.
 use Prim.Native.Nat.{ℕ}
 use mathlib.Core.Path.{_≡_}
 use mathlib.Core.Bool.{Bool}
@@ -12,7 +12,7 @@ use Rattle.lists.specs.Choice.{both, pick}
 use Rattle.lists.specs.Lists.{range, all}
 use Rattle.answers.specs.Answers.{Outcome, refused, found}
 use Rattle.ledger.specs.declared.Book.{Book}
-use Rattle.ledger.specs.Ledger.{decideCode, undoCode, firstCode}
+use Rattle.ledger.specs.Ledger.{Decision, single, strokeCode, undoCode, firstCode}
 use Rattle.ledger.specs.Books.{zeros, freshBook, noneGiven, stateAt, bookHolds, placed, taken}
 use Rattle.room_parts.specs.Graph.{Graph, graph, statesIn}
 use Rattle.city_count.specs.Fault.{roomFault}
@@ -68,8 +68,12 @@ onto r b = roomOf (r .vertices) (r .edges) (r .us) (r .vs) (r .count) b
 abbrev pub answered : ℕ → CityCountConstraint → Book → Decided
 answered k r b = pick (eqb k 0) (answer 0 (onto r b)) (answer k r)
 
+abbrev pub strokeOf : CityCountConstraint → List Decision → Decided
+strokeOf r ds = answered (firstCode (roomCode r) (strokeCode (r .edges) (stateAt (r .book .states)) ds)) r (placed (r .book) ds)
+
+-- a single decide is a stroke of one (SPEC 12.1)
 abbrev pub decideOf : CityCountConstraint → ℕ → Bool → Decided
-decideOf r e wall = answered (firstCode (roomCode r) (decideCode (r .edges) (stateAt (r .book .states)) e)) r (placed (r .book) e wall)
+decideOf r e wall = strokeOf r (single e wall)
 
 abbrev pub undoOf : CityCountConstraint → Decided
 undoOf r = answered (firstCode (roomCode r) (undoCode (r .book .len))) r (taken (r .book))

@@ -2,15 +2,15 @@
 use Prim.Native.Nat.{ℕ}
 use mathlib.Core.List.{List, [], _∷_}
 use lib.ListN.{length}
-use Rattle.ledger.specs.Ledger.{Call, decide, undo, ask, ledgerOf, standing}
+use Rattle.ledger.specs.Ledger.{Call, stroke, undo, ask, ledgerOf, standing, whole}
 use Rattle.ledger.specs.Books.{noneGiven}
 use Rattle.room_parts.specs.Graph.{Graph, graph}
 use Rattle.city_count.specs.declared.CityCountConstraint.{CityCountConstraint}
-use Rattle.city_count.specs.Room.{makeOf, decideOf, undoOf}
+use Rattle.city_count.specs.Room.{makeOf, strokeOf, undoOf}
 
 -- an ask returns no graph and changes none
 unfoldable pub roomAfter : CityCountConstraint → Call → CityCountConstraint
-roomAfter r (decide e wall) = decideOf r e wall .room
+roomAfter r (stroke ds) = strokeOf r ds .room
 roomAfter r undo = undoOf r .room
 roomAfter r ask = r
 
@@ -24,7 +24,7 @@ abbrev pub afterCalls : ℕ → List ℕ → List ℕ → ℕ → List Call → 
 afterCalls n us vs count cs = run (makeOf n us vs count .room) cs
 
 abbrev pub stateAfter : List ℕ → List Call → ℕ → ℕ
-stateAfter us cs = standing noneGiven (ledgerOf (length us) noneGiven [] cs)
+stateAfter us cs = standing noneGiven (whole (ledgerOf (length us) noneGiven [] cs))
 
 -- the graph of a making's arguments
 abbrev pub graphFrom : ℕ → List ℕ → List ℕ → Graph

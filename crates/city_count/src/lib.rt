@@ -1,5 +1,5 @@
-// The room count (`CityCountConstraint`): a room graph with its count and a ledger over its edges. Making, decide, undo and ask on a record
-// by value; the check itself works on lent slices.
+// The room count (`CityCountConstraint`): a room graph with its count and a ledger over its edges. Making, stroke, decide, undo and ask on a
+// record by value; the check itself works on lent slices.
 ghost use mathlib.Core.Path.{_≡_};
 ghost use Prim.Native.Nat.{_≤_};
 ghost use lib.ListN.{length};
@@ -8,12 +8,12 @@ ghost use lib.Dec.{eqb};
 ghost use Rattle.limits.specs.Limits.{mostCells, mostBorders};
 ghost use Rattle.lists.specs.Lists.{range, all};
 ghost use Rattle.answers.specs.Answers.{answerOf, written, Told};
-ghost use Rattle.ledger.specs.Ledger.{stateFor};
+ghost use Rattle.ledger.specs.Ledger.{decisions, stateFor};
 ghost use Rattle.ledger.specs.Books.{book};
 ghost use Rattle.borders.specs.Entry.{entryOf};
 ghost use Rattle.room_parts.specs.Graph.{graph, statesIn, Lent};
 ghost use Rattle.city_count.specs.Fault.{entriesOf, roomFault};
-ghost use Rattle.city_count.specs.Room.{below, endsExist, checkOf, roomCode, zeroRoom, answer, makeOf, decideOf, undoOf, askOf, Sized};
+ghost use Rattle.city_count.specs.Room.{below, endsExist, checkOf, roomCode, zeroRoom, answer, makeOf, strokeOf, decideOf, undoOf, askOf, Sized};
 use answers::Answer;
 use answers::Found;
 use ledger::Book;
@@ -219,9 +219,9 @@ pub fn make<'a>(n: usize, us: &'a [u16], vs: &'a [u16], count: u32) -> Decided
     }
 }
 
-// Decides an edge as Wall or Connected. The answer is made first and changed where it stands.
-pub fn decide(r: CityCountConstraint, edge: usize, wall: bool) -> Decided
-    ensures { λ d. ⌜ d ≡ decideOf r edge wall ⌝ }
+// Decides the edges of a stroke, all or none. The answer is made first and changed where it stands.
+pub fn stroke(r: CityCountConstraint, entries: &[u16]) -> Decided
+    ensures { λ d. ⌜ d ≡ strokeOf r (decisions (now (entries .entry))) ⌝ }
 {
     let len = r.book.len;
     let mut out = Decided { code: 0, room: r };
@@ -238,18 +238,26 @@ pub fn decide(r: CityCountConstraint, edge: usize, wall: bool) -> Decided
         out.code = code;
         return out;
     }
-    let number = ledger::decide_code(&out.room.book.states, r.edges, edge);
+    let number = ledger::stroke_code(&out.room.book.states, entries, r.edges);
     if number != 0 {
         out.code = number;
         return out;
     }
-    ledger::place_state(&mut out.room.book.states, edge, wall);
-    ledger::place_name(&mut out.room.book.names, len, edge);
-    out.room.book.len = len + 1;
+    ledger::place_states(&mut out.room.book.states, entries);
+    ledger::place_names(&mut out.room.book.names, len, entries);
+    out.room.book.len = len + entries.len();
     out
 }
 
-// Takes the last decision back: of a record that calls have made, the very record before it is there again.
+// Decides an edge as Wall or Connected: a stroke of one.
+pub fn decide(r: CityCountConstraint, edge: usize, wall: bool) -> Decided
+    ensures { λ d. ⌜ d ≡ decideOf r edge wall ⌝ }
+{
+    let one = [ledger::entry_of(edge, wall)];
+    stroke(r, &one)
+}
+
+// Takes the whole last stroke back: of a record that calls have made, the very record before it is there again.
 pub fn undo(r: CityCountConstraint) -> Decided
     ensures { λ d. ⌜ d ≡ undoOf r ⌝ }
 {
@@ -273,11 +281,10 @@ pub fn undo(r: CityCountConstraint) -> Decided
         out.code = number;
         return out;
     }
-    let at = len - 1;
-    let edge = ledger::name_at(&out.room.book.names, at);
-    ledger::clear_state(&mut out.room.book.states, edge);
-    ledger::clear_name(&mut out.room.book.names, at);
-    out.room.book.len = at;
+    let from = ledger::start_of(&out.room.book.names, len);
+    ledger::clear_states(&mut out.room.book.states, &r.book.names, from, len);
+    ledger::clear_names(&mut out.room.book.names, from, len);
+    out.room.book.len = from;
     out
 }
 

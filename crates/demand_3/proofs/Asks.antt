@@ -10,7 +10,7 @@ use lib.ListN.{length, take, List·getD-eq-default}
 use Rattle.lists.proofs.Cases.{le-or-lt, true-or-false}
 use Rattle.lists.proofs.SetsLaws.{front}
 use Rattle.grid.specs.Grid.{grid, cells, borderCount}
-use Rattle.ledger.specs.Ledger.{Decision, standing}
+use Rattle.ledger.specs.Ledger.{Decision, standing, whole}
 use Rattle.ledger.proofs.Standing.{Sound, named-or-not, standing-named, standing-given}
 use Rattle.borders.specs.Border.{stateOf, StatesOk}
 use Rattle.ledger.specs.declared.Book.{Book}
@@ -55,18 +55,18 @@ written none buf h = refl
 written (some x) buf h = front buf (x .list) h
 
 -- STANDING BORDERS
-module _ (h w : ℕ) (given clues : List ℕ) (a : Accepted h w given clues) (L : List Decision) (sound : Sound (borderCount (grid h w)) (isGiven given) L) where
+module _ (h w : ℕ) (given clues : List ℕ) (a : Accepted h w given clues) (L : List (List Decision)) (sound : Sound (borderCount (grid h w)) (isGiven given) (whole L)) where
   abbrev n : ℕ
   n = borderCount (grid h w)
 
   abbrev s : ℕ → ℕ
-  s = standing (isGiven given) L
+  s = standing (isGiven given) (whole L)
 
   state-le : (e : ℕ) → s e ≤ 2
   state-le e =
       ⊎-elim
-      (λ (q : isGiven given e ≡ true). rw (standing-given n (isGiven given) L e q) (omega arith))
-      (λ (q : isGiven given e ≡ false). rw (standing-named n (isGiven given) L e q) (⊎-elim (λ k. omega (arith, k .1)) (λ k. k .2) (named-or-not L e)))
+      (λ (q : isGiven given e ≡ true). rw (standing-given n (isGiven given) (whole L) e q) (omega arith))
+      (λ (q : isGiven given e ≡ false). rw (standing-named n (isGiven given) (whole L) e q) (⊎-elim (λ k. omega (arith, k .1)) (λ k. k .2) (named-or-not (whole L) e)))
       (true-or-false (isGiven given e))
 
   -- nothing stands behind the board's borders
@@ -75,7 +75,7 @@ module _ (h w : ℕ) (given clues : List ℕ) (a : Accepted h w given clues) (L 
       ⊎-elim
       (λ (q : isGiven given e ≡ true). absurd (omega (arith, given-inside h w given clues a e q)))
       (λ (q : isGiven given e ≡ false).
-      rw (standing-named n (isGiven given) L e q) (⊎-elim (λ k. k .1) (λ k. absurd (omega (arith, sound .inside e (k .0)))) (named-or-not L e)))
+      rw (standing-named n (isGiven given) (whole L) e q) (⊎-elim (λ k. k .1) (λ k. absurd (omega (arith, sound .inside e (k .0)))) (named-or-not (whole L) e)))
       (true-or-false (isGiven given e))
 
   -- the list of the standing borders' states says of every border what stands
@@ -92,7 +92,7 @@ module _ (h w : ℕ) (given clues : List ℕ) (a : Accepted h w given clues) (L 
 
   -- what the checks find on the standing borders
   abbrev fault : Option Found
-  fault = faultOf (grid h w) given clues (statesOf (borderCount (grid h w)) (standing (isGiven given) L))
+  fault = faultOf (grid h w) given clues (statesOf (borderCount (grid h w)) (standing (isGiven given) (whole L)))
 
   list-short : length (listIn fault) ≤ 9 * cells (grid h w)
   list-short = go fault refl
@@ -105,7 +105,7 @@ module _ (h w : ℕ) (given clues : List ℕ) (a : Accepted h w given clues) (L 
     book-fault : faultIn (onto (freshPuzzle (grid h w) given clues) b) ≡ fault
     book-fault =
         cc (given-kept h w given clues a, clues-kept h w given clues a)
-        ∙ fault-agrees (grid h w) given clues (b .states) (statesOf n s) (λ e l. r .follows .stands e l ∙ sym (states-at n s e l))
+        ∙ fault-agrees (grid h w) given clues (b .states) (statesOf n s) (λ e l. r .stands e l ∙ sym (states-at n s e l))
 
     book-asked : puzzleCode (onto (freshPuzzle (grid h w) given clues) b) ≡ 0 → (buf : List ℕ) → Long h w buf → Gives (askOf (onto (freshPuzzle (grid h w) given clues) b) buf) fault
     book-asked code buf long =
@@ -118,7 +118,7 @@ module _ (h w : ℕ) (given clues : List ℕ) (a : Accepted h w given clues) (L 
 
   -- THE LAW: a long enough ask gives what the checks find on the standing borders
   pub asked-gives : (p : Puzzle) → Reached h w given clues L p → (buf : List ℕ) → Long h w buf
-      → Gives (askOf p buf) (faultOf (grid h w) given clues (statesOf (borderCount (grid h w)) (standing (isGiven given) L)))
+      → Gives (askOf p buf) (faultOf (grid h w) given clues (statesOf (borderCount (grid h w)) (standing (isGiven given) (whole L))))
   asked-gives p r buf long =
       let code : puzzleCode (onto (freshPuzzle (grid h w) given clues) (bookOf p)) ≡ 0 = sym (ap puzzleCode (r .constants)) ∙ reached-code h w given clues a L p r in
       rw (r .constants) (book-asked (bookOf p) (r .stood) code buf long)

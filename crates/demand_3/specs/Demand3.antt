@@ -1,4 +1,5 @@
--- Demand 3 (SPEC 6.4 to 6.10), sentence by sentence: one claim about lists of decide, undo and ask calls, refused ones included, from a fresh puzzle. Assumes nothing.
+-- Demand 3 (SPEC 6.4 to 6.10), sentence by sentence: one claim about lists of decide, stroke, undo and ask calls, refused
+-- ones included, from a fresh puzzle. Assumes nothing.
 use Prim.Native.Nat.{ℕ, _*_, _/_, _%_, _≤_, _<_}
 use mathlib.Core.Path.{_≡_}
 use mathlib.Core.Logic.{_↔_}
@@ -10,6 +11,7 @@ use lib.ListN.{length, take}
 use Rattle.lists.specs.Lists.{In, count}
 use Rattle.frame.specs.Frame.{States}
 use Rattle.grid.specs.Grid.{grid, cells, borderCount}
+use Rattle.ledger.specs.Ledger.{whole}
 use Rattle.borders.specs.Entry.{Standing}
 use Rattle.shape.specs.Laws.{FullBoard}
 use Rattle.puzzle.specs.declared.Puzzle.{Puzzle}
@@ -20,7 +22,7 @@ use Rattle.rooms.specs.Rooms.{isGiven}
 use Rattle.puzzle.specs.Fault.{Found, faultOf}
 use Rattle.demand_3.specs.Laws.{RightBoard}
 use Rattle.puzzle.specs.Puzzle.{statesOf, makeOf, says, Asked, askOf}
-use Rattle.demand_3.specs.Run.{Call, decide, run, Reply, coded, replies, stateAfter}
+use Rattle.demand_3.specs.Run.{Call, decide, stroke, run, Reply, coded, replies, stateAfter}
 
 -- the buffer is long enough (SPEC 3.6)
 abbrev pub Long : ℕ → ℕ → List ℕ → Type 0
@@ -69,6 +71,11 @@ freshOf h w given clues = makeOf h w given clues .puzzle
 abbrev pub after : ℕ → ℕ → List ℕ → List ℕ → List Call → Puzzle
 after h w given clues calls = run (freshOf h w given clues) calls
 
+-- on a fresh puzzle each of the calls is accepted, and the next ask is a fault
+pub record AgainBy (h w : ℕ) (given clues : List ℕ) (calls : List Call) : Type 0 where
+  pub accepted : (r : Reply) → In r (replies (freshOf h w given clues) calls) → r ≡ coded 0
+  pub fault : (buf : List ℕ) → Long h w buf → IsFault (askOf (after h w given clues calls) buf .answer)
+
 -- THE DEMAND, for a puzzle of that size with these given walls and clues
 pub record Demand3 (h w : ℕ) (given clues : List ℕ) : Type 0 where
   -- SPEC 6.5: after two lists that leave the same borders standing, the next ask answers alike.
@@ -86,9 +93,10 @@ pub record Demand3 (h w : ℕ) (given clues : List ℕ) : Type 0 where
   -- SPEC 6.9: decided on a fresh puzzle, each once, in any order, the listed borders other than given walls make the next ask a fault.
   -- Each of these decides is accepted.
   pub again : (calls : List Call) (buf : List ℕ) → Long h w buf → IsFault (askOf (after h w given clues calls) buf .answer)
-      → (order : List ℕ) → OrderOf given (listOf (askOf (after h w given clues calls) buf)) order
-      → ((r : Reply) → In r (replies (freshOf h w given clues) (map decideAs order)) → r ≡ coded 0)
-      × ((buf' : List ℕ) → Long h w buf' → IsFault (askOf (after h w given clues (map decideAs order)) buf' .answer))
+      → (order : List ℕ) → OrderOf given (listOf (askOf (after h w given clues calls) buf)) order → AgainBy h w given clues (map decideAs order)
+  -- SPEC 12.6: and so does every cutting of that order into strokes, empty ones among them.
+  pub again-cut : (calls : List Call) (buf : List ℕ) → Long h w buf → IsFault (askOf (after h w given clues calls) buf .answer)
+      → (parts : List (List ℕ)) → OrderOf given (listOf (askOf (after h w given clues calls) buf)) (whole parts) → AgainBy h w given clues (map stroke parts)
   -- SPEC 6.10: on a full board the answer is clear exactly when the board is right.
   pub full : (calls : List Call) → FullBoard (grid h w) (stateAfter h w given calls) → (buf : List ℕ) → Long h w buf
       → (askOf (after h w given clues calls) buf .answer ≡ Clear) ↔ RightBoard (grid h w) given clues (stateAfter h w given calls)

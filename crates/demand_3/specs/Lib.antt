@@ -2,7 +2,7 @@
 -- sentence (`Demand3`). What a single call answers is defined in crate puzzle.
 -- Proved in proofs/Demand3.antt: demand 3, for every accepted making. It rests on `Reached` (after every list of calls exactly the standing borders
 -- stand, and the record holds together), `FaultLaws` (the theorems of the whole check), `Asks` (the next ask gives what the checks find on the
--- standing borders) and `Orders` (entries decided in any order are accepted and stand).
+-- standing borders) and `Orders` (entries decided in any order, cut into strokes in any way, are accepted and stand).
 pub mod Laws
 pub mod Run
 pub mod Demand3

@@ -16,6 +16,7 @@ use Rattle.lists.proofs.ListLaws.{in-left}
 use Rattle.frame.specs.Frame.{States}
 use Rattle.grid.specs.declared.Grid.{Grid}
 use Rattle.grid.specs.Grid.{grid, borderCount}
+use Rattle.ledger.specs.Ledger.{whole}
 use Rattle.ledger.specs.Books.{stateAt}
 use Rattle.ledger.specs.declared.Book.{Book}
 use Rattle.ledger.proofs.Standing.{standing-given}
@@ -229,7 +230,7 @@ module _ (h w : ℕ) (given clues : List ℕ) (made : makeOf h w given clues .co
         let r = reached-calls h w given clues made calls in
         rw (r .constants)
         (on-book (bookOf p) (sym (ap puzzleCode (r .constants)) ∙ reached-code h w given clues a L p r)
-        (states-same (borderCount (grid h w)) (stateAt (bookOf p .states)) (stateAfter h w given calls) (λ e l. r .stood .follows .stands e l)))
+        (states-same (borderCount (grid h w)) (stateAt (bookOf p .states)) (stateAfter h w given calls) (λ e l. r .stood .stands e l)))
 
     pub after-calls : (count : ℕ) (more : Bool) → boardsOf (after h w given clues calls) cap buf .answer ≡ Listed count more
         → Fulfilled (grid h w) given clues (stateAfter h w given calls) cap buf count more (boardsOf (after h w given clues calls) cap buf .buffer)
@@ -240,7 +241,7 @@ module _ (h w : ℕ) (given clues : List ℕ) (made : makeOf h w given clues .co
         rw exact
         (fulfilled (grid h w) given clues (stateAfter h w given calls) (a .fit .small)
         (λ e l. rw (states-at (borderCount (grid h w)) (stateAfter h w given calls) e l) at (states-ok h w given clues a L (r .stood .sound) e l))
-        (λ e k. standing-given (borderCount (grid h w)) (isGiven given) L e k) (given-inside h w given clues a) cap buf
+        (λ e k. standing-given (borderCount (grid h w)) (isGiven given) (whole L) e k) (given-inside h w given clues a) cap buf
         (placesCode (standingList calls) cap (length buf)) count more (enough-places (standingList calls) cap (length buf)) (rw exact at q))
 
   pub same : (a b : List Call) → ((e : ℕ) → e < borderCount (grid h w) → stateAfter h w given a e ≡ stateAfter h w given b e)

@@ -20,7 +20,7 @@ use Rattle.grid.proofs.Geometry.{cells-le, borderCount-le}
 use Rattle.borders.specs.Border.{StatesOk}
 use Rattle.ledger.specs.Books.{namesIn, stateAt}
 use Rattle.ledger.proofs.Question.{Kept, holds-question}
-use Rattle.ledger.proofs.BookLaws.{held}
+use Rattle.ledger.proofs.Found.{held}
 use Rattle.rooms.specs.Rooms.{isGiven}
 use Rattle.rooms.specs.Units.{GivenWalls}
 use Rattle.rooms.proofs.RoomLaws.{given-in}
@@ -80,7 +80,7 @@ module _ (p : Puzzle) (r : Ready p) where
   border-kept : (e : ℕ) → e < bordersOf p → Kept (isGiven (givenOf p)) (bookOf p .states) (namesIn (bookOf p)) e
   border-kept e l =
       let b = bookOf p in
-      holds-question (bordersOf p) (isGiven (givenOf p)) (b .states) (namesIn b) (held (bordersOf p) (isGiven (givenOf p)) b (r .holds) .1) .kept e l
+      holds-question (bordersOf p) (isGiven (givenOf p)) (b .states) (namesIn b) (held (bordersOf p) (isGiven (givenOf p)) b (r .holds) .2) .kept e l
 
   pub states-good : StatesOk (gridOf p) (statesIn p)
   states-good e l = rw (states-at (bordersOf p) (stateAt (bookOf p .states)) e l) (border-kept e l .state)

@@ -6,7 +6,8 @@ use mathlib.Core.List.{List, [], _∷_}
 use lib.ListN.{replicate}
 use Rattle.limits.specs.Limits.{noClue}
 use Rattle.lists.specs.Lists.{count, gather}
-use Rattle.ledger.specs.Books.{zeros, bookHolds}
+use Rattle.ledger.specs.Ledger.{noneTwice, strokeCode}
+use Rattle.ledger.specs.Books.{zeros, namesFrom, stateAll, bookHolds}
 use Rattle.puzzle.specs.Fault.{faultOf}
 use Rattle.clues.specs.Clues.{listsCode}
 use Rattle.puzzle.specs.Puzzle.{together, noClues, statesOf}
@@ -45,7 +46,7 @@ border-0-first = refl
 
 -- what stands is kept: 1 by 4 with its middle Connected has no answer, with its first Wall one
 kept : (started 1 4 (decide 1 false ∷ []) 2 6 ≡ lists 0 (replicate 6 9)) × (started 1 4 (decide 0 true ∷ []) 2 6 ≡ lists 1 (2 ∷ 2 ∷ 2 ∷ 9 ∷ 9 ∷ 9 ∷ []))
-unfolding run listsCode together bookHolds zeros noClues statesOf faultOf count rights gather
+unfolding run strokeCode noneTwice stateAll namesFrom listsCode together bookHolds zeros noClues statesOf faultOf count rights gather
 kept = (refl, refl)
 
 -- 1 by 1 has no border, so that any cap fits, and no answer. 1 by 3: a cap of 2 to the 63rd wants more places than a 64-bit product can tell

@@ -10,7 +10,8 @@ use Rattle.limits.specs.Limits.{noClue}
 use Rattle.lists.specs.Lists.{count}
 use Rattle.grid.specs.Grid.{grid}
 use Rattle.shape.specs.Shape.{shapeFault}
-use Rattle.ledger.specs.Books.{zeros, bookHolds}
+use Rattle.ledger.specs.Ledger.{noneTwice, strokeCode}
+use Rattle.ledger.specs.Books.{zeros, namesFrom, stateAll, clearAll, startOf, bookHolds}
 use Rattle.puzzle.specs.declared.Check.{Check}
 use Rattle.puzzle.specs.declared.Check.the-variants.{Shape, Room}
 use Rattle.puzzle.specs.declared.Answer.{Answer}
@@ -21,7 +22,7 @@ use Rattle.hand_over.specs.Sorted.{sortedOnce}
 use Rattle.puzzle.specs.Fault.{faultOf}
 use Rattle.clues.specs.Clues.{listsCode}
 use Rattle.puzzle.specs.Puzzle.{together, noClues, statesOf, askOf}
-use Rattle.demand_3.specs.Run.{Call, decide, undo, ask, coded, asked, run, replies}
+use Rattle.demand_3.specs.Run.{Call, decide, stroke, undo, ask, coded, asked, run, replies}
 use Rattle.demand_3.specs.Demand3.{listOf, freshOf, after}
 
 pub data Question : Type 0 where
@@ -105,7 +106,7 @@ table =
 
 -- THE CHECK
 pub starred : map (λ (x : Example). told (x .question)) table ≡ map (λ (x : Example). x .answer) table
-unfolding table run shapeFault roomFault listsCode together bookHolds zeros noClues statesOf faultOf count sortedOnce
+unfolding table run strokeCode noneTwice stateAll namesFrom shapeFault roomFault listsCode together bookHolds zeros noClues statesOf faultOf count sortedOnce
 starred = refl
 
 -- the calls of the file of SPEC 7.9 (decided, decided, a fault of five entries, undone), with refused calls among them that change nothing
@@ -113,5 +114,13 @@ file : replies (freshOf 1 3 [] (noClue ∷ []))
     (undo ∷ decide 0 true ∷ decide 2 true ∷ ask [] ∷ decide 0 false ∷ decide 1 false ∷ ask (replicate 28 9) ∷ undo ∷ [])
     ≡ coded 5 ∷ coded 0 ∷ coded 3 ∷ asked (record { answer = Refused 6; buffer = [] }) ∷ coded 4 ∷ coded 0
     ∷ asked (record { answer = Fault Shape 5; buffer = 2 ∷ 2 ∷ 1 ∷ 1 ∷ 1 ∷ replicate 23 9 }) ∷ coded 0 ∷ []
-unfolding replies listsCode together bookHolds zeros noClues statesOf faultOf count
+unfolding replies strokeCode noneTwice stateAll namesFrom clearAll startOf listsCode together bookHolds zeros noClues statesOf faultOf count
 file = refl
+
+-- the same two borders as one stroke (SPEC 12): refused are then a missing border beside a drawn one (3), a drawn one twice (14) and a drawn one (4);
+-- an empty stroke is accepted and not kept, so that one undo takes both borders back and a second finds nothing (5)
+strokes : replies (freshOf 1 3 [] (noClue ∷ []))
+    (stroke (1 ∷ 2 ∷ []) ∷ ask (replicate 28 9) ∷ stroke (0 ∷ 4 ∷ []) ∷ stroke (0 ∷ 1 ∷ []) ∷ stroke (0 ∷ []) ∷ stroke [] ∷ undo ∷ undo ∷ [])
+    ≡ coded 0 ∷ asked (record { answer = Fault Shape 5; buffer = 2 ∷ 2 ∷ 1 ∷ 1 ∷ 1 ∷ replicate 23 9 }) ∷ coded 3 ∷ coded 14 ∷ coded 4 ∷ coded 0 ∷ coded 0 ∷ coded 5 ∷ []
+unfolding replies strokeCode noneTwice stateAll namesFrom clearAll startOf listsCode together bookHolds zeros noClues statesOf faultOf count
+strokes = refl

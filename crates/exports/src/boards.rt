@@ -1,6 +1,7 @@
 // The board's calls.
 ghost use mathlib.Core.Path.{_≡_};
-ghost use Rattle.board.specs.Board.{makeOf, boardCode, decideOf, undoOf};
+ghost use Rattle.ledger.specs.Ledger.{decisions};
+ghost use Rattle.board.specs.Board.{makeOf, boardCode, strokeOf, decideOf, undoOf};
 use board::Board;
 use board::Decided;
 
@@ -16,6 +17,13 @@ pub extern "C" fn sendai_board_check(b: Board) -> u8
     ensures { λ r. ⌜ r ≡ boardCode b ⌝ }
 {
     board::check(b)
+}
+
+#[no_mangle]
+pub extern "C" fn sendai_board_stroke(b: Board, entries: &[u16]) -> Decided
+    ensures { λ r. ⌜ r ≡ strokeOf b (decisions (now (entries .entry))) ⌝ }
+{
+    board::stroke(b, entries)
 }
 
 #[no_mangle]

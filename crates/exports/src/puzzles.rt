@@ -1,6 +1,7 @@
 // The puzzle's calls.
 ghost use mathlib.Core.Path.{_≡_};
-ghost use Rattle.puzzle.specs.Puzzle.{makeOf, puzzleCode, decideOf, undoOf, askOf};
+ghost use Rattle.ledger.specs.Ledger.{decisions};
+ghost use Rattle.puzzle.specs.Puzzle.{makeOf, puzzleCode, strokeOf, decideOf, undoOf, askOf};
 ghost use Rattle.enumerate.specs.Boards.{boardsOf};
 ghost use Rattle.as_numbers.specs.Boards.{listingOf};
 ghost use Rattle.as_numbers.specs.Puzzles.{outcomeOf};
@@ -28,6 +29,13 @@ pub extern "C" fn sendai_puzzle_check(p: Puzzle) -> u8
     ensures { λ r. ⌜ r ≡ puzzleCode p ⌝ }
 {
     puzzle::puzzle_code(p)
+}
+
+#[no_mangle]
+pub extern "C" fn sendai_puzzle_stroke(p: Puzzle, entries: &[u16]) -> Made
+    ensures { λ r. ⌜ r ≡ strokeOf p (decisions (now (entries .entry))) ⌝ }
+{
+    puzzle::stroke(p, entries)
 }
 
 #[no_mangle]

@@ -2,7 +2,8 @@
 ghost use mathlib.Core.Path.{_≡_};
 ghost use lib.ListN.{length};
 ghost use Rattle.answers.specs.Answers.{answerOf, plainAnswer, written};
-ghost use Rattle.city_count.specs.Room.{makeOf, roomCode, decideOf, undoOf, askOf};
+ghost use Rattle.ledger.specs.Ledger.{decisions};
+ghost use Rattle.city_count.specs.Room.{makeOf, roomCode, strokeOf, decideOf, undoOf, askOf};
 use answers::Plain;
 use city_count::CityCountConstraint;
 use city_count::Decided;
@@ -24,6 +25,13 @@ pub extern "C" fn sendai_room_check(r: CityCountConstraint) -> u8
     ensures { λ c. ⌜ c ≡ roomCode r ⌝ }
 {
     city_count::check(r)
+}
+
+#[no_mangle]
+pub extern "C" fn sendai_room_stroke(r: CityCountConstraint, entries: &[u16]) -> Decided
+    ensures { λ d. ⌜ d ≡ strokeOf r (decisions (now (entries .entry))) ⌝ }
+{
+    city_count::stroke(r, entries)
 }
 
 #[no_mangle]

@@ -17,16 +17,17 @@ use Rattle.grid.specs.declared.Grid.{Grid}
 use Rattle.grid.specs.Grid.{grid, sizesOk, Limits, cells, borderCount}
 use Rattle.grid.proofs.Geometry.{limits, cells-le}
 use Rattle.ledger.specs.declared.Book.{Book}
-use Rattle.ledger.specs.Ledger.{Decision}
+use Rattle.ledger.specs.Ledger.{Decision, single, strokeCode}
 use Rattle.ledger.specs.Ledger as ledger
 use Rattle.ledger.specs.Books.{stateAt, placed, taken}
+use Rattle.ledger.proofs.Codes.{first-passes, single-code}
 use Rattle.rooms.specs.Rooms.{isGiven}
 use Rattle.rooms.proofs.OneRoom.{one-room}
 use Rattle.clues.specs.Clues.{rises, cluesFit, listsCode}
 use Rattle.puzzle.specs.declared.Puzzle.{Puzzle}
 use Rattle.puzzle.specs.declared.Answer.the-variants.{Refused}
 use Rattle.puzzle.specs.Fault.{Found}
-use Rattle.puzzle.specs.Puzzle.{Asked, makeOf, answer, answered, gridOf, bookOf, puzzleCode, decideNumber, undoNumber, faultIn, says}
+use Rattle.puzzle.specs.Puzzle.{Asked, makeOf, answer, answered, gridOf, bookOf, puzzleCode, strokeNumber, undoNumber, faultIn, says}
 use Rattle.puzzle.proofs.Answers.{long-buffer, accepted-ask}
 use Rattle.puzzle.proofs.Making.{Accepted}
 use Rattle.demand_3.specs.Run.{puzzleAfter, replyTo, replies, onLedger}
@@ -64,21 +65,23 @@ not-refused none k e = let z : _≡_ {A = ℕ} 0 1 = cc in absurd (omega arith)
 not-refused (some f) k e = let z : _≡_ {A = ℕ} 0 1 = cc in absurd (omega arith)
 
 module _ (h w : ℕ) (ok : sizesOk (grid h w) ≡ true) where
-  abbrev Reaches : List Decision → Puzzle → Type 0
+  abbrev Reaches : List (List Decision) → Puzzle → Type 0
   Reaches L p = Reached h w [] (noClue ∷ []) L p
 
   made : Accepted h w [] (noClue ∷ [])
   made = accepted h w [] (noClue ∷ []) (ap (λ m. m .code) (making h w ok))
 
-  module _ (L : List Decision) (p : Puzzle) (r : Reaches L p) where
+  module _ (L : List (List Decision)) (p : Puzzle) (r : Reaches L p) where
     holds : puzzleCode p ≡ 0
     holds = reached-code h w [] (noClue ∷ []) made L p r
 
     same-grid : gridOf p ≡ grid h w
     same-grid = ap gridOf (r .constants)
 
-    decide-number : (e : ℕ) → e < borderCount (grid h w) → decideNumber p e ≡ pick (eqb (stateAt (bookOf p .states) e) 0) 0 4
-    decide-number e l = rw (holds, same-grid, lt-ltb e (borderCount (grid h w)) l) refl
+    decide-number : (e : ℕ) (wall : Bool) → e < borderCount (grid h w) → strokeNumber p (single e wall) ≡ pick (eqb (stateAt (bookOf p .states) e) 0) 0 4
+    decide-number e wall l =
+        first-passes (puzzleCode p) (strokeCode (borderCount (gridOf p)) (stateAt (bookOf p .states)) (single e wall)) holds
+        ∙ single-code (borderCount (gridOf p)) (stateAt (bookOf p .states)) e wall ∙ rw (same-grid, lt-ltb e (borderCount (grid h w)) l) refl
 
     undo-number : undoNumber p ≡ pick (eqb (bookOf p .len) 0) 5 0
     undo-number = rw holds refl
@@ -91,12 +94,12 @@ module _ (h w : ℕ) (ok : sizesOk (grid h w) ≡ true) where
     unfolding replyTo
     reply Undo b = rw (answered-code p (taken (bookOf p)) (undoNumber p), undo-number) (undo-reply (eqb (bookOf p .len) 0))
     reply (Decide e wall) b =
-        rw (answered-code p (placed (bookOf p) e wall) (decideNumber p e), decide-number e b) (decide-reply (eqb (stateAt (bookOf p .states) e) 0))
+        rw (answered-code p (placed (bookOf p) (single e wall)) (strokeNumber p (single e wall)), decide-number e wall b) (decide-reply (eqb (stateAt (bookOf p .states) e) 0))
     reply Ask b =
         let a = accepted-ask p blank (long-buffer p (puzzleCode p) refl holds blank long) in
         λ k e. not-refused (faultIn p) k (sym (ap (λ (x : Asked). x .answer) a) ∙ e)
 
-  replies-from : (L : List Decision) (p : Puzzle) → Reaches L p → (cs : List Call) → ((c : Call) → In c cs → BorderBelow (borderCount (grid h w)) c)
+  replies-from : (L : List (List Decision)) (p : Puzzle) → Reaches L p → (cs : List Call) → ((c : Call) → In c cs → BorderBelow (borderCount (grid h w)) c)
       → RepliedAll cs (replies p (map asCall cs))
   unfolding replies
   replies-from L p m [] b = tt

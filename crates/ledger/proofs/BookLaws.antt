@@ -1,24 +1,23 @@
--- What an accepted decide or undo needs of a book that holds together: a place for one more name, and a last name that is a border. Assumes nothing.
-use Prim.Native.Nat.{ℕ, _-_, _≤_, _<_}
-use mathlib.Core.Path.{_≡_, ap, sym, _∙_, fun-ext}
-use mathlib.Core.Logic.{⊎-elim}
-use mathlib.Core.Bool.{Bool, true}
-use mathlib.Core.List.{List}
+-- Arrays of zeros; states that a stroke sets or an undo clears, border by border; names that are written behind the others and freed again. Assumes nothing.
+use Prim.Native.Nat.{ℕ, _+_, _-_, _≤_, _<_}
+use mathlib.Core.Path.{_≡_, refl, ap, sym, _∙_, fun-ext}
+use mathlib.Core.Logic.{inl, inr, _≢_, ⊎-elim}
+use mathlib.Core.Bool.{Bool}
+use mathlib.Core.List.{List, [], _∷_, _++_}
 use native.Mathlib.Omega.{arith}
-use borrow.Author.Tests.{leb-true}
-use lib.Dec.{eqb, leb}
-use lib.ListN.{length, getD, replicate, getD-replicate, length-replicate, List·getD-eq-default}
-use lib.Seq.{getD-take, length-take-le}
+use borrow.Author.Tests.{eq-eqb, ne-eqb}
+use lib.Dec.{eqb}
+use lib.ListN.{length, getD, set, take, drop, replicate, length-set, length-replicate, length-append, getD-replicate, List·getD-eq-default}
+use lib.Seq.{sets, length-sets, sets-eq, getD-set-same, getD-set-other, ext-getD, length-take-le, take-at, drop-at, take-append-le}
 use Rattle.limits.specs.Limits.{mostBorders}
-use Rattle.lists.proofs.Cases.{le-or-lt}
-use Rattle.lists.proofs.ChoiceLaws.{both-true}
-use Rattle.lists.proofs.ListLaws.{getD-in}
+use Rattle.lists.specs.Lists.{count}
+use Rattle.lists.proofs.Cases.{le-or-lt, eq-or-ne}
+use Rattle.lists.proofs.CountLaws.{count-here, count-other}
+use Rattle.lists.proofs.SetsLaws.{sets-out, sets-in}
+use Rattle.ledger.specs.Ledger.{Decision, stateFor, stateIn, borders}
 use Rattle.ledger.specs.declared.Book.{Book}
-use Rattle.ledger.specs.Ledger.{decideCode, undoCode, holdsOf}
-use Rattle.ledger.specs.Books.{zeros, noneGiven, namesIn, stateAt, bookHolds}
-use Rattle.ledger.specs.Marks.{givenIn, LentBook}
-use Rattle.ledger.proofs.Question.{Question, holds-question, room-left}
-use Rattle.ledger.proofs.Codes.{undecided, some-name}
+use Rattle.ledger.specs.Books.{zeros, noneGiven, bookHolds, stateAll, clearAll}
+use Rattle.ledger.specs.Marks.{givenIn, LentBook, Unmarked}
 
 pub zero-at : (e : ℕ) → getD zeros e 0 ≡ 0
 unfolding zeros
@@ -41,58 +40,139 @@ by-marks n b t k = sym (k ∙ rw none-given)
 
 pub lent-book : (n : ℕ) (s l : List ℕ) → n ≤ mostBorders → length s ≡ mostBorders → length l ≡ mostBorders → LentBook n s l zeros
 lent-book n s l h p q =
-    record { states-long = omega arith; names-long = omega arith; marks-long = omega (arith, zeros-length); marks-given = λ e. omega (arith, zero-at e) }
+    record { states-long = omega arith; names-long = omega arith; marks-long = omega (arith, zeros-length); marks-given = λ e. omega (arith, zero-at e); few = h }
 
--- the arrays of a book, and the borders that they are for
-pub record Places (n : ℕ) (b : Book) : Type 0 where
-  pub few : n ≤ mostBorders
-  pub states-are : length (b .states) ≡ mostBorders
-  pub names-are : length (b .names) ≡ mostBorders
+pub unmarked : (n : ℕ) → n ≤ mostBorders → Unmarked n zeros
+unmarked n h = record { marks-long = omega (arith, zeros-length); marks-free = zero-at }
 
--- the border and its name have places
-pub record Placeable (b : Book) (e : ℕ) : Type 0 where
-  pub state-fits : e < mostBorders
-  pub name-fits : b .len < mostBorders
+-- a border that is not named, or named, in front
+head-not : (x e : ℕ) (l : List ℕ) → count e (x ∷ l) ≡ 0 → (e ≢ x) × (count e l ≡ 0)
+head-not x e l z =
+    ⊎-elim
+    (λ (q : x ≡ e). absurd (omega (arith, count-here e l, ap (λ y. count e (y ∷ l)) (sym q), z)))
+    (λ (q : x ≢ e). (λ p. q (sym p), sym (count-other e x l q) ∙ z))
+    (eq-or-ne x e)
 
--- there is a last name, and its border has a place
-pub record Takeable (b : Book) : Type 0 where
-  pub some : 0 < b .len
-  pub len-fits : b .len ≤ mostBorders
-  pub last-fits : getD (b .names) (b .len - 1) 0 < mostBorders
+pub states-length : (ds : List Decision) (s : List ℕ) → length (stateAll s ds) ≡ length s
+unfolding stateAll
+states-length [] s = refl
+states-length (d ∷ ds) s = states-length ds (set s (d .border) (stateFor (d .wall))) ∙ simp length-set
 
-module _ (n : ℕ) (given : ℕ → Bool) (b : Book) (q : bookHolds n given b ≡ true) where
-  pub held : (b .len ≤ n) × (holdsOf n given (b .states) (namesIn b) ≡ true)
-  unfolding bookHolds
-  held = let k = both-true (leb (b .len) n) (holdsOf n given (b .states) (namesIn b)) q in (leb-true (b .len) n (k .0), k .1)
+pub states-other : (ds : List Decision) (s : List ℕ) (e : ℕ) → count e (borders ds) ≡ 0 → getD (stateAll s ds) e 0 ≡ getD s e 0
+unfolding stateAll
+states-other [] s e z = refl
+states-other (d ∷ ds) s e z =
+    let k = head-not (d .border) e (borders ds) z in
+    states-other ds (set s (d .border) (stateFor (d .wall))) e (k .1) ∙ getD-set-other s (d .border) e (stateFor (d .wall)) 0 (k .0)
 
-  question : Question n given (b .states) (namesIn b)
-  question = holds-question n given (b .states) (namesIn b) (held .1)
+pub states-named : (ds : List Decision) (s : List ℕ) (e : ℕ) → e < length s → count e (borders ds) ≡ 1 → getD (stateAll s ds) e 0 ≡ stateIn ds e
+unfolding stateAll stateIn count
+states-named [] s e h c = absurd (omega arith)
+states-named (d ∷ ds) s e h c =
+    let v = stateFor (d .wall) in
+    ⊎-elim
+    (λ (q : d .border ≡ e).
+    let t = eq-eqb (d .border) e q in
+    let none : count e (borders ds) ≡ 0 = omega (arith, (rw t at c)) in
+    rw t (states-other ds (set s (d .border) v) e none ∙ (rw q (getD-set-same s e v 0 h))))
+    (λ (q : d .border ≢ e).
+    let t = ne-eqb (d .border) e q in
+    let one : count e (borders ds) ≡ 1 = omega (arith, (rw t at c)) in
+    rw t (states-named ds (set s (d .border) v) e (simp length-set h) one))
+    (eq-or-ne (d .border) e)
 
-  module _ (long : n ≤ length (b .names)) where
-    names-length : length (namesIn b) ≡ b .len
-    names-length = length-take-le (b .len) (b .names) (omega (arith, held .0))
+pub clear-length : (l s : List ℕ) → length (clearAll s l) ≡ length s
+unfolding clearAll
+clear-length [] s = refl
+clear-length (x ∷ l) s = clear-length l (set s x 0) ∙ simp length-set
 
-    -- where a border is undecided, the ledger has a free place
-    pub name-free : (e : ℕ) → e < n → getD (b .states) e 0 ≡ 0 → b .len < n
-    name-free e h z = omega (arith, names-length, room-left n given (b .states) (namesIn b) question e h z)
+pub clear-other : (l s : List ℕ) (e : ℕ) → count e l ≡ 0 → getD (clearAll s l) e 0 ≡ getD s e 0
+unfolding clearAll
+clear-other [] s e z = refl
+clear-other (x ∷ l) s e z = let k = head-not x e l z in clear-other l (set s x 0) e (k .1) ∙ getD-set-other s x e 0 0 (k .0)
 
-    -- the last name is a border
-    pub last-border : 0 < b .len → getD (b .names) (b .len - 1) 0 < n
-    last-border h =
-        let k : b .len - 1 < b .len = omega arith in
-        let i : b .len - 1 < length (namesIn b) = omega (arith, names-length) in
-        rw (getD-take (b .len) (b .names) (b .len - 1) 0 k) at (question .inside (getD (namesIn b) (b .len - 1) 0) (getD-in 0 (namesIn b) (b .len - 1) i))
+clear-stays : (l s : List ℕ) (e : ℕ) → e < length s → getD s e 0 ≡ 0 → getD (clearAll s l) e 0 ≡ 0
+unfolding clearAll
+clear-stays [] s e h z = z
+clear-stays (x ∷ l) s e h z =
+    clear-stays l (set s x 0) e (simp length-set h)
+    (⊎-elim (λ (q : e ≡ x). rw q (getD-set-same s x 0 0 (rw q at h))) (λ (q : e ≢ x). getD-set-other s x e 0 0 q ∙ z) (eq-or-ne e x))
 
-  module _ (p : Places n b) where
-    pub placeable : (e : ℕ) → decideCode n (stateAt (b .states)) e ≡ 0 → Placeable b e
-    placeable e z =
-        let u = undecided n (stateAt (b .states)) e z in
-        record {
-          state-fits = omega (arith, u .0, p .few);
-          name-fits = omega (arith, name-free (omega (arith, p .few, p .names-are)) e (u .0) (u .1), p .few);
-        }
+pub clear-named : (l s : List ℕ) (e : ℕ) → e < length s → 1 ≤ count e l → getD (clearAll s l) e 0 ≡ 0
+unfolding clearAll count
+clear-named [] s e h c = absurd (omega arith)
+clear-named (x ∷ l) s e h c =
+    ⊎-elim
+    (λ (q : x ≡ e). clear-stays l (set s x 0) e (simp length-set h) (rw q (getD-set-same s e 0 0 h)))
+    (λ (q : x ≢ e). clear-named l (set s x 0) e (simp length-set h) (omega (arith, (rw (ne-eqb x e q) at c))))
+    (eq-or-ne x e)
 
-    pub takeable : undoCode (b .len) ≡ 0 → Takeable b
-    takeable z =
-        let h = some-name (b .len) z in
-        record { some = h; len-fits = omega (arith, held .0, p .few); last-fits = omega (arith, last-border (omega (arith, p .few, p .names-are)) h, p .few) }
+-- a stroke on undecided borders, and its borders cleared
+pub clear-states : (ds : List Decision) (s : List ℕ) → ((e : ℕ) → count e (borders ds) ≤ 1) → ((e : ℕ) → 1 ≤ count e (borders ds) → getD s e 0 ≡ 0)
+    → clearAll (stateAll s ds) (borders ds) ≡ s
+clear-states ds s once free =
+    let t = stateAll s ds in
+    let size = states-length ds s in
+    ext-getD 0 (clearAll t (borders ds)) s (clear-length (borders ds) t ∙ size)
+    (λ e h.
+    let i : e < length t = rw (clear-length (borders ds) t) at h in
+    ⊎-elim
+    (λ (c : 1 ≤ count e (borders ds)). clear-named (borders ds) t e i c ∙ sym (free e c))
+    (λ (c : count e (borders ds) < 1). let z : count e (borders ds) ≡ 0 = omega arith in clear-other (borders ds) t e z ∙ states-other ds s e z)
+    (le-or-lt 1 (count e (borders ds))))
+
+-- names written at the end of the first len
+module _ (l : List ℕ) (len : ℕ) (bs : List ℕ) (room : len + length bs ≤ length l) where
+  front-names : sets l len bs ≡ (take len l ++ bs) ++ drop (len + length bs) l
+  front-names = sets-eq bs l len room
+
+  pub names-behind : take (len + length bs) (sets l len bs) ≡ take len l ++ bs
+  names-behind =
+      ap (take (len + length bs)) front-names
+      ∙ take-at (take len l ++ bs) (drop (len + length bs) l) (len + length bs) (length-append (take len l) bs ∙ ap (λ x. x + length bs) (length-take-le len l (omega arith)))
+
+  pub last-names : drop len (take (len + length bs) (sets l len bs)) ≡ bs
+  last-names = ap (drop len) names-behind ∙ drop-at (take len l) bs len (length-take-le len l (omega arith))
+
+  -- and freed again
+  pub names-freed : ((i : ℕ) → len ≤ i → getD l i 0 ≡ 0) → (k : ℕ) → k ≡ length bs → sets (sets l len bs) len (replicate k 0) ≡ l
+  names-freed free k q =
+      let t = sets l len bs in
+      let z = replicate {A = ℕ} k 0 in
+      let zl : length z ≡ length bs = length-replicate {A = ℕ} k 0 ∙ q in
+      let tl : length t ≡ length l = length-sets l len bs in
+      ext-getD 0 (sets t len z) l (length-sets t len z ∙ tl)
+      (λ i h.
+      ⊎-elim
+      (λ (a : len + length bs ≤ i). sets-out z t len i (inr (omega (arith, zl))) ∙ sets-out bs l len i (inr a))
+      (λ (a : i < len + length bs).
+      ⊎-elim
+      (λ (c : len ≤ i).
+      let j = i - len in
+      let e : len + j ≡ i = omega arith in
+      ap (λ x. getD (sets t len z) x 0) (sym e) ∙ sets-in z t len j (omega (arith, zl, tl)) (omega (arith, zl)) ∙ getD-replicate k j 0 0 (omega (arith, q)) ∙ sym (free i c))
+      (λ (c : i < len). sets-out z t len i (inl c) ∙ sets-out bs l len i (inl c))
+      (le-or-lt len i))
+      (le-or-lt (len + length bs) i))
+
+-- the places from `from` on are freed: what is before stays, what is behind is 0
+pub freed-front : (l : List ℕ) (from len : ℕ) → from ≤ len → len ≤ length l → take from (sets l from (replicate (len - from) 0)) ≡ take from l
+freed-front l from len a b =
+    let z = replicate {A = ℕ} (len - from) 0 in
+    let zl : length z ≡ len - from = length-replicate {A = ℕ} (len - from) 0 in
+    let t : length (take from l) ≡ from = length-take-le from l (omega arith) in
+    ap (take from) (sets-eq z l from (omega (arith, zl)))
+    ∙ take-append-le from (take from l ++ z) (drop (from + length z) l) (let k : from ≤ length (take from l ++ z) = omega (arith, length-append (take from l) z, t) in k)
+    ∙ take-at (take from l) z from t
+
+pub freed-rest : (l : List ℕ) (from len : ℕ) → from ≤ len → len ≤ length l → ((i : ℕ) → len ≤ i → getD l i 0 ≡ 0) → (i : ℕ) → from ≤ i → getD (sets l from (replicate (len - from) 0)) i 0 ≡ 0
+freed-rest l from len a b free i h =
+    let z = replicate {A = ℕ} (len - from) 0 in
+    let zl : length z ≡ len - from = length-replicate {A = ℕ} (len - from) 0 in
+    ⊎-elim
+    (λ (c : len ≤ i). sets-out z l from i (inr (omega (arith, zl))) ∙ free i c)
+    (λ (c : i < len).
+    let j = i - from in
+    let e : from + j ≡ i = omega arith in
+    ap (λ x. getD (sets l from z) x 0) (sym e) ∙ sets-in z l from j (omega (arith, zl)) (omega (arith, zl)) ∙ getD-replicate (len - from) j 0 0 (omega arith))
+    (le-or-lt len i)

@@ -1,7 +1,14 @@
 pub mod Question
 pub mod Codes
 pub mod Standing
+pub mod Strokes
+pub mod NameLaws
 pub mod MarkLaws
 pub mod Loops
+pub mod StrokeLoops
 pub mod BookLaws
+pub mod Found
 pub mod Reached
+pub mod Cuts
+pub mod Order
+pub mod Exactly

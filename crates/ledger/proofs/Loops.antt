@@ -1,20 +1,21 @@
 -- One turn and the end of each loop over a ledger and its marks. Assumes nothing.
-use Prim.Native.Nat.{ℕ, _+_, _-_, _≤_, _<_}
+use Prim.Native.Nat.{ℕ, _+_, _-_, _*_, _≤_, _<_}
 use mathlib.Core.Path.{_≡_, refl, ap, sym, _∙_}
-use mathlib.Core.Logic.{⊎-elim}
+use mathlib.Core.Logic.{inl, inr, ⊎-elim}
 use mathlib.Core.Bool.{Bool, true, false}
-use mathlib.Core.List.{List, [], _∷_}
+use mathlib.Core.List.{List, [], _∷_, map}
 use native.Mathlib.Omega.{arith}
 use native.Mathlib.Numerals.{add-one}
 use borrow.Author.Tests.{lt-leb, lt-ltb, le-ltb, ltb-true}
 use lib.Dec.{eqb, ltb}
-use lib.ListN.{length, getD, take, drop, set, drop-of-length-le}
+use lib.ListN.{length, getD, take, drop, set, drop-of-length-le, length-map, List·getD-map}
 use lib.Seq.{drop-cons, getD-take, length-take-le}
 use Rattle.lists.specs.Choice.{both, pick}
-use Rattle.lists.specs.Lists.{countFrom, all}
+use Rattle.lists.specs.Lists.{countFrom, In, all}
 use Rattle.lists.proofs.Cases.{le-or-lt, true-or-false, not-both}
 use Rattle.lists.proofs.ChoiceLaws.{both-true, true-both, same-truth}
 use Rattle.lists.proofs.ListLaws.{all-true, true-all, all-start, all-step, all-end, getD-in}
+use Rattle.ledger.specs.Books.{half, bordersIn}
 use Rattle.ledger.specs.Marks.{fitsOf, greaterOf, allBelow, newNames, markAll, fitAll, Marked}
 use Rattle.ledger.proofs.MarkLaws.{new-names}
 
@@ -79,13 +80,18 @@ module _ (n : ℕ) (s m : List ℕ) where
 pub record Walk (names : List ℕ) (len n : ℕ) (m₀ m : List ℕ) (i : ℕ) (new : Bool) : Type 0 where
   pub within : i ≤ len
   pub same : length m ≡ length m₀
-  pub answer : both new (newNames n m (drop i (take len names))) ≡ newNames n m₀ (take len names)
-  pub marks : markAll m (drop i (take len names)) ≡ markAll m₀ (take len names)
+  pub answer : both new (newNames n m (drop i (bordersIn names len))) ≡ newNames n m₀ (bordersIn names len)
+  pub marks : markAll m (drop i (bordersIn names len)) ≡ markAll m₀ (bordersIn names len)
 
 new-or-not : (t f rest : Bool) → both f (pick t rest false) ≡ both (both t f) rest
 new-or-not true f rest = refl
 new-or-not false true rest = refl
 new-or-not false false rest = refl
+
+half-in : (l : List ℕ) (x : ℕ) → In x l → In (half x) (map half l)
+half-in [] x k = absurd k
+half-in (y ∷ l) x (inl q) = inl (ap half q)
+half-in (y ∷ l) x (inr k) = inr (half-in l x k)
 
 pub below-none : (names : List ℕ) (len n : ℕ) → len ≡ 0 → true ≡ allBelow n (take len names)
 unfolding allBelow all
@@ -125,41 +131,54 @@ module _ (names : List ℕ) (len : ℕ) (long : len ≤ length names) where
   unfolding allBelow all
   below-end n top i h k = sym (and-true (ltb top n)) ∙ ap (λ l. both (ltb top n) (allBelow n l)) (sym (no-name i h)) ∙ k
 
-  pub name-below : (n i e : ℕ) → i < len → e ≡ getD names i 0 → allBelow n (take len names) ≡ true → e < n
+  -- the border of a name that is below 2 n
+  pub name-below : (n i e : ℕ) → i < len → e ≡ half (getD names i 0) → allBelow (2 * n) (take len names) ≡ true → e < n
   unfolding allBelow
   name-below n i e h q b =
       let l = take len names in
       let k : i < length l = omega (arith, length-take-le len names long) in
-      let f : ltb (getD l i 0) n ≡ true = all-true (λ x. ltb x n) l b (getD l i 0) (getD-in 0 l i k) in
-      rw (q, sym (getD-take len names i 0 h)) (ltb-true (getD l i 0) n f)
+      let f : ltb (getD l i 0) (2 * n) ≡ true = all-true (λ x. ltb x (2 * n)) l b (getD l i 0) (getD-in 0 l i k) in
+      omega (arith, q, getD-take len names i 0 h, ltb-true (getD l i 0) (2 * n) f)
 
-  pub walk-out : (n : ℕ) (m : List ℕ) → n ≤ length m → allBelow n (take len names) ≡ false → Marked n m (take len names) false m
+  -- the borders of the names from i on
+  pub next-border : (i e : ℕ) → i < len → e ≡ half (getD names i 0) → drop i (bordersIn names len) ≡ e ∷ drop (i + 1) (bordersIn names len)
+  next-border i e h q =
+      let l = bordersIn names len in
+      let size : length l ≡ len = simp length-map (length-take-le len names long) in
+      rw
+      (add-one, drop-cons l i 0 (let k : i < length l = omega (arith, size) in k), List·getD-map half (take len names) i 0, getD-take len names i 0 h, q)
+
+  pub no-border : (i : ℕ) → len ≤ i → drop i (bordersIn names len) ≡ []
+  no-border i h = drop-of-length-le (bordersIn names len) (let k : length (bordersIn names len) ≤ i = simp length-map (omega (arith, length-take-le len names long)) in k)
+
+  pub walk-out : (n : ℕ) (m : List ℕ) → n ≤ length m → allBelow (2 * n) (take len names) ≡ false → Marked n m (bordersIn names len) false m
   unfolding allBelow
   walk-out n m room o =
-      let l = take len names in
+      let l = bordersIn names len in
+      let within : newNames n m l ≡ true → (x : ℕ) → In x (take len names) → ltb x (2 * n) ≡ true =
+      λ t x k. lt-ltb x (2 * n) (let f = new-names n m l room t .inside (half x) (half-in (take len names) x k) in omega arith) in
       record {
         answer =
             ⊎-elim
-            (λ (t : newNames n m l ≡ true).
-            absurd (not-both (allBelow n l) (true-all (λ x. ltb x n) l (λ x k. lt-ltb x n (new-names n m l room t .inside x k))) o))
+            (λ (t : newNames n m l ≡ true). absurd (not-both (allBelow (2 * n) (take len names)) (true-all (λ x. ltb x (2 * n)) (take len names) (within t)) o))
             (λ (f : newNames n m l ≡ false). sym f)
             (true-or-false (newNames n m l));
         marks = λ t. absurd (not-both false t refl);
       }
 
-  pub walk-on : (n : ℕ) (m₀ m : List ℕ) (i e : ℕ) (new new' : Bool) → Walk names len n m₀ m i new → i < len → e ≡ getD names i 0 → e < n
+  pub walk-on : (n : ℕ) (m₀ m : List ℕ) (i e : ℕ) (new new' : Bool) → Walk names len n m₀ m i new → i < len → e ≡ half (getD names i 0) → e < n
       → new' ≡ both (eqb (getD m e 0) 0) new → length (set m e 2) ≡ length m₀ → Walk names len n m₀ (set m e 2) (i + 1) new'
   unfolding newNames markAll
   walk-on n m₀ m i e new new' w h q o k s =
-      let a = rw (next-name i e h q, lt-leb n e o) at (w .answer) in
+      let a = rw (next-border i e h q, lt-leb n e o) at (w .answer) in
       record {
         within = omega arith;
         same = s;
-        answer = rw k (sym (new-or-not (eqb (getD m e 0) 0) new (newNames n (set m e 2) (drop (i + 1) (take len names)))) ∙ a);
-        marks = rw (next-name i e h q) at (w .marks);
+        answer = rw k (sym (new-or-not (eqb (getD m e 0) 0) new (newNames n (set m e 2) (drop (i + 1) (bordersIn names len)))) ∙ a);
+        marks = rw (next-border i e h q) at (w .marks);
       }
 
-  pub walk-end : (n : ℕ) (m₀ m : List ℕ) (i : ℕ) (new : Bool) → Walk names len n m₀ m i new → len ≤ i → Marked n m₀ (take len names) new m
+  pub walk-end : (n : ℕ) (m₀ m : List ℕ) (i : ℕ) (new : Bool) → Walk names len n m₀ m i new → len ≤ i → Marked n m₀ (bordersIn names len) new m
   unfolding newNames markAll
   walk-end n m₀ m i new w h =
-      record { answer = sym (and-true new) ∙ (rw (no-name i h) at (w .answer)); marks = λ t. rw (no-name i h) at (w .marks) }
+      record { answer = sym (and-true new) ∙ (rw (no-border i h) at (w .answer)); marks = λ t. rw (no-border i h) at (w .marks) }

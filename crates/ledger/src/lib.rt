@@ -1,17 +1,20 @@
-// The standing ledger, for boards, puzzles and room graphs alike: what a record keeps of it, whether that holds together (question 2), which number
-// refuses a decide or an undo, and how a border is placed and taken back. Arrays are lent one at a time and changed where they stand.
+// The standing ledger, for boards, puzzles and room graphs alike: what a record keeps of its strokes, whether that holds together (question 2), which
+// number refuses a stroke or an undo, and how a stroke is placed and taken back. Arrays are lent one at a time and changed where they stand.
 ghost use mathlib.Core.Path.{_≡_};
 ghost use mathlib.Core.Bool.{true};
-ghost use Prim.Native.Nat.{_≤_, _<_};
-ghost use lib.ListN.{length, getD, set, take};
-ghost use Rattle.limits.specs.Limits.{mostBorders};
-ghost use Rattle.ledger.specs.Ledger.{stateFor, decideCode, undoCode, holdsOf};
-ghost use Rattle.ledger.specs.Books.{book, stateAt, bookHolds};
+ghost use mathlib.Core.List.{map};
+ghost use Prim.Native.Nat.{_+_, _-_, _*_, _/_, _%_, _≤_, _<_};
+ghost use lib.ListN.{length, take, drop, replicate};
+ghost use lib.Seq.{sets};
 ghost use lib.Dec.{eqb};
+ghost use Rattle.limits.specs.Limits.{mostBorders};
 ghost use Rattle.lists.specs.Choice.{both, pick};
-ghost use Rattle.ledger.specs.Marks.{fitsOf, Marked, LentBook, fitAll, givenIn, greaterOf, allBelow};
+ghost use Rattle.ledger.specs.Ledger.{decisions, stateFor, borders, allExist, noneTwice, allFree, strokeCode, undoCode, holdsOf};
+ghost use Rattle.ledger.specs.Books.{book, half, bordersIn, stateAt, firstStarts, bookHolds, nameOf, namesOf, stateAll, clearAll, startOf};
+ghost use Rattle.ledger.specs.Marks.{fitsOf, Marked, LentBook, fitAll, givenIn, greaterOf, allBelow, Unmarked, Named, Entry};
 
-// What a record keeps of its ledger: a state for each border, and the first `len` names of decided borders in order.
+// What a record keeps of its ledger: a state for each border, and the first `len` names of decided borders in order. A name is twice its border,
+// and one more where a stroke starts with it.
 #[repr(C)]
 pub struct Book {
     pub states: [u8; limits::BORDERS],
@@ -92,19 +95,26 @@ fn free(mark: u8, before: bool) -> bool
     before
 }
 
+// The border that a name or an entry names.
+fn border_of(x: u16) -> usize
+    ensures { λ r. ⌜ r ≡ half x ⌝ }
+{
+    lists::wide(x) / 2
+}
+
 // Marks what the ledger names. False where a name is no border or is marked already.
 fn mark_names(names: &[u16], len: usize, n: usize, marks: &mut [u8]) -> bool
     requires { ⌜ len ≤ length (now names) ⌝ }
-    requires { ⌜ n ≤ length (now marks) ⌝ }
-    ensures { λ r. ⌜ Marked n (now (marks .entry)) (take len (now (names .entry))) r (now (marks .exit)) ⌝ }
+    requires { ⌜ (n ≤ length (now marks)) × (n ≤ mostBorders) ⌝ }
+    ensures { λ r. ⌜ Marked n (now (marks .entry)) (bordersIn (now (names .entry)) len) r (now (marks .exit)) ⌝ }
 {
-    if !inside(names, len, n) {
+    if !inside(names, len, 2 * n) {
         return false;
     }
     let mut new = true;
     let mut i = 0;
     while i < len {
-        let e = lists::wide(names[i]);
+        let e = border_of(names[i]);
         new = free(marks[e], new);
         marks[e] = 2;
         i += 1;
@@ -131,12 +141,23 @@ fn all_fit<'a>(states: &'a [u8], marks: &'a [u8], n: usize) -> bool
 fn holds<'a>(states: &'a [u8], names: &'a [u16], len: usize, n: usize, marks: &mut [u8]) -> bool
     requires { ⌜ LentBook n (now states) (now names) (now marks) ⌝ }
     requires { ⌜ len ≤ n ⌝ }
-    ensures { λ r. ⌜ r ≡ holdsOf n (givenIn (now (marks .entry))) (now (states .entry)) (take len (now (names .entry))) ⌝ }
+    ensures { λ r. ⌜ r ≡ holdsOf n (givenIn (now (marks .entry))) (now (states .entry)) (bordersIn (now (names .entry)) len) ⌝ }
 {
     if !mark_names(names, len, n, marks) {
         return false;
     }
     all_fit(states, marks, n)
+}
+
+// Whether the first name starts a stroke, where there is one.
+fn first_starts(names: &[u16], len: usize) -> bool
+    requires { ⌜ len ≤ length (now names) ⌝ }
+    ensures { λ r. ⌜ r ≡ firstStarts (now (names .entry)) len ⌝ }
+{
+    if len == 0 {
+        return true;
+    }
+    names[0] % 2 == 1
 }
 
 // Question 2 of a book over n borders: `marks` comes in with 1 at each given wall and 0 elsewhere.
@@ -153,18 +174,84 @@ pub fn book_holds<'a>(
     if n < len {
         return false;
     }
+    if !first_starts(names, len) {
+        return false;
+    }
     holds(states, names, len, n, marks)
 }
 
-// The number of the question that refuses a decide of the border, 3 or 4, or 0.
-pub fn decide_code(states: &[u8], n: usize, border: usize) -> u8
-    requires { ⌜ n ≤ length (now states) ⌝ }
-    ensures { λ r. ⌜ r ≡ decideCode n (stateAt (now (states .entry))) border ⌝ }
+// Whether each border of a stroke exists.
+fn all_exist(entries: &[u16], n: usize) -> bool
+    ensures { λ r. ⌜ r ≡ allExist n (decisions (now (entries .entry))) ⌝ }
 {
-    if n <= border {
+    let mut i = 0;
+    while i < entries.len() {
+        if n <= border_of(entries[i]) {
+            return false;
+        }
+        i += 1;
+    }
+    true
+}
+
+// Whether each border of a stroke is new when it is come to, by marks that are free at first.
+fn each_new(entries: &[u16], n: usize, marks: &mut [u8]) -> bool
+    requires { ⌜ allExist n (decisions (now entries)) ≡ true ⌝ }
+    requires { ⌜ Unmarked n (now marks) ⌝ }
+    ensures { λ r. ⌜ r ≡ noneTwice (borders (decisions (now (entries .entry)))) ⌝ }
+{
+    let mut i = 0;
+    while i < entries.len() {
+        let e = border_of(entries[i]);
+        if marks[e] != 0 {
+            return false;
+        }
+        marks[e] = 2;
+        i += 1;
+    }
+    true
+}
+
+// Whether no border stands twice in a stroke. A stroke of one needs no marks.
+fn none_twice(entries: &[u16], n: usize) -> bool
+    requires { ⌜ (n ≤ mostBorders) × (allExist n (decisions (now entries)) ≡ true) ⌝ }
+    ensures { λ r. ⌜ r ≡ noneTwice (borders (decisions (now (entries .entry)))) ⌝ }
+{
+    if entries.len() < 2 {
+        return true;
+    }
+    let mut marks = [0u8; limits::BORDERS];
+    each_new(entries, n, &mut marks)
+}
+
+// Whether each border of a stroke is undecided.
+fn all_free<'a>(states: &'a [u8], entries: &'a [u16], n: usize) -> bool
+    requires { ⌜ (n ≤ length (now states)) × (allExist n (decisions (now entries)) ≡ true) ⌝ }
+    ensures { λ r. ⌜ r ≡ allFree (stateAt (now (states .entry))) (decisions (now (entries .entry))) ⌝ }
+{
+    let mut i = 0;
+    while i < entries.len() {
+        let e = border_of(entries[i]);
+        if states[e] != 0 {
+            return false;
+        }
+        i += 1;
+    }
+    true
+}
+
+// The number of the question that refuses a stroke, 3, 14 or 4, or 0: each is put to the whole stroke before the next.
+pub fn stroke_code<'a>(states: &'a [u8], entries: &'a [u16], n: usize) -> u8
+    requires { ⌜ (n ≤ length (now states)) × (n ≤ mostBorders) ⌝ }
+    ensures { λ r. ⌜ r ≡ strokeCode n (stateAt (now (states .entry))) (decisions (now (entries .entry))) ⌝ }
+{
+    if !all_exist(entries, n) {
         return 3;
     }
-    if states[border] != 0 {
+    if !none_twice(entries, n) {
+        return 14;
+    }
+    if !all_free(states, entries, n) {
         return 4;
     }
     0
@@ -180,52 +267,104 @@ pub fn undo_code(len: usize) -> u8
     0
 }
 
-// The state of a decided border.
-fn state_of(wall: bool) -> u8
-    ensures { λ r. ⌜ r ≡ stateFor wall ⌝ }
+// The entry of a border and its value. A border that no record has becomes one that no entry of a record's border is.
+pub fn entry_of(border: usize, wall: bool) -> u16
+    ensures { λ r. ⌜ Entry border wall r ⌝ }
 {
+    if limits::BORDERS <= border {
+        return 65535;
+    }
+    let twice = 2 * (border as u16);
     if wall {
+        return twice + 1;
+    }
+    twice
+}
+
+// The state that an entry gives its border.
+fn state_of(entry: u16) -> u8
+    ensures { λ r. ⌜ r ≡ stateFor (eqb (entry % 2) 1) ⌝ }
+{
+    if entry % 2 == 1 {
         return 2;
     }
     1
 }
 
-// Gives a border its state.
-pub fn place_state(states: &mut [u8; limits::BORDERS], border: usize, wall: bool)
-    requires { ⌜ border < mostBorders ⌝ }
-    ensures { λ _. ⌜ now (states .exit) ≡ set (now (states .entry)) border (stateFor wall) ⌝ }
+// Gives the borders of a stroke their states.
+pub fn place_states(states: &mut [u8; limits::BORDERS], entries: &[u16])
+    requires { ⌜ (length (now states) ≡ mostBorders) × (allExist mostBorders (decisions (now entries)) ≡ true) ⌝ }
+    ensures { λ _. ⌜ now (states .exit) ≡ stateAll (now (states .entry)) (decisions (now (entries .entry))) ⌝ }
 {
-    states[border] = state_of(wall);
+    let mut i = 0;
+    while i < entries.len() {
+        let entry = entries[i];
+        let e = border_of(entry);
+        states[e] = state_of(entry);
+        i += 1;
+    }
 }
 
-// Names a border at the ledger's end.
-pub fn place_name(names: &mut [u16; limits::BORDERS], len: usize, border: usize)
-    requires { ⌜ (len < mostBorders) × (border < mostBorders) ⌝ }
-    ensures { λ _. ⌜ now (names .exit) ≡ set (now (names .entry)) len border ⌝ }
+// The name of an entry's border at place i of its stroke: the first starts it.
+fn name_of(entry: u16, i: usize) -> u16
+    ensures { λ r. ⌜ r ≡ nameOf (half entry) i ⌝ }
 {
-    names[len] = border as u16;
+    let twice = entry - entry % 2;
+    if i == 0 {
+        return twice + 1;
+    }
+    twice
 }
 
-// The border that a place of the ledger names.
-pub fn name_at(names: &[u16], at: usize) -> usize
-    requires { ⌜ at < length (now names) ⌝ }
-    ensures { λ r. ⌜ r ≡ getD (now (names .entry)) at 0 ⌝ }
+// Names the borders of a stroke behind the first `len` names.
+pub fn place_names(names: &mut [u16; limits::BORDERS], len: usize, entries: &[u16])
+    requires { ⌜ (length (now names) ≡ mostBorders) × (len + length (now entries) ≤ mostBorders) ⌝ }
+    ensures { λ _. ⌜ now (names .exit) ≡ sets (now (names .entry)) len (namesOf (decisions (now (entries .entry)))) ⌝ }
 {
-    lists::wide(names[at])
+    let mut i = 0;
+    while i < entries.len() {
+        let name = name_of(entries[i], i);
+        names[len + i] = name;
+        i += 1;
+    }
 }
 
-// A border is undecided again.
-pub fn clear_state(states: &mut [u8; limits::BORDERS], border: usize)
-    requires { ⌜ border < mostBorders ⌝ }
-    ensures { λ _. ⌜ now (states .exit) ≡ set (now (states .entry)) border 0 ⌝ }
+// Where the last stroke of the first `len` names starts.
+pub fn start_of(names: &[u16], len: usize) -> usize
+    requires { ⌜ len ≤ length (now names) ⌝ }
+    ensures { λ r. ⌜ r ≡ startOf (now (names .entry)) len ⌝ }
 {
-    states[border] = 0;
+    let mut at = len;
+    while 0 < at {
+        at -= 1;
+        if names[at] % 2 == 1 {
+            return at;
+        }
+    }
+    0
 }
 
-// A place of the ledger is free again.
-pub fn clear_name(names: &mut [u16; limits::BORDERS], at: usize)
-    requires { ⌜ at < mostBorders ⌝ }
-    ensures { λ _. ⌜ now (names .exit) ≡ set (now (names .entry)) at 0 ⌝ }
+// The borders named from `from` up to `len` are undecided again.
+pub fn clear_states(states: &mut [u8; limits::BORDERS], names: &[u16], from: usize, len: usize)
+    requires { ⌜ (length (now states) ≡ mostBorders) × Named (now names) from len ⌝ }
+    ensures { λ _. ⌜ now (states .exit) ≡ clearAll (now (states .entry)) (drop from (bordersIn (now (names .entry)) len)) ⌝ }
 {
-    names[at] = 0;
+    let mut i = from;
+    while i < len {
+        let e = border_of(names[i]);
+        states[e] = 0;
+        i += 1;
+    }
+}
+
+// The places from `from` up to `len` are free again.
+pub fn clear_names(names: &mut [u16; limits::BORDERS], from: usize, len: usize)
+    requires { ⌜ (length (now names) ≡ mostBorders) × (from ≤ len) × (len ≤ mostBorders) ⌝ }
+    ensures { λ _. ⌜ now (names .exit) ≡ sets (now (names .entry)) from (replicate (len - from) 0) ⌝ }
+{
+    let mut i = from;
+    while i < len {
+        names[i] = 0;
+        i += 1;
+    }
 }

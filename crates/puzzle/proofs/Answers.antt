@@ -1,20 +1,25 @@
--- A law for each answer of decide, undo and ask: which tests lead to it. Assumes nothing.
+-- A law for each answer of stroke, undo and ask: which tests lead to it. Assumes nothing.
 use Prim.Native.Nat.{ℕ, zero, suc, _*_, _≤_, _<_}
 use mathlib.Core.Path.{_≡_, refl}
 use mathlib.Core.Logic.{_≢_}
-use mathlib.Core.List.{List}
+use mathlib.Core.Bool.{Bool}
+use mathlib.Core.List.{List, [], _∷_}
 use mathlib.Core.Option.{Option}
 use native.Mathlib.Omega.{arith}
 use borrow.Author.Tests.{ne-eqb, le-leb, lt-leb}
 use lib.ListN.{length}
 use Rattle.grid.specs.Grid.{cells}
+use Rattle.grid.proofs.Geometry.{borderCount-le}
 use Rattle.ledger.specs.declared.Book.{Book}
-use Rattle.ledger.specs.Ledger.{undoCode, firstCode}
+use Rattle.ledger.specs.Ledger.{decisions, firstCode}
+use Rattle.ledger.specs.Marks.{Entry}
+use Rattle.ledger.proofs.Codes.{as-decide}
 use Rattle.puzzle.specs.declared.Puzzle.{Puzzle}
 use Rattle.puzzle.specs.declared.Answer.{Answer}
 use Rattle.puzzle.specs.declared.Answer.the-variants.{Refused}
 use Rattle.puzzle.specs.Fault.{Found}
-use Rattle.puzzle.specs.Puzzle.{answer, gridOf, bookOf, puzzleCode, onto, answered, undoOf, askCode, Asked, says, writes, faultIn, askOf}
+use Rattle.puzzle.specs.Puzzle.{answer, gridOf, bookOf, bordersOf, puzzleCode, onto, answered, strokeOf, decideOf, askCode, Asked, says, writes, faultIn, askOf}
+use Rattle.puzzle.proofs.Ready.{ready}
 
 -- the first of two numbers that refuses a call
 pub first-refuses : {code m : ℕ} (next : ℕ) → code ≡ m → code ≢ 0 → code ≡ firstCode m next
@@ -27,18 +32,17 @@ pub none-refuses : (m next : ℕ) → firstCode m next ≡ 0 → (m ≡ 0) × (n
 none-refuses zero next q = (refl, q)
 none-refuses (suc m) next q = absurd (let z : suc m ≡ 0 = rw (ne-eqb (suc m) 0 (omega arith)) at q in omega arith)
 
-pub nothing-left : {len : ℕ} → len ≡ 0 → 5 ≡ undoCode len
-nothing-left h = rw h
-
-pub some-left : {len : ℕ} → len ≢ 0 → 0 ≡ undoCode len
-some-left {len} h = rw (ne-eqb len 0 h)
-
--- a decide or an undo: refused by a number, or done
+-- a stroke or an undo: refused by a number, or done
 pub refused : (p : Puzzle) (b : Book) {n m : ℕ} → n ≡ m → n ≢ 0 → answer n p ≡ answered p m b
 refused p b {n} q z = rw (← q, ne-eqb n 0 z)
 
 pub done : (p : Puzzle) (b : Book) {m : ℕ} → m ≡ 0 → answer 0 (onto p b) ≡ answered p m b
 done p b z = rw z
+
+-- a decide by way of its entry
+pub one-entry : (p : Puzzle) (e : ℕ) (wall : Bool) (x : ℕ) → Entry e wall x → strokeOf p (decisions (x ∷ [])) ≡ decideOf p e wall
+one-entry p e wall x k =
+    as-decide (λ c m. answered p c m) (λ c z m m'. rw (ne-eqb c 0 z)) (puzzleCode p) (bordersOf p) (bookOf p) e wall x (λ z. borderCount-le (gridOf p) (ready p z .limits)) k
 
 -- an ask: its buffer is too short, or long enough
 module _ (p : Puzzle) (code : ℕ) (q : code ≡ puzzleCode p) (z : code ≡ 0) where

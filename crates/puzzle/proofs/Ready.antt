@@ -93,6 +93,7 @@ module _ (g : Grid) (given : List ℕ) (w : Given g given) {xs : List ℕ} (b : 
         names-long = omega arith;
         marks-long = omega (arith, ap length e, puts-length given 1 xs, b .long);
         marks-given = λ x. rw (e, marks-in g given w b 1 x) (go (isGiven given x));
+        few = omega arith;
       }
     where
       go : (t : Bool) → pick t 1 0 ≤ 1

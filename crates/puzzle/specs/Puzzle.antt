@@ -1,4 +1,4 @@
--- What a puzzle's making, decide, undo and ask answer (SPEC 1.7, 3 and 4.15). Assumes nothing.
+-- What a puzzle's making, stroke, decide, undo and ask answer (SPEC 1.7, 3, 4.15 and 12). Assumes nothing.
 use Prim.Native.Nat.{ℕ, zero, suc, _*_}
 use mathlib.Core.Path.{_≡_}
 use mathlib.Core.Bool.{Bool}
@@ -13,7 +13,7 @@ use Rattle.grid.specs.declared.Grid.{Grid}
 use Rattle.grid.specs.Grid.{grid, sizesOk, cells, borderCount}
 use Rattle.limits.specs.Limits.{mostBorders, mostCells}
 use Rattle.ledger.specs.declared.Book.{Book}
-use Rattle.ledger.specs.Ledger.{decideCode, undoCode, firstCode}
+use Rattle.ledger.specs.Ledger.{Decision, single, strokeCode, undoCode, firstCode}
 use Rattle.ledger.specs.Books.{zeros, book, freshBook, stateAt, bookHolds, placed, taken}
 use Rattle.board.specs.declared.Board.{Board}
 use Rattle.puzzle.specs.declared.Counts.{Counts}
@@ -110,16 +110,20 @@ abbrev pub onto : Puzzle → Book → Puzzle
 onto p b =
     record { board = record { grid = gridOf p; book = b }; given = p .given; «given_len» = p .«given_len»; clues = p .clues; «clues_len» = p .«clues_len» }
 
--- what a decide or an undo returns: the changed puzzle, or the puzzle as it was with the number that refuses the call
+-- what a stroke or an undo returns: the changed puzzle, or the puzzle as it was with the number that refuses the call
 abbrev pub answered : Puzzle → ℕ → Book → Made
 answered p n b = pick (eqb n 0) (answer 0 (onto p b)) (answer n p)
 
--- questions 1, 2, 3 and 4 (SPEC 3): the border exists, and is undecided
-abbrev pub decideNumber : Puzzle → ℕ → ℕ
-decideNumber p e = firstCode (puzzleCode p) (decideCode (bordersOf p) (stateAt (bookOf p .states)) e)
+-- questions 1, 2, 3, 14 and 4 (SPEC 3, 12.2): each border exists, none stands there twice, and all are undecided
+abbrev pub strokeNumber : Puzzle → List Decision → ℕ
+strokeNumber p ds = firstCode (puzzleCode p) (strokeCode (bordersOf p) (stateAt (bookOf p .states)) ds)
 
+abbrev pub strokeOf : Puzzle → List Decision → Made
+strokeOf p ds = answered p (strokeNumber p ds) (placed (bookOf p) ds)
+
+-- a single decide is a stroke of one (SPEC 12.1)
 abbrev pub decideOf : Puzzle → ℕ → Bool → Made
-decideOf p e wall = answered p (decideNumber p e) (placed (bookOf p) e wall)
+decideOf p e wall = strokeOf p (single e wall)
 
 -- questions 1, 2 and 5: the ledger names a border
 abbrev pub undoNumber : Puzzle → ℕ

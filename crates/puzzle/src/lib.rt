@@ -4,12 +4,13 @@ ghost use Prim.Native.Nat.{_≤_};
 ghost use lib.ListN.{length, take};
 ghost use Rattle.limits.specs.Limits.{mostBorders, mostCells};
 ghost use Rattle.grid.specs.Grid.{borderCount};
+ghost use Rattle.ledger.specs.Ledger.{decisions};
 ghost use Rattle.ledger.specs.Books.{book, bookHolds};
 ghost use Rattle.rooms.specs.Rooms.{isGiven};
 ghost use Rattle.rooms.specs.Lent.{Below, Given, Blank};
 ghost use Rattle.room_checks.specs.RoomChecks.{Finding};
 ghost use Rattle.puzzle.specs.Fault.{faultOf};
-ghost use Rattle.puzzle.specs.Puzzle.{freshBoard, noClues, freshPuzzle, zeroPuzzle, answer, makeOf, Arrays, puzzleOf, puzzleCode, decideNumber, decideOf, undoNumber, undoOf, says, writes, askOf};
+ghost use Rattle.puzzle.specs.Puzzle.{freshBoard, noClues, freshPuzzle, zeroPuzzle, answer, makeOf, Arrays, puzzleOf, puzzleCode, strokeNumber, strokeOf, decideOf, undoNumber, undoOf, says, writes, askOf};
 use answers::Found;
 use board::Board;
 use grid::Grid;
@@ -231,28 +232,29 @@ pub fn puzzle_code(p: Puzzle) -> u8
     )
 }
 
-// Questions 1 to 4 of a decide: the number of the one that refuses it, or 0.
-fn decide_code<'a>(
+// Questions 1, 2, 3, 14 and 4 of a stroke: the number of the one that refuses it, or 0.
+fn stroke_code<'a>(
     z: Counts,
     states: &'a [u8],
     names: &'a [u16],
     given: &'a [u16],
     clues: &'a [u16],
-    border: usize,
+    entries: &'a [u16],
 ) -> u8
     requires { ⌜ Arrays (now states) (now names) (now given) (now clues) ⌝ }
-    ensures { λ r. ⌜ r ≡ decideNumber (puzzleOf z (now (states .entry)) (now (names .entry)) (now (given .entry)) (now (clues .entry))) border ⌝ }
+    ensures { λ r. ⌜ r ≡ strokeNumber (puzzleOf z (now (states .entry)) (now (names .entry)) (now (given .entry)) (now (clues .entry))) (decisions (now (entries .entry))) ⌝ }
 {
     let code = code_of(z, states, names, given, clues);
     if code != 0 {
         return code;
     }
-    ledger::decide_code(states, grid::border_count(z.grid), border)
+    ledger::stroke_code(states, entries, grid::border_count(z.grid))
 }
 
-// Decides a border as Wall or Connected. The answer is made first and changed where it stands: the record is copied in and out, and not once more.
-pub fn decide(p: Puzzle, border: usize, wall: bool) -> Made
-    ensures { λ r. ⌜ r ≡ decideOf p border wall ⌝ }
+// Decides the borders of a stroke, all or none. The answer is made first and changed where it stands: the record is copied in and out, and not once
+// more.
+pub fn stroke(p: Puzzle, entries: &[u16]) -> Made
+    ensures { λ r. ⌜ r ≡ strokeOf p (decisions (now (entries .entry))) ⌝ }
 {
     let mut out = Made { code: 0, puzzle: p };
     let g = out.puzzle.board.grid;
@@ -263,22 +265,30 @@ pub fn decide(p: Puzzle, border: usize, wall: bool) -> Made
         given: out.puzzle.given_len,
         clues: out.puzzle.clues_len,
     };
-    let code = decide_code(
+    let code = stroke_code(
         z,
         &out.puzzle.board.book.states,
         &out.puzzle.board.book.names,
         &out.puzzle.given,
         &out.puzzle.clues,
-        border,
+        entries,
     );
     if code != 0 {
         out.code = code;
         return out;
     }
-    ledger::place_state(&mut out.puzzle.board.book.states, border, wall);
-    ledger::place_name(&mut out.puzzle.board.book.names, at, border);
-    out.puzzle.board.book.len = at + 1;
+    ledger::place_states(&mut out.puzzle.board.book.states, entries);
+    ledger::place_names(&mut out.puzzle.board.book.names, at, entries);
+    out.puzzle.board.book.len = at + entries.len();
     out
+}
+
+// Decides a border as Wall or Connected: a stroke of one.
+pub fn decide(p: Puzzle, border: usize, wall: bool) -> Made
+    ensures { λ r. ⌜ r ≡ decideOf p border wall ⌝ }
+{
+    let one = [ledger::entry_of(border, wall)];
+    stroke(p, &one)
 }
 
 // Questions 1, 2 and 5 of an undo: the number of the one that refuses it, or 0.
@@ -296,13 +306,10 @@ fn undo_code<'a>(
     if code != 0 {
         return code;
     }
-    if z.len == 0 {
-        return 5;
-    }
-    0
+    ledger::undo_code(z.len)
 }
 
-// Takes the last decision back.
+// Takes the whole last stroke back: of a puzzle that calls have made, the very record before it is there again.
 pub fn undo(p: Puzzle) -> Made
     ensures { λ r. ⌜ r ≡ undoOf p ⌝ }
 {
@@ -326,11 +333,15 @@ pub fn undo(p: Puzzle) -> Made
         out.code = code;
         return out;
     }
-    let at = len - 1;
-    let border = ledger::name_at(&out.puzzle.board.book.names, at);
-    ledger::clear_state(&mut out.puzzle.board.book.states, border);
-    ledger::clear_name(&mut out.puzzle.board.book.names, at);
-    out.puzzle.board.book.len = at;
+    let from = ledger::start_of(&out.puzzle.board.book.names, len);
+    ledger::clear_states(
+        &mut out.puzzle.board.book.states,
+        &p.board.book.names,
+        from,
+        len,
+    );
+    ledger::clear_names(&mut out.puzzle.board.book.names, from, len);
+    out.puzzle.board.book.len = from;
     out
 }
 

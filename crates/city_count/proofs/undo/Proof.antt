@@ -1,4 +1,4 @@
--- `city_count::undo` meets its contract: a refusal's number, or the ledger's last name, which is an edge. Assumes nothing.
+-- `city_count::undo` meets its contract: a refusal's number, or the names of the last stroke, which are edges. Assumes nothing.
 use mathlib.Core.Path.{_≡_}
 use native.Mathlib.Omega.{arith}
 use borrow.Author.Needs.{needs}
@@ -6,17 +6,20 @@ use lib.ListN.{length}
 use Rattle.limits.specs.Limits.{mostBorders}
 use Rattle.ledger.specs.Ledger.{undoCode}
 use Rattle.ledger.specs.Books.{taken}
-use Rattle.ledger.proofs.BookLaws.{Takeable}
+use Rattle.ledger.proofs.Found.{Takeable}
 use Rattle.city_count.specs.declared.CityCountConstraint.{CityCountConstraint}
 use Rattle.city_count.proofs.RoomLaws.{stopped, next-stops, accepted, taking}
 use Rattle.city_count.proofs.undo.Statement.{statement}
 use Rattle.city_count.proofs.undo.Tie as tie
 
-abbrev start : tie.After-check-parts → tie.Start
-start k = k .before .before .before .before .before .before .before .before .before .before
-
 abbrev room : tie.After-check-parts → CityCountConstraint
-room k = start k .args .r
+room k = k .before .before .before .before .before .before .before .before .before .before .args .t1
+
+abbrev checked : tie.Else2 → tie.After-check-parts
+checked e = e .before .before .before
+
+abbrev found : tie.After-start-of → tie.Else2
+found o = o .before .before .before .before
 
 returns : tie.Need-returns
 returns c =
@@ -29,36 +32,43 @@ returns-2 c =
     let k = d .before .before in
     next-stops (room k) (k .check-parts .result) (k .check-parts .ensures) (d .before .if1 .left) _ (d .undo-code .result) (taken (room k .book)) (d .undo-code .ensures) (c .if2 .taken)
 
--- there is a last name, and its edge has a place
-last : (c : tie.Else2) → Takeable (room (c .before .before .before) .book)
-last c =
-    let d = c .before in
-    let k = d .before .before in
-    let states : length (room k .book .states) ≡ mostBorders = search needs in
-    let names : length (room k .book .names) ≡ mostBorders = search needs in
-    taking (room k) (k .check-parts .result) (k .check-parts .ensures) (d .before .if1 .left) states names (d .undo-code .result) (d .undo-code .ensures) (c .if2 .left)
+-- the arrays' lengths
+states-are : (k : tie.After-check-parts) → length (room k .book .states) ≡ mostBorders
+states-are k = search needs
 
-name-at-requires : tie.Need-name-at-requires
-name-at-requires c κs =
-    let e = c .before .before .before in
-    let names : length (room (e .before .before .before) .book .names) ≡ mostBorders = search needs in
-    omega (arith, last e .some, last e .len-fits)
+names-are : (k : tie.After-check-parts) → length (room k .book .names) ≡ mostBorders
+names-are k = search needs
 
-clear-name-requires : tie.Need-clear-name-requires
-clear-name-requires c κs =
-    let f = last (c .before .before .before .before .before .before .before) in
-    omega (arith, f .some, f .len-fits)
+-- the last stroke's names are there
+last : (e : tie.Else2) → Takeable (room (checked e) .book)
+last e =
+    let k = checked e in
+    taking (room k) (k .check-parts .result) (k .check-parts .ensures) (e .before .before .if1 .left) (states-are k) (names-are k)
+
+clear-states-requires : tie.Need-clear-states-requires
+clear-states-requires c κs =
+    let o = c .before .before .before .before in
+    let e = found o in
+    (states-are (checked e), rw (o .start-of .ensures) (last e .names))
+
+clear-names-requires : tie.Need-clear-names-requires
+clear-names-requires c κs =
+    let o = c .before .before .before .before .before .before in
+    let e = found o in
+    (names-are (checked e), rw (o .start-of .ensures) (last e .names .in-turn), last e .len-fits)
 
 returns-3 : tie.Need-returns-3
 returns-3 c =
-    let n = c .before .before .before .before .before in
-    let e = n .before .before .before .before in
+    let n = c .before in
+    let t = n .before .before in
+    let o = t .before .before .before .before .before in
+    let e = found o in
     let d = e .before in
-    let k = d .before .before in
-    rw (c .before .clear-name .ensures, c .before .before .before .clear-state .ensures, n .name-at .ensures)
+    let k = checked e in
+    rw (n .clear-names .ensures, t .clear-states .ensures, o .start-of .ensures)
     (accepted (room k) (k .check-parts .result) (k .check-parts .ensures) (d .before .if1 .left) _ (d .undo-code .result) (taken (room k .book)) (d .undo-code .ensures) (e .if2 .left))
 
 pub undo-spec : {M : Type 1} → statement M
 undo-spec =
-    tie.close (tie.spec (λ c κs. search needs) returns (λ c κs. search needs) returns-2 (λ c. omega (arith, last c .some)) name-at-requires
-    (λ c κs. rw (c .before .name-at .ensures) (last (c .before .before .before .before .before) .last-fits)) clear-name-requires returns-3)
+    tie.close (tie.spec (λ c κs. search needs) returns (λ c κs. search needs) returns-2
+    (λ c κs. let e = c .before .before .before in omega (arith, last e .names .long)) clear-states-requires clear-names-requires returns-3)
