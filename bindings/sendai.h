@@ -23,13 +23,14 @@
 extern "C" {
 #endif
 
-/* The questions put to each call, in this order, but 11 first, 13 after 1, 12 between 2 and 6; the first no is the code that refuses it. */
+/* The questions put to each call, in this order, but 11 first, 13 after 1, 12 between 2 and 6, 14 between 3 and 4; the first no is the code
+ * that refuses it. Each is put to a whole stroke before the next. */
 enum {
     SENDAI_ACCEPTED = 0,
     SENDAI_SIZES = 1,           /* are the sizes within the limits, and two edge slices equally long? */
     SENDAI_RECORD = 2,          /* does the record hold together? */
     SENDAI_MISSING = 3,         /* does every border, cell, vertex or group named exist? */
-    SENDAI_DECIDED = 4,         /* decide: is the border undecided? */
+    SENDAI_DECIDED = 4,         /* decide, stroke: is every border undecided? */
     SENDAI_EMPTY_LEDGER = 5,    /* undo: is the ledger non-empty? */
     SENDAI_SHORT_BUFFER = 6,    /* is the buffer long enough? each call below says what it wants */
     SENDAI_GIVEN_ORDER = 7,     /* do the given walls rise strictly? */
@@ -38,7 +39,8 @@ enum {
     SENDAI_NOT_JOINED = 10,     /* path: are the cells joined by Connected borders? */
     SENDAI_FILE = 11,           /* is the file sound? */
     SENDAI_MANY_UNDECIDED = 12, /* all answers: are at most 24 borders undecided? */
-    SENDAI_ZERO_SEED = 13       /* case file from a seed: is the seed not 0? */
+    SENDAI_ZERO_SEED = 13,      /* case file from a seed: is the seed not 0? */
+    SENDAI_TWICE = 14           /* stroke: does no border stand twice in it, whatever the values? */
 };
 
 /* The limits, the most undecided borders for all answers, a length that any list of a board or puzzle fits (9*h*w at 32 by 32), and the
@@ -86,7 +88,8 @@ enum { SENDAI_CLEAR = 0, SENDAI_SHAPE_FAULT = 1, SENDAI_ROOM_FAULT = 2, SENDAI_R
 
 /* ---- Records. Read them as you like; let the calls alone write them (a record that does not hold together is refused, 2). ---- */
 
-/* A board: the states of its borders by number, and in the first `len` places of the ledger the decided ones, in order. */
+/* A board: the states of its borders by number, and in the first `len` places of the ledger the names of the decided ones, in order, stroke
+ * by stroke. A name is 2*border + 1 for the first border of a stroke and 2*border for the others; the first name is always odd. */
 typedef struct SendaiBoard {
     size_t height;
     size_t width;
@@ -118,7 +121,7 @@ typedef struct SendaiEdge {
 } SendaiEdge;
 SENDAI_LAYOUT(SendaiEdge, 4, v, 2);
 
-/* The states of a room graph's edges by number, and in the first `len` places of the ledger the decided ones, in order. */
+/* The states of a room graph's edges by number, and in the first `len` places of the ledger the names of the decided ones, as a board's. */
 typedef struct SendaiBook {
     uint8_t states[1984];
     uint16_t ledger[1984];
@@ -313,14 +316,19 @@ SendaiBoardAnswer sendai_board_make(size_t height, size_t width);
 /* 0 where the record holds together, else 1 or 2. */
 uint8_t sendai_board_check(SendaiBoard board);
 
-/* The board with the border decided as Wall or Connected. Refused: 1, 2, 3, 4, with the board as it came. */
+/* The board with the border decided as Wall or Connected: a stroke of one. Refused: 1, 2, 3, 4, with the board as it came. */
 SendaiBoardAnswer sendai_board_decide(SendaiBoard board, size_t border, bool wall);
 
-/* The board without its last decision. Refused: 1, 2, 5, with the board as it came. */
+/* The board with the borders of all entries decided, as one stroke. An empty stroke is accepted and not kept: the board stays as it was, and
+ * an undo takes the stroke before it back. Refused: 1, 2, 3, 14, 4, with the board as it came and nothing decided. */
+SendaiBoardAnswer sendai_board_stroke(SendaiBoard board, const uint16_t *entries, size_t entries_length);
+
+/* The board without its last stroke, all of it: the very board from before, if calls made it. Refused: 1, 2, 5, with the board as it came. */
 SendaiBoardAnswer sendai_board_undo(SendaiBoard board);
 
-/* As sendai_board_decide and sendai_board_undo, on the board where it is; returned is the code. A refusal leaves the board as it was. */
+/* As the three calls above, on the board where it is; returned is the code. A refusal leaves the board as it was. */
 uint8_t sendai_board_decide_in_place(SendaiBoard *board, size_t border, bool wall);
+uint8_t sendai_board_stroke_in_place(SendaiBoard *board, const uint16_t *entries, size_t entries_length);
 uint8_t sendai_board_undo_in_place(SendaiBoard *board);
 
 /* The shape check: clear, or a fault whose listed borders can't all hold. Refused: 1, 2, 6 (9*h*w entries). */
@@ -354,10 +362,15 @@ SendaiPuzzleAnswer sendai_puzzle_make(size_t height, size_t width, const uint16_
 /* 0 where the record holds together, else 1 or 2. */
 uint8_t sendai_puzzle_check(SendaiPuzzle puzzle);
 
-/* The puzzle with the border decided as Wall or Connected. Refused: 1, 2, 3, 4 (a given wall too), with the puzzle as it came. */
+/* The puzzle with the border decided as Wall or Connected: a stroke of one. Refused: 1, 2, 3, 4 (a given wall too), with the puzzle as it
+ * came. */
 SendaiPuzzleAnswer sendai_puzzle_decide(SendaiPuzzle puzzle, size_t border, bool wall);
 
-/* The puzzle without its last decision. Refused: 1, 2, 5, with the puzzle as it came. */
+/* The puzzle with the borders of all entries decided, as one stroke; an empty one is accepted and not kept. Refused: 1, 2, 3, 14, 4 (a given
+ * wall too), with the puzzle as it came and nothing decided. */
+SendaiPuzzleAnswer sendai_puzzle_stroke(SendaiPuzzle puzzle, const uint16_t *entries, size_t entries_length);
+
+/* The puzzle without its last stroke, all of it. Refused: 1, 2, 5, with the puzzle as it came. */
 SendaiPuzzleAnswer sendai_puzzle_undo(SendaiPuzzle puzzle);
 
 /* The shape check, then the counts of the clued rooms: clear, or the first fault, whose listed borders can't all hold.
@@ -383,10 +396,14 @@ SendaiRoomAnswer sendai_room_make_of_edges(size_t vertices, const SendaiEdge *ed
 /* 0 where the record holds together, else 1 or 2. */
 uint8_t sendai_room_check(SendaiRoom room);
 
-/* The graph with the edge decided as Wall or Connected. Refused: 1, 2, 3, 4, with the graph as it came. */
+/* The graph with the edge decided as Wall or Connected: a stroke of one. Refused: 1, 2, 3, 4, with the graph as it came. */
 SendaiRoomAnswer sendai_room_decide(SendaiRoom room, size_t edge, bool wall);
 
-/* The graph without its last decision. Refused: 1, 2, 5, with the graph as it came. */
+/* The graph with the edges of all entries decided, as one stroke; an empty one is accepted and not kept. Refused: 1, 2, 3, 14, 4, with the
+ * graph as it came and nothing decided. */
+SendaiRoomAnswer sendai_room_stroke(SendaiRoom room, const uint16_t *entries, size_t entries_length);
+
+/* The graph without its last stroke, all of it. Refused: 1, 2, 5, with the graph as it came. */
 SendaiRoomAnswer sendai_room_undo(SendaiRoom room);
 
 /* The room count: clear, or a fault whose listed edges can't all hold. Refused: 1, 2, 6 (as many entries as edges). */

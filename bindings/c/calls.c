@@ -159,6 +159,127 @@ static void all_answers(void) {
     CHECK(refuses(many, 1, 0, SENDAI_SIZES));
 }
 
+/* A stroke's entries, each written as a digit. */
+typedef struct {
+    uint16_t entries[8];
+    size_t length;
+} Stroke;
+
+static Stroke drawn(const char *digits) {
+    Stroke stroke = {{0}, strlen(digits)};
+    for (size_t i = 0; i < stroke.length; i++) stroke.entries[i] = (uint16_t)(digits[i] - '0');
+    return stroke;
+}
+
+static bool same_board(SendaiBoard a, SendaiBoard b) {
+    return memcmp(&a, &b, sizeof a) == 0;
+}
+
+/* A room has bytes between its numbers that mean nothing. */
+static bool same_room(SendaiRoom a, SendaiRoom b) {
+    return a.vertices == b.vertices && a.edges == b.edges && a.count == b.count && memcmp(a.us, b.us, sizeof a.us) == 0 &&
+           memcmp(a.vs, b.vs, sizeof a.vs) == 0 && memcmp(&a.book, &b.book, sizeof a.book) == 0;
+}
+
+/* Whether a board answers a stroke by this code, by value and in place. Refused or empty, it leaves the very board; else an undo does. */
+static bool on_board(SendaiBoard board, const char *digits, int code) {
+    Stroke stroke = drawn(digits);
+    SendaiBoardAnswer told = sendai_board_stroke(board, stroke.entries, stroke.length);
+    SendaiBoard lent = board;
+    if (sendai_board_stroke_in_place(&lent, stroke.entries, stroke.length) != code || !same_board(lent, told.board)) return false;
+    if (told.code != code) return false;
+    if (code != SENDAI_ACCEPTED || stroke.length == 0) return same_board(told.board, board);
+    return told.board.len == board.len + stroke.length && sendai_board_undo_in_place(&lent) == SENDAI_ACCEPTED &&
+           same_board(lent, board) && same_board(sendai_board_undo(told.board).board, board);
+}
+
+static bool on_puzzle(SendaiPuzzle puzzle, const char *digits, int code) {
+    Stroke stroke = drawn(digits);
+    SendaiPuzzleAnswer told = sendai_puzzle_stroke(puzzle, stroke.entries, stroke.length);
+    if (told.code != code) return false;
+    if (code == SENDAI_ACCEPTED && stroke.length != 0) {
+        if (told.puzzle.board.len != puzzle.board.len + stroke.length) return false;
+        told = sendai_puzzle_undo(told.puzzle);
+    }
+    return memcmp(&told.puzzle, &puzzle, sizeof puzzle) == 0;
+}
+
+static bool on_room(SendaiRoom room, const char *digits, int code) {
+    Stroke stroke = drawn(digits);
+    SendaiRoomAnswer told = sendai_room_stroke(room, stroke.entries, stroke.length);
+    if (told.code != code) return false;
+    if (code == SENDAI_ACCEPTED && stroke.length != 0) {
+        if (told.room.book.len != room.book.len + stroke.length) return false;
+        told = sendai_room_undo(told.room);
+    }
+    return same_room(told.room, room);
+}
+
+/* The record that a stroke leaves: the first name of a stroke is odd, and an undo takes the whole stroke. */
+static void strokes(void) {
+    const uint16_t ledger[] = {5, 3, 0, 0};
+    Stroke two = drawn("21");
+    SendaiBoard fresh = sendai_board_make(1, 4).board;
+    SendaiBoard one = sendai_board_decide(fresh, 2, true).board;
+    SendaiBoard board = sendai_board_stroke(one, two.entries, two.length).board;
+    CHECK(board.len == 3 && memcmp(board.ledger, ledger, sizeof ledger) == 0);
+    CHECK(board.states[0] == SENDAI_WALL && board.states[1] == SENDAI_CONNECTED && board.states[2] == SENDAI_WALL);
+    CHECK(sendai_board_check(board) == SENDAI_ACCEPTED);
+    CHECK(same_board(sendai_board_undo(board).board, one));
+    CHECK(same_board(sendai_board_undo(one).board, fresh));
+    CHECK(on_board(one, "", SENDAI_ACCEPTED) && on_board(one, "0", SENDAI_ACCEPTED) && on_board(one, "310", SENDAI_TWICE));
+
+    /* without the mark all three are one stroke, but the first name keeps its own */
+    board.ledger[1] = 2;
+    CHECK(sendai_board_check(board) == SENDAI_ACCEPTED && same_board(sendai_board_undo(board).board, fresh));
+    board.ledger[0] = 4;
+    CHECK(sendai_board_check(board) == SENDAI_RECORD && on_board(board, "", SENDAI_RECORD) && on_board(board, "88", SENDAI_RECORD));
+    board.width = 0;
+    CHECK(on_board(board, "", SENDAI_SIZES) && on_board(board, "88", SENDAI_SIZES));
+}
+
+/* Each question is put to the whole stroke before the next; an empty stroke is accepted and not kept. */
+static void stroke_questions(void) {
+    const uint16_t us[] = {0}, vs[] = {1}, given[] = {0}, clues[] = {SENDAI_NO_CLUE, SENDAI_NO_CLUE};
+    SendaiBoard board = sendai_board_make(1, 2).board;
+    SendaiPuzzle puzzle = plain(1, 2), walled = sendai_puzzle_make(1, 2, given, 1, clues, 2).puzzle;
+    SendaiRoom room = sendai_room_make(2, us, 1, vs, 1, 1).room;
+    const struct {
+        const char *stroke;
+        int fresh, drawn;
+    } told[] = {{"", 0, 0}, {"0", 0, 4}, {"1", 0, 4}, {"2", 3, 3}, {"00", 14, 14}, {"01", 14, 14}, {"02", 3, 3}, {"002", 3, 3}, {"220", 3, 3}};
+    SendaiBoard board_drawn = sendai_board_decide(board, 0, true).board;
+    SendaiPuzzle puzzle_drawn = sendai_puzzle_decide(puzzle, 0, true).puzzle;
+    SendaiRoom room_drawn = sendai_room_decide(room, 0, true).room;
+    for (size_t i = 0; i < sizeof told / sizeof *told; i++) {
+        CHECK(on_board(board, told[i].stroke, told[i].fresh) && on_board(board_drawn, told[i].stroke, told[i].drawn));
+        CHECK(on_puzzle(puzzle, told[i].stroke, told[i].fresh) && on_puzzle(puzzle_drawn, told[i].stroke, told[i].drawn));
+        CHECK(on_puzzle(walled, told[i].stroke, told[i].drawn));
+        CHECK(on_room(room, told[i].stroke, told[i].fresh) && on_room(room_drawn, told[i].stroke, told[i].drawn));
+    }
+    Stroke none = drawn("");
+    CHECK(same_board(sendai_board_undo(sendai_board_stroke(board_drawn, none.entries, 0).board).board, board));
+    CHECK(sendai_board_undo(sendai_board_stroke(board, none.entries, 0).board).code == SENDAI_EMPTY_LEDGER);
+    CHECK(sendai_puzzle_undo(sendai_puzzle_stroke(walled, none.entries, 0).puzzle).code == SENDAI_EMPTY_LEDGER);
+    CHECK(sendai_room_undo(sendai_room_stroke(room, none.entries, 0).room).code == SENDAI_EMPTY_LEDGER);
+}
+
+/* The largest board in one stroke, and strokes that are longer than it has borders. */
+static void long_strokes(void) {
+    static uint16_t entries[SENDAI_MAX_BORDERS + 1];
+    SendaiPuzzle fresh = plain(32, 32);
+    for (size_t i = 0; i < SENDAI_MAX_BORDERS; i++) entries[i] = (uint16_t)(2 * (SENDAI_MAX_BORDERS - 1 - i) + i % 2);
+    SendaiPuzzleAnswer all = sendai_puzzle_stroke(fresh, entries, SENDAI_MAX_BORDERS);
+    CHECK(all.code == SENDAI_ACCEPTED && all.puzzle.board.len == SENDAI_MAX_BORDERS && sendai_puzzle_check(all.puzzle) == SENDAI_ACCEPTED);
+    CHECK(all.puzzle.board.ledger[0] == 3967 && all.puzzle.board.ledger[1] == 3964 && all.puzzle.board.ledger[1983] == 0);
+    SendaiPuzzle undone = sendai_puzzle_undo(all.puzzle).puzzle;
+    CHECK(memcmp(&undone, &fresh, sizeof fresh) == 0);
+    CHECK(sendai_puzzle_stroke(fresh, entries, SENDAI_MAX_BORDERS + 1).code == SENDAI_TWICE);
+    entries[SENDAI_MAX_BORDERS] = 65535;
+    CHECK(sendai_puzzle_stroke(fresh, entries, SENDAI_MAX_BORDERS + 1).code == SENDAI_MISSING);
+    CHECK(sendai_board_stroke(fresh.board, entries, SENDAI_MAX_BORDERS + 1).code == SENDAI_MISSING);
+}
+
 static void rooms(void) {
     const uint16_t us[] = {0, 1}, vs[] = {1, 2}, fault[] = {1};
     const SendaiEdge edges[] = {{0, 1}, {1, 2}};
@@ -290,6 +411,9 @@ int main(void) {
     lists();
     puzzles();
     all_answers();
+    strokes();
+    stroke_questions();
+    long_strokes();
     rooms();
     unions();
     files();

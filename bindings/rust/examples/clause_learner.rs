@@ -5,28 +5,28 @@ use sendai::{hand_over, Puzzle, Refusal, State, MAX_LIST, NO_CLUE};
 /// "One of these holds": borders, each with whether it is a Wall.
 type Clause = Vec<(usize, bool)>;
 
+/// A border to be drawn, and whether as a Wall; a forced one with the clause that forced it, a chosen one without.
+type Step = (usize, bool, Option<usize>);
+
 struct Learner {
     puzzle: Puzzle,
     clauses: Vec<Clause>,
-    /// The decided borders in order; a forced one with the clause that forced it, a chosen one without.
-    trail: Vec<(usize, Option<usize>)>,
+    /// The strokes in order, as they stand on the puzzle. A chosen border is the first of its stroke.
+    trail: Vec<Vec<Step>>,
     asks: usize,
 }
 
 impl Learner {
     /// How many right boards there are.
     fn count(&mut self) -> Result<usize, Refusal> {
-        let mut found = 0;
+        let (mut found, mut chosen) = (0, None);
         loop {
-            let clause = if let Some(clause) = self.broken() {
+            let clause = if let Some(clause) = self.draw(chosen.take())? {
                 clause
-            } else if let Some((border, wall, reason)) = self.forced() {
-                self.decide(border, wall, Some(reason))?;
-                continue;
             } else if let Some(clause) = self.ask()? {
                 clause
             } else if let Some(border) = self.open() {
-                self.decide(border, true, None)?;
+                chosen = Some(border);
                 continue;
             } else {
                 // a right board: its clause asks for any other
@@ -44,9 +44,22 @@ impl Learner {
         self.puzzle.states().position(|state| state == State::Undecided)
     }
 
-    fn decide(&mut self, border: usize, wall: bool, clause: Option<usize>) -> Result<(), Refusal> {
-        self.trail.push((border, clause));
-        self.puzzle.decide(border, wall)
+    /// Draws a chosen border as a Wall, and all that the clauses force then, in one stroke; the clause that is broken by it, if one is.
+    fn draw(&mut self, chosen: Option<usize>) -> Result<Option<Clause>, Refusal> {
+        let mut stroke: Vec<Step> = chosen.map(|border| (border, true, None)).into_iter().collect();
+        let broken = loop {
+            if let Some(clause) = self.broken(&stroke) {
+                break Some(clause);
+            }
+            let Some(step) = self.forced(&stroke) else { break None };
+            stroke.push(step);
+        };
+        self.puzzle.stroke(&stroke.iter().map(|&(border, wall, _)| (border, wall)).collect::<Vec<_>>())?;
+        // an empty stroke is accepted, but there is nothing to undo then
+        if !stroke.is_empty() {
+            self.trail.push(stroke);
+        }
+        Ok(broken)
     }
 
     /// Asks, hands the list over and turns it into a clause: one of the listed borders is otherwise. A given wall never is.
@@ -59,28 +72,33 @@ impl Learner {
         Ok(Some(listed.filter(|&(border, _)| !given(border)).map(|(border, wall)| (border, !wall)).collect()))
     }
 
-    /// Undoes decisions until the clause's last border is open again. A forced border gives way to the rest of the clause that forced
-    /// it, so the one that stays open was chosen, and the clause forces it next. `false`: no board is left.
+    /// Undoes strokes until the clause's last border is open again. A forced border gives way to the rest of the clause that forced it,
+    /// so the one that stays open was chosen, and the clause forces it next. `false`: no board is left.
     fn learn(&mut self, mut clause: Clause) -> Result<bool, Refusal> {
-        while let Some((border, forced)) = self.trail.pop() {
+        while let Some(stroke) = self.trail.pop() {
             self.puzzle.undo()?;
-            if !clause.iter().any(|literal| literal.0 == border) {
-                continue;
+            for (border, _, forced) in stroke.into_iter().rev() {
+                if !clause.iter().any(|literal| literal.0 == border) {
+                    continue;
+                }
+                let Some(reason) = forced else {
+                    self.clauses.push(clause);
+                    return Ok(true);
+                };
+                clause.extend(&self.clauses[reason]);
+                clause.retain(|literal| literal.0 != border);
+                clause.sort();
+                clause.dedup();
             }
-            let Some(reason) = forced else {
-                self.clauses.push(clause);
-                return Ok(true);
-            };
-            clause.extend(&self.clauses[reason]);
-            clause.retain(|literal| literal.0 != border);
-            clause.sort();
-            clause.dedup();
         }
         Ok(false)
     }
 
-    /// Whether a literal holds, `None` while its border is undecided.
-    fn holds(&self, (border, wall): (usize, bool)) -> Option<bool> {
+    /// Whether a literal holds once the stroke is drawn, `None` while its border is undecided.
+    fn holds(&self, stroke: &[Step], (border, wall): (usize, bool)) -> Option<bool> {
+        if let Some(step) = stroke.iter().find(|step| step.0 == border) {
+            return Some(step.1 == wall);
+        }
         match self.puzzle.state(border)? {
             State::Undecided => None,
             state => Some((state == State::Wall) == wall),
@@ -88,16 +106,16 @@ impl Learner {
     }
 
     /// A clause of which no literal holds or is open.
-    fn broken(&self) -> Option<Clause> {
-        self.clauses.iter().find(|clause| clause.iter().all(|&literal| self.holds(literal) == Some(false))).cloned()
+    fn broken(&self, stroke: &[Step]) -> Option<Clause> {
+        self.clauses.iter().find(|clause| clause.iter().all(|&literal| self.holds(stroke, literal) == Some(false))).cloned()
     }
 
     /// The one open literal of a clause whose others don't hold, and the clause.
-    fn forced(&self) -> Option<(usize, bool, usize)> {
+    fn forced(&self, stroke: &[Step]) -> Option<Step> {
         self.clauses.iter().enumerate().find_map(|(number, clause)| {
-            let mut left = clause.iter().filter(|&&literal| self.holds(literal) != Some(false));
+            let mut left = clause.iter().filter(|&&literal| self.holds(stroke, literal) != Some(false));
             match (left.next(), left.next()) {
-                (Some(&open), None) if self.holds(open).is_none() => Some((open.0, open.1, number)),
+                (Some(&open), None) if self.holds(stroke, open).is_none() => Some((open.0, open.1, Some(number))),
                 _ => None,
             }
         })
@@ -184,7 +202,7 @@ fn main() -> Result<(), Refusal> {
         let mut learner = Learner { puzzle, clauses: vec![], trail: vec![], asks: 0 };
         let found = learner.count()?;
         assert_eq!(found, laws::count(height, width, given, clues), "the learner lost a board, or took a wrong one");
-        // every decision is undone by now, and the checker's own search finds as many
+        // every stroke is undone by now, and the checker's own search finds as many
         let mut boards = vec![0; learner.puzzle.boards_len(found)?];
         let right = learner.puzzle.right_boards(found, &mut boards)?;
         assert_eq!((right.len(), right.more()), (found, false), "all answers are others");

@@ -1,8 +1,8 @@
 use crate::groups::Groups;
-use crate::{accepted, judged, listed, sys, Check, Fault, Refusal, State};
+use crate::{accepted, judged, lend, listed, sys, Check, Fault, Refusal, State};
 use std::fmt;
 
-/// A board: each border undecided, Connected or a Wall, and the decided ones in order.
+/// A board: each border undecided, Connected or a Wall, and the decided ones in order, stroke by stroke.
 ///
 /// ```
 /// use sendai::{Board, State};
@@ -30,12 +30,31 @@ impl Board {
         accepted(made.code).map(|()| Board(made.board))
     }
 
-    /// Decides a border as Wall or Connected. Refused: `Missing`, `Decided`; the board is then as it was.
+    /// Decides a border as Wall or Connected: a stroke of one. Refused: `Missing`, `Decided`; the board is then as it was.
     pub fn decide(&mut self, border: usize, wall: bool) -> Result<(), Refusal> {
         accepted(sys::sendai_board_decide_in_place(&mut self.0, border, wall))
     }
 
-    /// Takes the last decision back. Refused: `EmptyLedger`; the board is then as it was.
+    /// Decides several borders, each as Wall (`true`) or Connected, in one stroke: all or none. An empty stroke is accepted and not
+    /// kept. Refused: `Missing`, `Twice`, `Decided`; the board is then as it was.
+    ///
+    /// ```
+    /// # use sendai::{Board, Refusal};
+    /// let mut board = Board::make(1, 4)?;
+    /// board.decide(0, true)?;
+    /// assert_eq!(board.stroke(&[(1, false), (0, false)]), Err(Refusal::Decided));
+    /// board.stroke(&[(1, false), (2, true)])?;
+    /// assert!(board.ledger().eq([(0, true), (1, false), (2, true)]));
+    /// board.undo()?;                                   // the whole stroke
+    /// assert!(board.ledger().eq([(0, true)]));
+    /// # Ok::<(), sendai::Refusal>(())
+    /// ```
+    pub fn stroke(&mut self, stroke: &[(usize, bool)]) -> Result<(), Refusal> {
+        // SAFETY: the entries live through the call.
+        accepted(lend(stroke, |entries, length| unsafe { sys::sendai_board_stroke_in_place(&mut self.0, entries, length) }))
+    }
+
+    /// Takes the last stroke back, all of it. Refused: `EmptyLedger`; the board is then as it was.
     pub fn undo(&mut self) -> Result<(), Refusal> {
         accepted(sys::sendai_board_undo_in_place(&mut self.0))
     }
@@ -44,6 +63,13 @@ impl Board {
     pub fn decided(&self, border: usize, wall: bool) -> Result<Board, Refusal> {
         let decided = sys::sendai_board_decide(self.0, border, wall);
         accepted(decided.code).map(|()| Board(decided.board))
+    }
+
+    /// [`stroke`](Board::stroke) on a copy.
+    pub fn stroked(&self, stroke: &[(usize, bool)]) -> Result<Board, Refusal> {
+        // SAFETY: the entries live through the call.
+        let stroked = lend(stroke, |entries, length| unsafe { sys::sendai_board_stroke(self.0, entries, length) });
+        accepted(stroked.code).map(|()| Board(stroked.board))
     }
 
     /// [`undo`](Board::undo) on a copy.
@@ -93,6 +119,11 @@ impl Board {
     /// The decided borders in order, each with whether it is a Wall.
     pub fn ledger(&self) -> impl Iterator<Item = (usize, bool)> + '_ {
         ledger(&self.0)
+    }
+
+    /// How many strokes stand: so many undos empty the ledger.
+    pub fn strokes(&self) -> usize {
+        strokes(&self.0.ledger[..self.0.len])
     }
 
     /// The shape check: `None` where it is clear. Refused: `ShortBuffer` ([`list_len`](Board::list_len)).
@@ -169,7 +200,12 @@ pub(crate) fn ledger(board: &sys::Board) -> impl Iterator<Item = (usize, bool)> 
     decisions(&board.ledger[..board.len], &board.states)
 }
 
-/// The ledger's borders, or edges, each with whether it is a Wall.
+/// The borders, or edges, that a ledger's names are about, each with whether it is a Wall.
 pub(crate) fn decisions<'a>(ledger: &'a [u16], states: &'a [u8]) -> impl Iterator<Item = (usize, bool)> + 'a {
-    ledger.iter().map(|&border| (usize::from(border), states[usize::from(border)] == 2))
+    ledger.iter().map(|&name| usize::from(name / 2)).map(|border| (border, states[border] == 2))
+}
+
+/// How many strokes a ledger has: the first name of each is odd.
+pub(crate) fn strokes(ledger: &[u16]) -> usize {
+    ledger.iter().filter(|&name| name % 2 == 1).count()
 }

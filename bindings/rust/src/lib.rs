@@ -1,8 +1,9 @@
 //! The Sendai border checker: a safe interface to its proved calls.
 //!
-//! A solver decides the borders of a Sendai grid one by one. An ask says whether the borders decided so far can all hold, and where
-//! they can't it lists some of them that can't: a clause, once each is negated. [`Puzzle::right_boards`] finds every answer of a
-//! started grid, and whether it has just one. [`generate_case`] makes a case file from a seed, the same each time.
+//! A solver decides the borders of a Sendai grid, one by one or several in one stroke, which one undo takes back. An ask says whether
+//! the borders decided so far can all hold, and where they can't it lists some of them that can't: a clause, once each is negated.
+//! [`Puzzle::right_boards`] finds every answer of a started grid, and whether it has just one. [`generate_case`] makes a case file from
+//! a seed, the same each time.
 //!
 //! ```
 //! use sendai::{hand_over, Check, Puzzle, NO_CLUE};
@@ -23,6 +24,12 @@
 //!
 //! puzzle.undo()?;
 //! assert_eq!(puzzle.ask(&mut list)?, None);                // clear again
+//!
+//! puzzle.undo()?;
+//! puzzle.stroke(&borders)?;                                // the same two borders in one stroke: both or none
+//! assert!(puzzle.ask(&mut list)?.is_some());
+//! puzzle.undo()?;                                          // takes both back
+//! assert_eq!(puzzle.undecided(), 2);
 //! # Ok::<(), sendai::Refusal>(())
 //! ```
 //!
@@ -125,6 +132,17 @@ impl<'b> Fault<'b> {
 /// ```
 pub fn entry(border: usize, wall: bool) -> Option<u16> {
     (border < MAX_BORDERS).then(|| 2 * border as u16 + u16::from(wall))
+}
+
+/// Lends a call the entries of a stroke. Entries from the 1,985th on are put together to the greatest: so long a stroke is refused in any
+/// case, because a border is missing if the greatest is, else because one stands twice. A border beyond all is one that no record has.
+fn lend<T>(stroke: &[(usize, bool)], call: impl FnOnce(*const u16, usize) -> T) -> T {
+    let mut entries = [0; MAX_BORDERS + 1];
+    for (at, &(border, wall)) in stroke.iter().enumerate() {
+        let place = &mut entries[at.min(MAX_BORDERS)];
+        *place = entry(border, wall).unwrap_or(u16::MAX).max(*place);
+    }
+    call(entries.as_ptr(), stroke.len().min(entries.len()))
 }
 
 /// What a list says: each border, and whether it is listed as a Wall.

@@ -1,4 +1,4 @@
-use crate::{accepted, board, sys, Board, Check, Fault, Refusal, RightBoards, State, MAX_UNDECIDED};
+use crate::{accepted, board, lend, sys, Board, Check, Fault, Refusal, RightBoards, State, MAX_UNDECIDED};
 use std::fmt;
 
 /// A puzzle: a board, its given walls and a clue for each room. Rooms are the parts into which the given walls cut the board, numbered
@@ -35,12 +35,20 @@ impl Puzzle {
         accepted(answer.code)
     }
 
-    /// Decides a border as Wall or Connected. Refused: `Missing`, `Decided` (a given wall, too); the puzzle is then as it was.
+    /// Decides a border as Wall or Connected: a stroke of one. Refused: `Missing`, `Decided` (a given wall, too); the puzzle is then as
+    /// it was.
     pub fn decide(&mut self, border: usize, wall: bool) -> Result<(), Refusal> {
         self.put(sys::sendai_puzzle_decide(self.0, border, wall))
     }
 
-    /// Takes the last decision back. Refused: `EmptyLedger`; the puzzle is then as it was.
+    /// Decides several borders, each as Wall (`true`) or Connected, in one stroke: all or none. An empty stroke is accepted and not
+    /// kept. Refused: `Missing`, `Twice`, `Decided` (a given wall, too); the puzzle is then as it was.
+    pub fn stroke(&mut self, stroke: &[(usize, bool)]) -> Result<(), Refusal> {
+        // SAFETY: the entries live through the call.
+        self.put(lend(stroke, |entries, length| unsafe { sys::sendai_puzzle_stroke(self.0, entries, length) }))
+    }
+
+    /// Takes the last stroke back, all of it. Refused: `EmptyLedger`; the puzzle is then as it was.
     pub fn undo(&mut self) -> Result<(), Refusal> {
         self.put(sys::sendai_puzzle_undo(self.0))
     }
@@ -139,6 +147,11 @@ impl Puzzle {
     /// The decided borders in order, each with whether it is a Wall. Given walls are none of them.
     pub fn ledger(&self) -> impl Iterator<Item = (usize, bool)> + '_ {
         board::ledger(&self.0.board)
+    }
+
+    /// How many strokes stand: so many undos empty the ledger.
+    pub fn strokes(&self) -> usize {
+        board::strokes(&self.0.board.ledger[..self.0.board.len])
     }
 
     /// The given walls, rising.

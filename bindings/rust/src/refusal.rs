@@ -1,7 +1,7 @@
 use std::fmt;
 
-/// Why a call was refused: the question that was answered no, first in this order, but 11 put first, 13 after 1 and 12 between 2 and 6.
-/// `as u8` gives its number.
+/// Why a call was refused: the question that was answered no, first in this order, but 11 put first, 13 after 1, 12 between 2 and 6 and
+/// 14 between 3 and 4. Each is put to a whole stroke before the next. `as u8` gives its number.
 ///
 /// ```
 /// use sendai::{Board, Refusal};
@@ -18,7 +18,7 @@ pub enum Refusal {
     Record = 2,
     /// Does every border, cell, vertex or group named exist?
     Missing = 3,
-    /// Decide: is the border undecided? A given wall is not.
+    /// Decide, stroke: is every border undecided? A given wall is not.
     Decided = 4,
     /// Undo: is the ledger non-empty?
     EmptyLedger = 5,
@@ -38,10 +38,12 @@ pub enum Refusal {
     ManyUndecided = 12,
     /// A case file from a seed: is the seed not 0?
     ZeroSeed = 13,
+    /// Stroke: does no border stand twice in it, whatever the values?
+    Twice = 14,
 }
 
 impl Refusal {
-    const ALL: [Refusal; 13] = [
+    const ALL: [Refusal; 14] = [
         Refusal::Sizes,
         Refusal::Record,
         Refusal::Missing,
@@ -55,6 +57,7 @@ impl Refusal {
         Refusal::File,
         Refusal::ManyUndecided,
         Refusal::ZeroSeed,
+        Refusal::Twice,
     ];
 
     /// The refusal with this number.

@@ -1,4 +1,4 @@
-use crate::{accepted, board, judged, sys, Edge, Refusal, State};
+use crate::{accepted, board, judged, lend, sys, Edge, Refusal, State};
 use std::fmt;
 
 /// A room graph: vertices, edges that are undecided, Connected or a Wall, and how many parts the Connected ones are to leave.
@@ -40,12 +40,19 @@ impl RoomGraph {
         accepted(answer.code)
     }
 
-    /// Decides an edge as Wall or Connected. Refused: `Missing`, `Decided`; the graph is then as it was.
+    /// Decides an edge as Wall or Connected: a stroke of one. Refused: `Missing`, `Decided`; the graph is then as it was.
     pub fn decide(&mut self, edge: usize, wall: bool) -> Result<(), Refusal> {
         self.put(sys::sendai_room_decide(self.0, edge, wall))
     }
 
-    /// Takes the last decision back. Refused: `EmptyLedger`; the graph is then as it was.
+    /// Decides several edges, each as Wall (`true`) or Connected, in one stroke: all or none. An empty stroke is accepted and not kept.
+    /// Refused: `Missing`, `Twice`, `Decided`; the graph is then as it was.
+    pub fn stroke(&mut self, stroke: &[(usize, bool)]) -> Result<(), Refusal> {
+        // SAFETY: the entries live through the call.
+        self.put(lend(stroke, |entries, length| unsafe { sys::sendai_room_stroke(self.0, entries, length) }))
+    }
+
+    /// Takes the last stroke back, all of it. Refused: `EmptyLedger`; the graph is then as it was.
     pub fn undo(&mut self) -> Result<(), Refusal> {
         self.put(sys::sendai_room_undo(self.0))
     }
@@ -94,6 +101,11 @@ impl RoomGraph {
     /// The decided edges in order, each with whether it is a Wall.
     pub fn ledger(&self) -> impl Iterator<Item = (usize, bool)> + '_ {
         board::decisions(&self.0.book.ledger[..self.0.book.len], &self.0.book.states)
+    }
+
+    /// How many strokes stand: so many undos empty the ledger.
+    pub fn strokes(&self) -> usize {
+        board::strokes(&self.0.book.ledger[..self.0.book.len])
     }
 }
 

@@ -15,6 +15,7 @@ macro_rules! records {
 }
 
 records! {
+    /// The ledger's first `len` places name the decided borders in order: 2 · border + 1 for the first of a stroke, 2 · border for the others.
     Board, 5976 {
         height: usize = 0,
         width: usize = 8,
@@ -34,7 +35,7 @@ records! {
         u: u16 = 0,
         v: u16 = 2,
     }
-    /// States and ledger of a room graph's edges.
+    /// States and ledger of a room graph's edges, named as a board's borders.
     Book, 5960 {
         states: [u8; 1984] = 0,
         ledger: [u16; 1984] = 1984,
@@ -151,8 +152,10 @@ unsafe extern "C" {
     pub safe fn sendai_board_make(height: usize, width: usize) -> BoardAnswer;
     pub safe fn sendai_board_check(board: Board) -> u8;
     pub safe fn sendai_board_decide(board: Board, border: usize, wall: bool) -> BoardAnswer;
+    pub fn sendai_board_stroke(board: Board, entries: *const u16, length: usize) -> BoardAnswer;
     pub safe fn sendai_board_undo(board: Board) -> BoardAnswer;
     pub safe fn sendai_board_decide_in_place(board: &mut Board, border: usize, wall: bool) -> u8;
+    pub fn sendai_board_stroke_in_place(board: &mut Board, entries: *const u16, length: usize) -> u8;
     pub safe fn sendai_board_undo_in_place(board: &mut Board) -> u8;
     pub fn sendai_board_ask(board: Board, buffer: *mut u16, length: usize) -> Answer;
     pub fn sendai_groups(board: Board, is_potential: bool, buffer: *mut u16, length: usize) -> Grouping;
@@ -178,6 +181,7 @@ unsafe extern "C" {
     ) -> PuzzleAnswer;
     pub safe fn sendai_puzzle_check(puzzle: Puzzle) -> u8;
     pub safe fn sendai_puzzle_decide(puzzle: Puzzle, border: usize, wall: bool) -> PuzzleAnswer;
+    pub fn sendai_puzzle_stroke(puzzle: Puzzle, entries: *const u16, length: usize) -> PuzzleAnswer;
     pub safe fn sendai_puzzle_undo(puzzle: Puzzle) -> PuzzleAnswer;
     pub fn sendai_puzzle_ask(puzzle: Puzzle, buffer: *mut u16, length: usize) -> Outcome;
     pub fn sendai_puzzle_right_boards(puzzle: Puzzle, cap: usize, buffer: *mut u8, length: usize) -> Boards;
@@ -193,6 +197,7 @@ unsafe extern "C" {
     pub fn sendai_room_make_of_edges(vertices: usize, edges: *const Edge, length: usize, count: u32) -> RoomAnswer;
     pub safe fn sendai_room_check(room: Room) -> u8;
     pub safe fn sendai_room_decide(room: Room, edge: usize, wall: bool) -> RoomAnswer;
+    pub fn sendai_room_stroke(room: Room, entries: *const u16, length: usize) -> RoomAnswer;
     pub safe fn sendai_room_undo(room: Room) -> RoomAnswer;
     pub fn sendai_room_ask(room: Room, buffer: *mut u16, length: usize) -> Answer;
 

@@ -7,6 +7,7 @@ mod generated;
 mod paper;
 mod refusals;
 mod right_boards;
+mod strokes;
 
 use crate::{Board, Refusal};
 

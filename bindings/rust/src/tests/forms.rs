@@ -2,7 +2,7 @@
 use super::Drawn;
 use crate::{Board, Edge, Refusal, RoomGraph, State};
 
-/// Decide and undo on the board where it is, beside the same by value, on drawn calls, refused ones included.
+/// Decide, stroke and undo on the board where it is, beside the same by value, on drawn calls, refused ones included.
 #[test]
 fn in_place_as_by_value() {
     let mut drawn = Drawn(1);
@@ -10,9 +10,14 @@ fn in_place_as_by_value() {
         let mut lent = Board::make(size.0, size.1).unwrap();
         let mut by_value = lent.clone();
         for _ in 0..300 {
-            let (border, kind) = (drawn.below(lent.borders() + 2), drawn.below(5));
-            let next = if kind < 2 { by_value.undone() } else { by_value.decided(border, kind == 2) };
-            let told = if kind < 2 { lent.undo() } else { lent.decide(border, kind == 2) };
+            let (border, kind) = (drawn.below(lent.borders() + 2), drawn.below(7));
+            let stroke = [(border, true), (drawn.below(lent.borders() + 1), false), (drawn.below(lent.borders() + 1), true)];
+            let stroke = &stroke[..drawn.below(4)];
+            let (next, told) = match kind {
+                0 | 1 => (by_value.undone(), lent.undo()),
+                2 | 3 => (by_value.decided(border, kind == 2), lent.decide(border, kind == 2)),
+                _ => (by_value.stroked(stroke), lent.stroke(stroke)),
+            };
             assert_eq!(told, next.clone().map(drop));
             by_value = next.unwrap_or(by_value);
             assert_eq!(lent, by_value);

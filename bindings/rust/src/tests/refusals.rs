@@ -14,6 +14,9 @@ fn kept<R: Clone + PartialEq + Debug, T: Debug>(number: u8, record: &R, call: im
 /// A change that spoils a record, and the number by which every call then refuses it.
 type Damage<R> = (u8, fn(&mut R));
 
+/// Strokes for records that are refused whatever the stroke: empty, good, and bad in each way.
+const STROKES: [&[(usize, bool)]; 5] = [&[], &[(0, true)], &[(0, true), (0, true)], &[(1, true)], &[(usize::MAX, true)]];
+
 /// A refused making.
 fn not_made<R: Debug>(number: u8, made: Result<R, Refusal>) {
     assert_eq!(made.unwrap_err() as u8, number);
@@ -32,8 +35,9 @@ fn bad_boards() -> Vec<(u8, Board)> {
         with(1, |b| b.height = usize::MAX),
         with(2, |b| b.states[1] = 3),
         with(2, |b| b.states[0] = 1),
-        with(2, |b| b.ledger[0] = 4),
-        with(2, |b| b.ledger[0] = 7),
+        with(2, |b| b.ledger[0] = 9),
+        with(2, |b| b.ledger[0] = 15),
+        with(2, |b| b.ledger[0] = 2),
         with(2, |b| b.len = 1),
         with(2, |b| b.len = usize::MAX),
     ]
@@ -55,6 +59,10 @@ fn boards() {
         kept(number, &bad, |b| b.decide(0, true));
         kept(number, &bad, |b| b.undo());
         kept(number, &bad, |b| b.check());
+        for stroke in STROKES {
+            kept(number, &bad, |b| b.stroke(stroke));
+            assert_eq!(bad.stroked(stroke).unwrap_err() as u8, number);
+        }
         assert_eq!(sys::sendai_board_decide(bad.0, 0, true), sys::BoardAnswer { code: number, board: bad.0 });
         assert_eq!(sys::sendai_board_undo(bad.0), sys::BoardAnswer { code: number, board: bad.0 });
     }
@@ -128,6 +136,7 @@ fn puzzles() {
         assert_eq!(bad.check().unwrap_err() as u8, number);
         assert_eq!(sys::sendai_puzzle_decide(bad.0, 0, true), sys::PuzzleAnswer { code: number, puzzle: bad.0 });
         assert_eq!(sys::sendai_puzzle_undo(bad.0), sys::PuzzleAnswer { code: number, puzzle: bad.0 });
+        STROKES.iter().for_each(|stroke| kept(number, &bad, |p| p.stroke(stroke)));
         refused(number, 36, |buffer| bad.ask(buffer).map(drop));
     }
 }
@@ -146,12 +155,13 @@ fn room_graphs() {
     let mut decided = good.clone();
     decided.decide(0, true).unwrap();
     kept(4, &decided, |r| r.decide(0, true));
-    let damages: [Damage<sys::Room>; 5] = [
+    let damages: [Damage<sys::Room>; 6] = [
         (1, |r| r.vertices = 1025),
         (1, |r| r.edges = 1985),
         (2, |r| r.vs[1] = 3),
         (2, |r| r.book.states[1] = 1),
         (2, |r| r.book.len = usize::MAX),
+        (2, |r| r.book.ledger[0] = 0),
     ];
     for (number, damage) in damages {
         let mut bad = decided.clone();
@@ -159,6 +169,7 @@ fn room_graphs() {
         assert_eq!(bad.check().unwrap_err() as u8, number);
         assert_eq!(sys::sendai_room_decide(bad.0, 1, true), sys::RoomAnswer { code: number, room: bad.0 });
         assert_eq!(sys::sendai_room_undo(bad.0), sys::RoomAnswer { code: number, room: bad.0 });
+        STROKES.iter().for_each(|stroke| kept(number, &bad, |r| r.stroke(stroke)));
         refused(number, 2, |buffer| bad.ask(buffer).map(drop));
     }
 }
@@ -186,11 +197,11 @@ fn the_rest() {
     assert_eq!(neighbour(0, 3, 0, Direction::Up), Err(Refusal::Sizes));
     assert_eq!(neighbour(2, 3, 6, Direction::Up), Err(Refusal::Missing));
     assert_eq!(
-        (1..=13).filter_map(Refusal::from_number).map(|refusal| refusal as u8).collect::<Vec<_>>(),
-        Vec::from_iter(1..=13)
+        (1..=14).filter_map(Refusal::from_number).map(|refusal| refusal as u8).collect::<Vec<_>>(),
+        Vec::from_iter(1..=14)
     );
     assert_eq!(Refusal::from_number(0), None);
-    assert_eq!(Refusal::from_number(14), None);
+    assert_eq!(Refusal::from_number(15), None);
 }
 
 /// "A refused making returns a record whose every number is 0", and so does a refused grouping.
