@@ -4,6 +4,7 @@ mod loads;
 mod paper;
 mod searches;
 mod stack;
+mod strokes;
 
 use crate::boards::{Standing, CONNECTED, UNDECIDED, WALL};
 use crate::random::Random;
@@ -160,6 +161,15 @@ fn goals(
     text
 }
 
+/// The most stack of each call.
+fn stacks() -> Vec<(String, usize)> {
+    let mut stacks = calls::stacks(&boards(32), &puzzles(32));
+    stacks.extend(strokes::stacks());
+    stacks.push(("right boards, 24 borders undecided".into(), searches::stack()));
+    stacks.push(("a case file drawn from a seed".into(), loads::stack()));
+    stacks
+}
+
 const PAPER: &str = concat!(env!("CARGO_MANIFEST_DIR"), "/../docs/PERFORMANCE.md");
 
 pub fn run() {
@@ -170,12 +180,11 @@ pub fn run() {
     let others = calls::others();
     let (columns, on_boards) = calls::on_boards(&boards(32));
     let turns = calls::decide_and_undo(&boards(32), &eight);
+    let stroked = strokes::all();
     let searched = searches::all();
     let generated = loads::generated();
     let runs = loads::runs();
-    let mut stacks = calls::stacks(&boards(32), &puzzles(32));
-    stacks.push(("right boards, 24 borders undecided".into(), searches::stack()));
-    stacks.push(("a case file drawn from a seed".into(), loads::stack()));
+    let stacks = stacks();
     let asked = rooms.iter().map(|row| (format!("room check, {}", row.name), row.times));
     let mut all: Vec<(String, Pair)> = grown
         .iter()
@@ -189,6 +198,7 @@ pub fn run() {
     let text = format!(
         "{HEAD}\n## Goals\n\n{}\n{WHY}\n## Asks at 32 by 32\n\n{}\n## How an ask grows\n\nThe port's µs, and the ratio in brackets.\n\n{}\n\
          ## The other calls on the eight boards, 32 by 32\n\n{OTHER_CALLS}\n{}\n## Decide and undo\n\n{DECIDES}\n{}\n\
+         ## Several borders in one stroke\n\n{STROKES}\n{}\n\
          ## All right boards of a started grid\n\n{SEARCHES}\n{}\n## A repeatable load\n\n{LOADS}\n{}\n{}\n\
          ## Rooms, unions, hand-over\n\n{ROOMS}\n{}\n{}\n## Stack\n\n{STACK}\n| call | KB |\n|---|---|\n{stack_lines}",
         goals(&all, eight[0].1, &turns, &searched, &stacks),
@@ -196,6 +206,7 @@ pub fn run() {
         paper::grid("ask", &sides, &grown),
         paper::grid("board", &columns, &on_boards),
         paper::pairs("a decide and an undo", &turned),
+        strokes::table(&stroked),
         searches::table(&searched),
         loads::generated_table(&generated),
         loads::runs_table(&runs),
@@ -226,7 +237,13 @@ the largest unit or potential unit. A boundary call of the port groups the board
 ";
 
 const DECIDES: &str = "Each call of the port puts question 2 to the whole record and moves it by value (6 KB for a board, 12 KB for a puzzle), where the Rust
-changes one place. The calls in place are thin ones over those by value. On a full board the first border is left open.
+changes one place. The calls in place are thin ones over those by value. On a full board the first border is left open. A decide is a stroke
+of one.
+";
+
+const STROKES: &str = "The Rust has no stroke: beside it stand as many single decides of the port, and beside its undo as many undos. The stroke has 16 of the
+undecided borders in any order; of all borders two thirds are drawn. A stroke puts question 2 to the record and moves it once, whatever its
+length, where single decides do both each time. Each time begins with a copy of the record. The puzzles have one room and no clue.
 ";
 
 const SEARCHES: &str = "Each grid has 24 undecided borders, and all right boards over it are written. The search asks on each board that it comes by, and

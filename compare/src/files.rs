@@ -1,6 +1,7 @@
 //! Case files by SPEC 5: what a file says, what is printed for it, and files to compare on, sound and damaged.
 use crate::answers::Answer;
 use crate::boards::Standing;
+use crate::ledger;
 use crate::port::PuzzleRecord;
 use crate::puzzles::{self, Making};
 use crate::random::Random;
@@ -177,7 +178,8 @@ pub fn printed(case: Option<&Case>) -> Result<(Vec<Line>, PuzzleRecord), u8> {
     }
     let mut rust = Puzzle::new(height, width, &making.walls(), &making.clues, true)?;
     let lines = calls.iter().map(|&call| line(&mut rust, call)).collect();
-    Ok((lines, PuzzleRecord::of(size, &rust.states(), &rust.ledger(), &making.given, &making.clues)))
+    let names = ledger::singles(&rust.ledger());
+    Ok((lines, PuzzleRecord::of(size, &rust.states(), &names, &making.given, &making.clues)))
 }
 
 /// The same as text.

@@ -11,10 +11,14 @@ pub mod path;
 pub mod puzzle;
 pub mod right_boards;
 pub mod shape;
+pub mod strokes;
 pub mod union_find;
 
 use crate::boards::{self, Standing};
+use crate::ledger::entry;
+use crate::port::Record;
 use crate::random::Random;
+use crate::runs::{Call, Turn};
 use crate::tally::Tally;
 use std::time::{Duration, Instant};
 
@@ -34,7 +38,7 @@ pub struct Layer {
     pub run: fn(&Limits) -> Tally,
 }
 
-pub const LAYERS: [Layer; 13] = [
+pub const LAYERS: [Layer; 14] = [
     Layer { name: "numbering", run: numbering::run },
     Layer { name: "board", run: board::run },
     Layer { name: "groups", run: groups::run },
@@ -44,6 +48,7 @@ pub const LAYERS: [Layer; 13] = [
     Layer { name: "union_find", run: union_find::run },
     Layer { name: "city_count", run: city_count::run },
     Layer { name: "puzzle", run: puzzle::run },
+    Layer { name: "strokes", run: strokes::run },
     Layer { name: "right_boards", run: right_boards::run },
     Layer { name: "hand_over", run: hand_over::run },
     Layer { name: "files", run: files::run },
@@ -56,6 +61,14 @@ fn until(time: Duration, mut step: impl FnMut()) {
     while began.elapsed() < time {
         step();
     }
+}
+
+/// A single decide is a stroke of one: from the same record it gives the same answer and leaves the same record.
+fn stroke_of_one<R: Record>(tally: &mut Tally, mut from: R, turn: &Turn, told: (Result<(), u8>, R), on: impl FnOnce() -> String) {
+    let Turn::Single(Call::Decide { border, wall }) = *turn else { return };
+    let Some(entry) = entry(border, wall) else { return };
+    let answer = from.stroke(&[entry]);
+    tally.same(&(told.0, true), &(answer, from == told.1), on);
 }
 
 /// Sizes at which structured boards are tried.

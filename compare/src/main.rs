@@ -8,6 +8,7 @@ mod files;
 mod findings;
 mod generator;
 mod layers;
+mod ledger;
 mod port;
 mod puzzles;
 mod random;

@@ -4,10 +4,13 @@
 pub mod file;
 mod lent;
 mod puzzle;
+mod record;
 
 use crate::answers::Groups;
+use crate::ledger::singles;
 pub use lent::{generate_in, hand_over_in, run_in};
 pub use puzzle::{Puzzle, PuzzleRecord};
+pub use record::{InPlace, Record};
 
 /// The exported functions and records, as crates/exports declares them.
 mod c {
@@ -196,15 +199,19 @@ mod c {
         pub safe fn sendai_board_check(board: Board) -> u8;
         pub safe fn sendai_board_decide_in_place(board: &mut Board, border: usize, wall: bool) -> u8;
         pub safe fn sendai_board_undo_in_place(board: &mut Board) -> u8;
+        pub fn sendai_board_stroke(board: Board, entries: *const u16, length: usize) -> Decided;
+        pub fn sendai_board_stroke_in_place(board: &mut Board, entries: *const u16, length: usize) -> u8;
         pub safe fn sendai_union_new(n: usize) -> Made;
         pub safe fn sendai_union_find(union: UnionFind, x: usize) -> Found;
         pub safe fn sendai_union_unite(union: UnionFind, x: usize, y: usize) -> United;
         pub safe fn sendai_room_check(room: CityCountConstraint) -> u8;
         pub safe fn sendai_room_decide(room: CityCountConstraint, edge: usize, wall: bool) -> RoomDecided;
         pub safe fn sendai_room_undo(room: CityCountConstraint) -> RoomDecided;
+        pub fn sendai_room_stroke(room: CityCountConstraint, entries: *const u16, length: usize) -> RoomDecided;
         pub safe fn sendai_puzzle_check(puzzle: Puzzle) -> u8;
         pub safe fn sendai_puzzle_decide(puzzle: Puzzle, border: usize, wall: bool) -> PuzzleMade;
         pub safe fn sendai_puzzle_undo(puzzle: Puzzle) -> PuzzleMade;
+        pub fn sendai_puzzle_stroke(puzzle: Puzzle, entries: *const u16, length: usize) -> PuzzleMade;
         pub fn sendai_puzzle_make(
             height: usize,
             width: usize,
@@ -318,17 +325,18 @@ impl Board {
         accepted(made.code).map(|()| Board(made.board))
     }
 
-    /// A record on which these states stand, written down with a rising ledger and not called for.
+    /// A record with these fronts of its arrays, and 0 behind them; `len` of the ledger's names count.
+    pub fn of(size: (usize, usize), states: &[u8], ledger: &[u16], len: usize) -> Board {
+        let mut board = c::Board { height: size.0, width: size.1, states: [0; 1984], ledger: [0; 1984], len };
+        board.states[..states.len()].copy_from_slice(states);
+        board.ledger[..ledger.len()].copy_from_slice(ledger);
+        Board(board)
+    }
+
+    /// A record on which these states stand, written down with a rising ledger of single decisions and not called for.
     pub fn standing(height: usize, width: usize, states: &[u8]) -> Board {
-        let mut board = Board::make(height, width).expect("a size within the limits");
-        for (border, &state) in states.iter().enumerate() {
-            board.0.states[border] = state;
-            if state != 0 {
-                board.0.ledger[board.0.len] = border as u16;
-                board.0.len += 1;
-            }
-        }
-        board
+        let decided: Vec<u16> = (0..states.len() as u16).filter(|&border| states[border as usize] != 0).collect();
+        Board::of((height, width), states, &singles(&decided), decided.len())
     }
 
     fn put(&mut self, decided: c::Decided) -> Result<(), u8> {
@@ -340,6 +348,11 @@ impl Board {
         self.put(c::sendai_board_decide(self.0, border, wall))
     }
 
+    pub fn stroke(&mut self, entries: &[u16]) -> Result<(), u8> {
+        // the entries live through the call
+        self.put(unsafe { c::sendai_board_stroke(self.0, entries.as_ptr(), entries.len()) })
+    }
+
     pub fn undo(&mut self) -> Result<(), u8> {
         self.put(c::sendai_board_undo(self.0))
     }
@@ -347,6 +360,11 @@ impl Board {
     /// The board is lent, and changed where it is.
     pub fn decide_in_place(&mut self, border: usize, wall: bool) -> Result<(), u8> {
         accepted(c::sendai_board_decide_in_place(&mut self.0, border, wall))
+    }
+
+    pub fn stroke_in_place(&mut self, entries: &[u16]) -> Result<(), u8> {
+        // the entries live through the call
+        accepted(unsafe { c::sendai_board_stroke_in_place(&mut self.0, entries.as_ptr(), entries.len()) })
     }
 
     pub fn undo_in_place(&mut self) -> Result<(), u8> {
@@ -363,7 +381,8 @@ impl Board {
         self.0.states[..borders].to_vec()
     }
 
-    pub fn ledger(&self) -> Vec<u16> {
+    /// The ledger's names.
+    pub fn names(&self) -> Vec<u16> {
         self.0.ledger[..self.0.len].to_vec()
     }
 }
@@ -518,6 +537,11 @@ impl City {
         self.put(c::sendai_room_decide(self.0, edge, wall))
     }
 
+    pub fn stroke(&mut self, entries: &[u16]) -> Result<(), u8> {
+        // the entries live through the call
+        self.put(unsafe { c::sendai_room_stroke(self.0, entries.as_ptr(), entries.len()) })
+    }
+
     pub fn undo(&mut self) -> Result<(), u8> {
         self.put(c::sendai_room_undo(self.0))
     }
@@ -531,8 +555,17 @@ impl City {
         self.0.book.states[..self.0.edges].to_vec()
     }
 
-    pub fn ledger(&self) -> Vec<u16> {
+    /// The ledger's names.
+    pub fn names(&self) -> Vec<u16> {
         self.0.book.ledger[..self.0.book.len].to_vec()
+    }
+
+    /// This graph with these fronts of its book's arrays, and 0 behind them; `len` of the ledger's names count.
+    pub fn with(&self, states: &[u8], ledger: &[u16], len: usize) -> City {
+        let mut book = c::Book { states: [0; 1984], ledger: [0; 1984], len };
+        book.states[..states.len()].copy_from_slice(states);
+        book.ledger[..ledger.len()].copy_from_slice(ledger);
+        City(c::CityCountConstraint { book, ..self.0 })
     }
 
     /// With a buffer of just the edge count.

@@ -1,9 +1,10 @@
 //! Puzzles to compare on, damaged records, and SPEC's questions about both.
 use crate::boards::{self, border_count, Standing, CONNECTED, UNDECIDED, WALL};
+use crate::ledger::{self, Ledger};
 use crate::port::PuzzleRecord;
 use crate::random::Random;
 use crate::reference::{rooms, NO_CLUE};
-use crate::runs::{self, Call};
+use crate::runs::{self, Call, Turn};
 
 /// What a making gets.
 #[derive(Clone, Debug)]
@@ -56,25 +57,15 @@ pub fn refusal(record: &PuzzleRecord) -> u8 {
     if !within_limits(height, width) {
         return 1;
     }
-    if record.given_len > 1984 || record.clues_len > 1024 || board.len > 1984 {
+    if record.given_len > 1984 || record.clues_len > 1024 {
         return 2;
     }
     let (given, clues) = (record.given[..record.given_len].to_vec(), record.clues[..record.clues_len].to_vec());
     if (Making { height, width, given: given.clone(), clues }).refusal() != 0 {
         return 2;
     }
-    let names = &board.ledger[..board.len];
-    let sound = (0..border_count(height, width)).all(|border| {
-        let named = names.iter().filter(|&&name| name as usize == border).count();
-        match (given.contains(&(border as u16)), board.states[border]) {
-            (true, state) => state == WALL && named == 0,
-            (false, UNDECIDED) => named == 0,
-            (false, CONNECTED | WALL) => named == 1,
-            (false, _) => false,
-        }
-    });
-    let exist = names.iter().all(|&name| (name as usize) < border_count(height, width));
-    if sound && exist { 0 } else { 2 }
+    let states = &board.states[..border_count(height, width)];
+    if ledger::sound(states, &given, &board.ledger, board.len) { 0 } else { 2 }
 }
 
 /// Every making of a size that is accepted: all sets of given walls, and for each room all clues that fit, and none.
@@ -175,6 +166,23 @@ pub fn towards(random: &mut Random, board: &Standing, length: usize) -> Vec<Call
     calls
 }
 
+/// Turns that draw what stands on a board beside its given walls, in strokes, with other turns among them.
+pub fn drawing(random: &mut Random, board: &Standing, making: &Making, length: usize) -> Vec<Turn> {
+    let stray = *random.pick(&[0, 2, 6]);
+    let mut strokes = ledger::cut(random, entries(board, making)).into_iter();
+    let mut turns = vec![];
+    while turns.len() < length {
+        if random.chance(stray, 16) {
+            turns.extend(runs::turns(random, Ledger::fresh(board.states.len(), &[]), 1, 8));
+        } else if let Some(stroke) = strokes.next() {
+            turns.push(Turn::Stroke(stroke));
+        } else {
+            break;
+        }
+    }
+    turns
+}
+
 /// A making that SPEC 3 may refuse: a size, a given wall, an order, a number of clues or a clue is wrong.
 pub fn spoilt(random: &mut Random, mut making: Making) -> Making {
     let borders = border_count(making.height, making.width);
@@ -206,10 +214,10 @@ pub fn damaged(random: &mut Random, mut record: PuzzleRecord) -> PuzzleRecord {
     let borders = border_count(board.height, board.width);
     for _ in 0..random.within(1, 2) {
         let (some, last) = (random.below(borders + 1), board.len.min(1983));
-        match random.below(12) {
+        match random.below(13) {
             0 => board.states[some] = random.below(256) as u8,
             1 => board.states[some] = random.below(3) as u8,
-            2 => board.ledger[random.below(last + 1)] = random.below(borders + 2) as u16,
+            2 => board.ledger[random.below(last + 1)] = random.below(2 * borders + 4) as u16,
             3 => board.ledger.swap(random.below(last + 1), random.below(last + 1)),
             4 => board.len = beyond(random, board.len),
             5 => record.given[random.below(record.given_len.min(1983) + 1)] = some as u16,
@@ -218,6 +226,8 @@ pub fn damaged(random: &mut Random, mut record: PuzzleRecord) -> PuzzleRecord {
             8 => record.clues_len = beyond(random, record.clues_len),
             9 => board.height = *random.pick(&[0, 33, board.width, board.height.saturating_add(1), usize::MAX]),
             10 => board.width = *random.pick(&[0, 33, board.height, board.width.saturating_sub(1), usize::MAX]),
+            // a stroke begins or ends elsewhere; at the first name none would begin
+            11 => board.ledger[random.below(last + 1)] ^= 1,
             _ => {
                 board.states[borders..].fill(random.below(256) as u8);
                 board.ledger[board.len.min(1984)..].fill(random.below(65536) as u16);
@@ -236,10 +246,18 @@ pub fn drawn(random: &mut Random, low: usize, high: usize) -> (Standing, Making)
     (board, making)
 }
 
-/// A record on which a board stands, decided in any order.
+/// The entries of what stands on a board beside the given walls, rising.
+pub fn entries(board: &Standing, making: &Making) -> Vec<u16> {
+    let stands = |border: &u16| board.states[*border as usize] != UNDECIDED && making.given.binary_search(border).is_err();
+    let entry = |border: u16| 2 * border + u16::from(board.states[border as usize] == WALL);
+    (0..board.states.len() as u16).filter(stands).map(entry).collect()
+}
+
+/// A record on which a board stands, decided in any order and in any strokes.
 pub fn record(random: &mut Random, board: &Standing, making: &Making) -> PuzzleRecord {
-    let mut order: Vec<u16> = (0..board.states.len() as u16).collect();
-    order.retain(|border| board.states[*border as usize] != UNDECIDED && making.given.binary_search(border).is_err());
-    random.shuffle(&mut order);
-    PuzzleRecord::of((making.height, making.width), &board.states, &order, &making.given, &making.clues)
+    let mut ledger = Ledger::fresh(board.states.len(), &making.given);
+    for stroke in ledger::cut(random, entries(board, making)) {
+        ledger.stroke(&stroke).expect("drawn");
+    }
+    PuzzleRecord::of((making.height, making.width), &board.states, &ledger.names(), &making.given, &making.clues)
 }

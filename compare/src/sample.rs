@@ -1,6 +1,9 @@
 //! The script that crate `vectors` runs in the gate, and the Rust's answers to it: a line for each call. README.md has the calls.
 use crate::boards::{self, Standing, UNDECIDED};
-use crate::layers::{board, boundary, city_count, generator, groups, hand_over, numbering, path, puzzle, right_boards, shape, union_find};
+use crate::layers::{
+    board, boundary, city_count, generator, groups, hand_over, numbering, path, puzzle, right_boards, shape, strokes, union_find,
+};
+use crate::ledger::singles;
 use crate::random::Random;
 use std::fmt::Display;
 use std::path::Path;
@@ -57,9 +60,14 @@ pub fn fault(fault: &Option<Vec<u16>>) -> String {
     fault.as_ref().map_or("0".into(), |list| format!("0 fault{}", numbers(list)))
 }
 
-/// A record: how many borders are decided, their numbers in turn, and the states.
+/// A record: how many borders are decided, their names in turn, and the states.
+pub fn named(names: &[u16], states: &[u8]) -> String {
+    format!("{}{};{}", names.len(), numbers(names), numbers(states))
+}
+
+/// A record whose borders were decided one by one.
 pub fn record(ledger: &[u16], states: &[u8]) -> String {
-    format!("{}{};{}", ledger.len(), numbers(ledger), numbers(states))
+    named(&singles(ledger), states)
 }
 
 /// Boards, and what is asked of each: random ones with sides to 6, structured ones, and a long snake of the largest size.
@@ -89,6 +97,7 @@ pub fn write(folder: &Path) {
     hand_over::sample(sample);
     right_boards::sample(sample);
     generator::sample(sample);
+    strokes::sample(sample);
     sample.script += ".  00000 00000\n";
     sample.answers += "end\n";
     println!("{} calls", sample.script.lines().count() - 1);

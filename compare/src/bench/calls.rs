@@ -2,6 +2,7 @@
 use super::paper::{Pair, Row};
 use super::{both, row, stack};
 use crate::boards::{Standing, CONNECTED, UNDECIDED, WALL};
+use crate::ledger::singles;
 use crate::port::{self, PuzzleRecord};
 use crate::random::Random;
 use crate::reference::{self, Board};
@@ -74,7 +75,7 @@ impl Laid {
 
     pub fn port(&self) -> port::Puzzle {
         let given: Vec<u16> = self.given.iter().map(|&border| border as u16).collect();
-        let ledger: Vec<u16> = self.stands().map(|(border, _)| border as u16).collect();
+        let ledger = singles(&self.stands().map(|(border, _)| border as u16).collect::<Vec<_>>());
         let size = (self.board.height, self.board.width);
         let ours = port::Puzzle(PuzzleRecord::of(size, &self.board.states, &ledger, &given, &self.clues));
         ours.check().expect("holds together");

@@ -42,7 +42,7 @@ struct Plain {
 impl Side for Plain {
     fn decide(&mut self, border: usize, state: u8) {
         let board = &mut self.puzzle.0.board;
-        (board.states[border], board.ledger[board.len]) = (state, border as u16);
+        (board.states[border], board.ledger[board.len]) = (state, 2 * border as u16 + 1);
         board.len += 1;
     }
 

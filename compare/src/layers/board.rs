@@ -1,32 +1,39 @@
-//! Lists of decide and undo calls, by value and in place: after each, the answer, the states and the ledger of `BoardManager`
-//! beside the port's.
-use super::{until, Limits};
+//! Lists of decides, strokes and undos, by value and in place: after each, the answer, the states and the decisions of `BoardManager`, cut
+//! into strokes by the model, beside the port's; asks on small boards after each, on others at the end.
+use super::{stroke_of_one, until, Limits};
 use crate::boards::border_count;
-use crate::port;
+use crate::ledger::{Ledger, Told};
+use crate::port::{self, InPlace, Record};
 use crate::random::Random;
 use crate::reference::Board;
-use crate::runs::{self, Call};
+use crate::runs::{self, Call, Turn};
 use crate::sample::{code, record, Sample, LARGEST};
 use crate::tally::Tally;
 
-fn compare(tally: &mut Tally, height: usize, width: usize, calls: &[Call]) {
+/// The most cells of a board that is asked after each turn.
+const SMALL: usize = 36;
+
+fn compare(tally: &mut Tally, height: usize, width: usize, turns: &[Turn]) {
     tally.case();
-    let mut rust = Board::new(height, width);
+    let mut rust = Told::new(Board::new(height, width), &[]);
     let mut ours = port::Board::make(height, width).expect("a size within the limits");
-    let mut lent = ours;
-    for (at, &call) in calls.iter().enumerate() {
-        let (theirs, answer, in_place) = match call {
-            Call::Decide { border, wall } => {
-                (rust.decide(border, wall), ours.decide(border, wall), lent.decide_in_place(border, wall))
-            }
-            Call::Undo => (rust.undo(), ours.undo(), lent.undo_in_place()),
-        };
-        let on = || format!("{height} by {width}, call {at} of {calls:?}");
+    let mut lent = InPlace(ours);
+    for (at, turn) in turns.iter().enumerate() {
+        let on = || format!("{height} by {width}, turn {at} of {turns:?}");
+        let before = ours;
+        let (theirs, answer, in_place) = (rust.turn(turn), ours.turn(turn), lent.turn(turn));
         tally.same(&theirs, &answer, on);
         tally.same(&theirs, &in_place, on);
-        tally.same(&true, &(lent == ours), on);
-        tally.same(&(rust.states(), rust.ledger()), &(ours.states(), ours.ledger()), on);
+        stroke_of_one(tally, before, turn, (answer, ours), on);
+        let (states, names) = rust.record();
+        // all places behind states and names are 0, so that an undo leaves the very record that it had before the stroke
+        let whole = port::Board::of((height, width), &states, &names, names.len());
+        tally.same(&(states, names), &(ours.states(), ours.names()), on);
+        tally.same(&(true, true), &(ours == whole, lent.0 == whole), on);
         tally.same(&Ok(()), &ours.check(), on);
+        if height * width <= SMALL || at + 1 == turns.len() {
+            tally.same(&Ok(rust.rust.ask()), &ours.ask(), on);
+        }
     }
 }
 
@@ -44,12 +51,21 @@ pub fn run(limits: &Limits) -> Tally {
     let random = &mut Random::new(limits.seed);
     for (size, length) in [((1, 1), 5), ((1, 2), 6), ((2, 1), 6), ((1, 3), 5), ((3, 1), 5), ((2, 2), 4)] {
         for calls in runs::every(runs::alphabet(border_count(size.0, size.1)), length) {
-            compare(&mut tally, size.0, size.1, &calls);
+            compare(&mut tally, size.0, size.1, &runs::singles(calls));
+        }
+    }
+    // the longest stroke, and the turns of a list
+    for (size, longest, length) in
+        [((1, 1), 3, 3), ((1, 2), 4, 2), ((2, 1), 2, 3), ((1, 3), 3, 2), ((3, 1), 2, 3), ((2, 2), 2, 2)]
+    {
+        for turns in runs::every(runs::strokes(border_count(size.0, size.1), longest), length) {
+            compare(&mut tally, size.0, size.1, &turns);
         }
     }
     for (height, width) in [(1, 32), (32, 1), (2, 32), (32, 2), (17, 19), (31, 32), (32, 31), (32, 32)] {
         let calls = fill(random, height, width);
-        compare(&mut tally, height, width, &calls);
+        compare(&mut tally, height, width, &runs::joined(random, calls.clone()));
+        compare(&mut tally, height, width, &runs::singles(calls));
     }
     until(limits.time, || {
         let most = *random.pick(&[4, 8, 32]);
@@ -57,8 +73,8 @@ pub fn run(limits: &Limits) -> Tally {
         let borders = border_count(size.0, size.1);
         let length = random.within(1, 2 * borders + 8).min(200);
         let undos = *random.pick(&[1, 4, 7]);
-        let calls = runs::random(random, borders, length, undos);
-        compare(&mut tally, size.0, size.1, &calls);
+        let turns = runs::turns(random, Ledger::fresh(borders, &[]), length, undos);
+        compare(&mut tally, size.0, size.1, &turns);
     });
     for (height, width) in [(0, 0), (0, 1), (1, 0), (33, 1), (1, 33), (usize::MAX, 1), (32, usize::MAX)] {
         let ours = port::Board::make(height, width).err();

@@ -1,9 +1,10 @@
-//! `CityCountConstraint`: making, decide, undo and ask on room graphs, loops and repeated edges included.
-use super::{until, Limits};
-use crate::port;
+//! `CityCountConstraint`: making, decide, undo and ask on room graphs, loops and repeated edges included; strokes by the model.
+use super::{stroke_of_one, until, Limits};
+use crate::ledger::{Ledger, Told};
+use crate::port::{self, Record};
 use crate::random::Random;
 use crate::reference::City;
-use crate::runs::{self, Call};
+use crate::runs::{self, Call, Turn};
 use crate::sample::{code, fault, Sample, LARGEST};
 use crate::tally::Tally;
 
@@ -25,29 +26,32 @@ fn ask(tally: &mut Tally, vertices: usize, edges: &Edges, count: u32, states: &[
     tally.same(&Ok(rust.ask()), &ours.ask(), on);
 }
 
-/// A list of calls on a graph, with an ask after each.
-fn compare(tally: &mut Tally, vertices: usize, edges: &Edges, count: u32, calls: &[Call]) {
+/// A list of turns on a graph, with an ask after each.
+fn compare(tally: &mut Tally, vertices: usize, edges: &Edges, count: u32, turns: &[Turn]) {
     tally.case();
     let made = |city: Result<port::City, u8>| (city.err(), city.ok());
     let whole = made(port::City::make(vertices, edges, count)) == made(port::City::make_of_edges(vertices, edges, count));
     tally.same(&true, &whole, || format!("{vertices} vertices, {edges:?} as records, count {count}"));
-    let (mut rust, mut ours) = match (City::new(vertices, edges, count), port::City::make(vertices, edges, count)) {
-        (Ok(rust), Ok(ours)) => (rust, ours),
+    let (mut rust, fresh) = match (City::new(vertices, edges, count), port::City::make(vertices, edges, count)) {
+        (Ok(rust), Ok(ours)) => (Told::new(rust, &[]), ours),
         (theirs, ours) => {
             let on = || format!("{vertices} vertices, {edges:?}, count {count}");
             return tally.same(&theirs.err(), &ours.err(), on);
         }
     };
-    for (at, &call) in calls.iter().enumerate() {
-        let on = || format!("{vertices} vertices, {edges:?}, count {count}, call {at} of {calls:?}");
-        let (theirs, answer) = match call {
-            Call::Decide { border, wall } => (rust.decide(border, wall), ours.decide(border, wall)),
-            Call::Undo => (rust.undo(), ours.undo()),
-        };
+    let mut ours = fresh;
+    for (at, turn) in turns.iter().enumerate() {
+        let on = || format!("{vertices} vertices, {edges:?}, count {count}, turn {at} of {turns:?}");
+        let before = ours;
+        let (theirs, answer) = (rust.turn(turn), ours.turn(turn));
         tally.same(&theirs, &answer, on);
-        tally.same(&(rust.states(), rust.ledger()), &(ours.states(), ours.ledger()), on);
+        stroke_of_one(tally, before, turn, (answer, ours), on);
+        let (states, names) = rust.record();
+        let whole = fresh.with(&states, &names, names.len());
+        tally.same(&(states, names), &(ours.states(), ours.names()), on);
+        tally.same(&true, &(ours == whole), on);
         tally.same(&Ok(()), &ours.check(), on);
-        tally.same(&Ok(rust.ask()), &ours.ask(), on);
+        tally.same(&Ok(rust.rust.ask()), &ours.ask(), on);
     }
 }
 
@@ -110,8 +114,8 @@ pub fn run(limits: &Limits) -> Tally {
         let graph = drawn(random, vertices, edges);
         let count = if random.chance(1, 20) { u32::MAX } else { random.below(vertices + 3) as u32 };
         let length = random.within(1, 40);
-        let calls = runs::random(random, edges, length, 4);
-        compare(&mut tally, vertices, &graph, count, &calls);
+        let turns = runs::turns(random, Ledger::fresh(edges, &[]), length, 4);
+        compare(&mut tally, vertices, &graph, count, &turns);
     });
     until(limits.time, || {
         let most = *random.pick(&[4, 12, 60, 1024]);

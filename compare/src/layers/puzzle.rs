@@ -1,12 +1,14 @@
-//! The puzzle: making, decide, undo and ask beside the checks that `solve_sendai` lays out; damaged records by SPEC's questions.
-use super::{until, Limits};
+//! The puzzle: making, decide, undo and ask beside the checks that `solve_sendai` lays out; strokes by the model, damaged records by SPEC's
+//! questions.
+use super::{stroke_of_one, until, Limits};
 use crate::answers::Answer;
-use crate::boards::{self, border_count, Standing, UNDECIDED, WALL};
-use crate::port::{self, PuzzleRecord};
+use crate::boards::{self, border_count, Standing, WALL};
+use crate::ledger::{Ledger, Told};
+use crate::port::{self, PuzzleRecord, Record};
 use crate::puzzles::{self, Making};
 use crate::random::Random;
 use crate::reference::Puzzle;
-use crate::runs::Call;
+use crate::runs::{self, Call, Turn};
 use crate::sample::{code, numbers, record, Sample, LARGEST};
 use crate::tally::Tally;
 
@@ -19,7 +21,7 @@ struct Compared {
 /// A puzzle on both sides.
 struct Both<'a> {
     making: &'a Making,
-    rust: Puzzle,
+    rust: Told<Puzzle>,
     ours: port::Puzzle,
 }
 
@@ -28,10 +30,11 @@ impl Both<'_> {
         9 * self.making.height * self.making.width
     }
 
-    /// The record that stands for the Rust's states and ledger.
+    /// The record that stands for the Rust's states and the strokes.
     fn expected(&self) -> PuzzleRecord {
         let size = (self.making.height, self.making.width);
-        PuzzleRecord::of(size, &self.rust.states(), &self.rust.ledger(), &self.making.given, &self.making.clues)
+        let (states, names) = self.rust.record();
+        PuzzleRecord::of(size, &states, &names, &self.making.given, &self.making.clues)
     }
 }
 
@@ -49,24 +52,22 @@ impl Compared {
         }
         let rust = Puzzle::new(height, width, &making.walls(), &making.clues, absent);
         self.tally.same(&code, &rust.as_ref().err().copied().unwrap_or(0), on);
-        let both = Both { making, rust: rust.ok()?, ours: ours.ok()? };
+        let both = Both { making, rust: Told::new(rust.ok()?, &making.given), ours: ours.ok()? };
         self.tally.same(&both.expected(), &both.ours.0, on);
         Some(both)
     }
 
-    /// A call, and the record that it leaves.
-    fn call(&mut self, both: &mut Both, call: Call, on: impl Fn() -> String) {
-        let (rust, ours) = (&mut both.rust, &mut both.ours);
-        let (theirs, answer) = match call {
-            Call::Decide { border, wall } => (rust.decide(border, wall), ours.decide(border, wall)),
-            Call::Undo => (rust.undo(), ours.undo()),
-        };
+    /// A turn, and the record that it leaves.
+    fn turn(&mut self, both: &mut Both, turn: &Turn, on: impl Fn() -> String) {
+        let before = both.ours;
+        let (theirs, answer) = (both.rust.turn(turn), both.ours.turn(turn));
         self.tally.same(&theirs, &answer, &on);
         self.tally.same(&both.expected(), &both.ours.0, &on);
+        stroke_of_one(&mut self.tally, before, turn, (answer, both.ours), on);
     }
 
     fn ask(&mut self, both: &mut Both, places: usize, on: impl Fn() -> String) {
-        let theirs = both.rust.ask();
+        let theirs = both.rust.rust.ask();
         self.answers[match theirs {
             Answer::Clear => 0,
             Answer::Shape(_) => 1,
@@ -93,89 +94,89 @@ impl Compared {
         for (at, &border) in free.iter().enumerate() {
             for wall in [false, true] {
                 let on = || format!("{record:?}, border {border} as Wall: {wall}");
-                self.call(both, Call::Decide { border, wall }, on);
+                self.turn(both, &Turn::Single(Call::Decide { border, wall }), on);
                 self.walk(both, &free[at + 1..]);
-                self.call(both, Call::Undo, on);
+                self.turn(both, &Turn::Single(Call::Undo), on);
             }
         }
     }
 
-    /// A list of calls, with an ask after each.
-    fn run(&mut self, making: &Making, absent: bool, calls: &[Call]) {
+    /// A list of turns, with an ask after each.
+    fn run(&mut self, making: &Making, absent: bool, turns: &[Turn]) {
         let Some(mut both) = self.made(making, absent) else { return };
         self.ask_all(&mut both, || format!("{making:?}"));
-        for (at, &call) in calls.iter().enumerate() {
-            let on = || format!("{making:?}, call {at} of {calls:?}");
-            self.call(&mut both, call, on);
+        for (at, turn) in turns.iter().enumerate() {
+            let on = || format!("{making:?}, turn {at} of {turns:?}");
+            self.turn(&mut both, turn, on);
             let places = both.places();
             self.ask(&mut both, places, on);
         }
-        self.ask_all(&mut both, || format!("{making:?}, {calls:?}"));
+        self.ask_all(&mut both, || format!("{making:?}, {turns:?}"));
     }
 
-    /// A whole board stands on the puzzle: an ask of each kind.
+    /// A whole board stands on the puzzle, in one stroke: an ask of each kind.
     fn standing(&mut self, making: &Making, board: &Standing) {
         let Some(mut both) = self.made(making, false) else { return };
-        for (border, &state) in board.states.iter().enumerate() {
-            if state != UNDECIDED && !making.given.contains(&(border as u16)) {
-                both.rust.decide(border, state == WALL).expect("decided");
-            }
-        }
-        both.ours.0 = both.expected();
-        self.ask_all(&mut both, || format!("{making:?}, {board:?}"));
+        let on = || format!("{making:?}, {board:?}");
+        self.turn(&mut both, &Turn::Stroke(puzzles::entries(board, making)), on);
+        self.ask_all(&mut both, on);
     }
 
     /// A record as it comes: refused by all calls alike, or answered as the Rust answers what stands on it.
-    fn record(&mut self, record: PuzzleRecord, border: usize) {
+    fn record(&mut self, random: &mut Random, record: PuzzleRecord) {
         self.tally.case();
-        let on = || format!("{record:?}, border {border}");
         let code = puzzles::refusal(&record);
         let ours = port::Puzzle(record);
-        self.tally.same(&code, &ours.check().err().unwrap_or(0), on);
+        self.tally.same(&code, &ours.check().err().unwrap_or(0), || format!("{record:?}"));
         if code == 0 {
-            return self.sound(record, border);
+            return self.sound(random, record);
         }
-        let (mut decided, mut undone) = (ours, ours);
-        let codes = [decided.decide(border, true), undone.undo()];
-        self.tally.same(&[Err(code); 2], &codes, on);
-        self.tally.same(&(record, record), &(decided.0, undone.0), on);
+        let border = random.below(9);
+        let decide = Turn::Single(Call::Decide { border, wall: true });
+        let strokes = [vec![], vec![2 * border as u16], vec![1, 1], vec![u16::MAX]].map(Turn::Stroke);
+        for turn in strokes.iter().chain([&decide, &Turn::Single(Call::Undo)]) {
+            let mut after = ours;
+            let on = || format!("{record:?}, {turn:?}");
+            self.tally.same(&Err(code), &after.turn(turn), on);
+            self.tally.same(&record, &after.0, on);
+        }
         for places in [0, 9216] {
-            self.tally.same(&Err(code), &ours.ask(places), on);
+            self.tally.same(&Err(code), &ours.ask(places), || format!("{record:?}"));
         }
     }
 
-    /// A record that holds together, whatever stands behind its lists: an ask, a decide and an undo.
-    fn sound(&mut self, record: PuzzleRecord, border: usize) {
-        let on = || format!("{record:?}, border {border}");
+    /// A record that holds together, whatever stands behind its lists: an ask, and turns of each kind.
+    fn sound(&mut self, random: &mut Random, record: PuzzleRecord) {
         let board = &record.board;
         let (given, clues) = (&record.given[..record.given_len], &record.clues[..record.clues_len]);
         let making = Making { height: board.height, width: board.width, given: given.to_vec(), clues: clues.to_vec() };
         let rust = Puzzle::new(making.height, making.width, &making.walls(), &making.clues, true).expect("made");
-        let mut both = Both { making: &making, rust, ours: port::Puzzle(record) };
-        for &name in &board.ledger[..board.len] {
-            both.rust.decide(name as usize, board.states[name as usize] == WALL).expect("decided");
+        let mut both = Both { making: &making, rust: Told::new(rust, &making.given), ours: port::Puzzle(record) };
+        let borders = border_count(board.height, board.width);
+        let ledger = Ledger::of(&board.states[..borders], &board.ledger[..board.len]);
+        for stroke in ledger.strokes() {
+            both.rust.turn(&Turn::Stroke(stroke.clone())).expect("drawn");
         }
-        self.ask_all(&mut both, on);
-        let mut undone = both.ours;
-        let mut expected = record;
-        let answer = undone.undo();
-        if let Some(last) = board.len.checked_sub(1) {
-            expected.board.states[board.ledger[last] as usize] = UNDECIDED;
-            expected.board.ledger[last] = 0;
-            expected.board.len = last;
+        self.ask_all(&mut both, || format!("{record:?}"));
+        let decide = Turn::Single(Call::Decide { border: random.below(borders + 2), wall: true });
+        let strokes = [vec![], runs::stroke(random, &ledger), runs::stroke(random, &ledger)].map(Turn::Stroke);
+        for turn in strokes.iter().chain([&decide, &Turn::Single(Call::Undo)]) {
+            let (mut model, mut ours) = (ledger.clone(), port::Puzzle(record));
+            let on = || format!("{record:?}, {turn:?}");
+            self.tally.same(&model.turn(turn), &ours.turn(turn), on);
+            self.tally.same(&after(record, &model), &ours.0, on);
         }
-        self.tally.same(&(if board.len == 0 { Err(5) } else { Ok(()) }), &answer, on);
-        self.tally.same(&expected, &undone.0, on);
-        let theirs = both.rust.decide(border, true);
-        let mut expected = record;
-        if theirs.is_ok() {
-            expected.board.states[border] = WALL;
-            expected.board.ledger[board.len] = border as u16;
-            expected.board.len += 1;
-        }
-        self.tally.same(&theirs, &both.ours.decide(border, true), on);
-        self.tally.same(&expected, &both.ours.0, on);
     }
+}
+
+/// A record that a turn left: what was named and is no more is 0, and all behind it is as it was.
+fn after(mut record: PuzzleRecord, ledger: &Ledger) -> PuzzleRecord {
+    let (states, names) = (ledger.states(), ledger.names());
+    record.board.states[..states.len()].copy_from_slice(states);
+    record.board.ledger[..record.board.len].fill(0);
+    record.board.ledger[..names.len()].copy_from_slice(&names);
+    record.board.len = names.len();
+    record
 }
 
 /// Structured boards of a size, each with some makings, as they are and stirred.
@@ -193,14 +194,20 @@ fn random_run(compared: &mut Compared, random: &mut Random, low: usize, high: us
     let (board, making) = puzzles::drawn(random, low, high);
     let making = if random.chance(1, 8) { puzzles::spoilt(random, making) } else { making };
     let length = random.below(40);
-    let calls = puzzles::towards(random, &board, length);
-    compared.run(&making, random.chance(1, 2), &calls);
+    let turns = if random.chance(1, 2) {
+        puzzles::drawing(random, &board, &making, length)
+    } else {
+        let calls = puzzles::towards(random, &board, length);
+        runs::joined(random, calls)
+    };
+    compared.run(&making, random.chance(1, 2), &turns);
 }
 
 fn random_record(compared: &mut Compared, random: &mut Random) {
     let (board, making) = puzzles::drawn(random, 1, 8);
     let record = puzzles::record(random, &board, &making);
-    compared.record(puzzles::damaged(random, record), random.below(board.states.len() + 2));
+    let record = puzzles::damaged(random, record);
+    compared.record(random, record);
 }
 
 pub fn run(limits: &Limits) -> Tally {

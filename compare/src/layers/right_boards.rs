@@ -10,6 +10,7 @@
 use super::{until, Limits};
 use crate::answers::{Answer, Boards};
 use crate::boards::{self, border_count, Standing, CONNECTED, UNDECIDED, WALL};
+use crate::ledger;
 use crate::port::{self, PuzzleRecord};
 use crate::puzzles::{self, Making};
 use crate::random::Random;
@@ -240,8 +241,8 @@ fn sampled(compared: &mut Compared, random: &mut Random, limits: &Limits) {
 
 /// A record without given walls and clues whose first borders are Walls.
 fn walled(height: usize, width: usize, walls: usize) -> PuzzleRecord {
-    let ledger: Vec<u16> = (0..walls as u16).collect();
-    PuzzleRecord::of((height, width), &vec![WALL; walls], &ledger, &[], &[NO_CLUE])
+    let names = ledger::singles(&Vec::from_iter(0..walls as u16));
+    PuzzleRecord::of((height, width), &vec![WALL; walls], &names, &[], &[NO_CLUE])
 }
 
 /// Each refusal and what stands just before it, and their order.

@@ -8,7 +8,7 @@ use std::fmt::{Debug, Formatter, Result as Formatted};
 pub use c::Puzzle as PuzzleRecord;
 
 impl PuzzleRecord {
-    /// A record with these fronts of its arrays, and 0 behind them.
+    /// A record with these fronts of its arrays, and 0 behind them; the ledger is told by its names.
     pub fn of(size: (usize, usize), states: &[u8], ledger: &[u16], given: &[u16], clues: &[u16]) -> PuzzleRecord {
         let mut record = PuzzleRecord::zero();
         let board = &mut record.board;
@@ -46,7 +46,7 @@ impl Debug for PuzzleRecord {
 }
 
 /// A puzzle's record. A call puts what it returned in its place, refused or not.
-#[derive(Clone, Copy)]
+#[derive(Clone, Copy, PartialEq)]
 pub struct Puzzle(pub PuzzleRecord);
 
 impl Puzzle {
@@ -65,6 +65,11 @@ impl Puzzle {
 
     pub fn decide(&mut self, border: usize, wall: bool) -> Result<(), u8> {
         self.put(c::sendai_puzzle_decide(self.0, border, wall))
+    }
+
+    pub fn stroke(&mut self, entries: &[u16]) -> Result<(), u8> {
+        // the entries live through the call
+        self.put(unsafe { c::sendai_puzzle_stroke(self.0, entries.as_ptr(), entries.len()) })
     }
 
     pub fn undo(&mut self) -> Result<(), u8> {

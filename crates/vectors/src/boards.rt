@@ -1,4 +1,6 @@
-// Calls on a board: make, decide and undo; its record; groups, paths, boundary lists and the shape check.
+// Calls on a board: make, stroke, decide and undo; its record; groups, paths, boundary lists and the shape check.
+use crate::queue;
+use crate::queue::Queue;
 use crate::say;
 use crate::script::Command;
 use answers::Plain;
@@ -9,6 +11,13 @@ use board::Decided;
 fn kept(d: Decided) -> Board {
     say::code(d.code);
     d.board
+}
+
+// A stroke of the entries that wait.
+pub fn stroke(b: Board, q: Queue) -> Board {
+    let entries = q.items;
+    let n = queue::within(&entries, q.len);
+    kept(board::stroke(b, &entries[..n]))
 }
 
 // The groups of n cells: each cell's group, the cells in turn and the starts.

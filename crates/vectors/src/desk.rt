@@ -84,7 +84,11 @@ pub fn on_case(d: Desk, c: Command) -> Desk {
 
 pub fn on_board(d: Desk, c: Command) -> Desk {
     let mut next = d;
-    let board = boards::call(d.board, c);
+    let board = if c.call == b's' {
+        boards::stroke(d.board, d.first)
+    } else {
+        boards::call(d.board, c)
+    };
     next.board = board;
     next
 }
@@ -98,10 +102,11 @@ pub fn on_union(d: Desk, c: Command) -> Desk {
 
 pub fn on_room(d: Desk, c: Command) -> Desk {
     let mut next = d;
-    let room = if c.call == b'm' {
-        room_graphs::make(c.x, c.y, d.first, d.second)
-    } else {
-        room_graphs::call(d.room, c)
+    let call = c.call;
+    let room = match call {
+        b'm' => room_graphs::make(c.x, c.y, d.first, d.second),
+        b's' => room_graphs::stroke(d.room, d.first),
+        _ => room_graphs::call(d.room, c),
     };
     next.room = room;
     next
@@ -109,10 +114,11 @@ pub fn on_room(d: Desk, c: Command) -> Desk {
 
 pub fn on_puzzle(d: Desk, c: Command) -> Desk {
     let mut next = d;
-    let puzzle = if c.call == b'm' {
-        puzzles::make(c.x, c.y, d.first, d.second)
-    } else {
-        puzzles::call(d.puzzle, c)
+    let call = c.call;
+    let puzzle = match call {
+        b'm' => puzzles::make(c.x, c.y, d.first, d.second),
+        b's' => puzzles::stroke(d.puzzle, d.first),
+        _ => puzzles::call(d.puzzle, c),
     };
     next.puzzle = puzzle;
     next

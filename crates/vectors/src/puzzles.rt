@@ -1,4 +1,4 @@
-// Calls on a puzzle: make (its given walls and clues wait in two queues), decide, undo and ask; its board's record; its right boards.
+// Calls on a puzzle: make (its given walls and clues wait in two queues), stroke, decide, undo and ask; its board's record; its right boards.
 use crate::queue;
 use crate::queue::Queue;
 use crate::say;
@@ -22,6 +22,13 @@ pub fn make(height: usize, width: usize, first: Queue, second: Queue) -> Puzzle 
     let m = queue::within(&given, first.len);
     let n = queue::within(&clues, second.len);
     kept(puzzle::make(height, width, &given[..m], &clues[..n]))
+}
+
+// A stroke of the entries that wait.
+pub fn stroke(p: Puzzle, q: Queue) -> Puzzle {
+    let entries = q.items;
+    let n = queue::within(&entries, q.len);
+    kept(puzzle::stroke(p, &entries[..n]))
 }
 
 // Which check found a fault.

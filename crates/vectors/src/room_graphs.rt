@@ -1,4 +1,4 @@
-// Calls on a room graph: make (its edges wait in two queues), decide, undo and ask.
+// Calls on a room graph: make (its edges wait in two queues), stroke, decide, undo and ask.
 use crate::queue;
 use crate::queue::Queue;
 use crate::say;
@@ -25,6 +25,13 @@ pub fn make(n: usize, count: usize, first: Queue, second: Queue) -> CityCountCon
     let m = queue::within(&us, first.len);
     let k = queue::within(&vs, second.len);
     kept(city_count::make(n, &us[..m], &vs[..k], narrow(count)))
+}
+
+// A stroke of the entries that wait.
+pub fn stroke(r: CityCountConstraint, q: Queue) -> CityCountConstraint {
+    let entries = q.items;
+    let n = queue::within(&entries, q.len);
+    kept(city_count::stroke(r, &entries[..n]))
 }
 
 fn ask(r: CityCountConstraint) {
