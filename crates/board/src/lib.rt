@@ -85,14 +85,15 @@ pub fn check(b: Board) -> u8
 pub fn stroke(b: Board, entries: &[u16]) -> Decided
     ensures { λ r. ⌜ r ≡ strokeOf b (decisions (now (entries .entry))) ⌝ }
 {
+    let g = b.grid;
     let len = b.book.len;
     let mut out = Decided { code: 0, board: b };
-    let code = check_parts(b.grid, &out.board.book.states, &out.board.book.names, len);
+    let code = check_parts(g, &out.board.book.states, &out.board.book.names, len);
     if code != 0 {
         out.code = code;
         return out;
     }
-    let n = grid::border_count(b.grid);
+    let n = grid::border_count(g);
     let number = ledger::stroke_code(&out.board.book.states, entries, n);
     if number != 0 {
         out.code = number;
@@ -116,9 +117,10 @@ pub fn decide(b: Board, border: usize, wall: bool) -> Decided
 pub fn undo(b: Board) -> Decided
     ensures { λ r. ⌜ r ≡ undoOf b ⌝ }
 {
+    let g = b.grid;
     let len = b.book.len;
     let mut out = Decided { code: 0, board: b };
-    let code = check_parts(b.grid, &out.board.book.states, &out.board.book.names, len);
+    let code = check_parts(g, &out.board.book.states, &out.board.book.names, len);
     if code != 0 {
         out.code = code;
         return out;
@@ -129,7 +131,8 @@ pub fn undo(b: Board) -> Decided
         return out;
     }
     let from = ledger::start_of(&out.board.book.names, len);
-    ledger::clear_states(&mut out.board.book.states, &b.book.names, from, len);
+    let names = out.board.book.names;
+    ledger::clear_states(&mut out.board.book.states, &names, from, len);
     ledger::clear_names(&mut out.board.book.names, from, len);
     out.board.book.len = from;
     out

@@ -282,7 +282,8 @@ pub fn undo(r: CityCountConstraint) -> Decided
         return out;
     }
     let from = ledger::start_of(&out.room.book.names, len);
-    ledger::clear_states(&mut out.room.book.states, &r.book.names, from, len);
+    let names = out.room.book.names;
+    ledger::clear_states(&mut out.room.book.states, &names, from, len);
     ledger::clear_names(&mut out.room.book.names, from, len);
     out.room.book.len = from;
     out

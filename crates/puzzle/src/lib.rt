@@ -334,12 +334,8 @@ pub fn undo(p: Puzzle) -> Made
         return out;
     }
     let from = ledger::start_of(&out.puzzle.board.book.names, len);
-    ledger::clear_states(
-        &mut out.puzzle.board.book.states,
-        &p.board.book.names,
-        from,
-        len,
-    );
+    let names = out.puzzle.board.book.names;
+    ledger::clear_states(&mut out.puzzle.board.book.states, &names, from, len);
     ledger::clear_names(&mut out.puzzle.board.book.names, from, len);
     out.puzzle.board.book.len = from;
     out

@@ -15,7 +15,7 @@ use Rattle.board.proofs.stroke.Statement.{statement}
 use Rattle.board.proofs.stroke.Tie as tie
 
 abbrev start : tie.After-check-parts → tie.Start
-start k = k .before .before .before .before .before .before .before
+start k = k .before .before .before .before .before .before .before .before
 
 abbrev board : tie.After-check-parts → Board
 board k = start k .args .b

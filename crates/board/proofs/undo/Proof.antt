@@ -13,7 +13,7 @@ use Rattle.board.proofs.undo.Statement.{statement}
 use Rattle.board.proofs.undo.Tie as tie
 
 abbrev board : tie.After-check-parts → Board
-board k = k .before .before .before .before .before .before .before .args .t1
+board k = k .before .before .before .before .before .before .before .args .b
 
 abbrev checked : tie.Else2 → tie.After-check-parts
 checked e = e .before .before .before
@@ -47,13 +47,13 @@ last e =
 
 clear-states-requires : tie.Need-clear-states-requires
 clear-states-requires c κs =
-    let o = c .before .before .before .before in
+    let o = c .before .before .before in
     let e = found o in
     (states-are (checked e), rw (o .start-of .ensures) (last e .names))
 
 clear-names-requires : tie.Need-clear-names-requires
 clear-names-requires c κs =
-    let o = c .before .before .before .before .before .before in
+    let o = c .before .before .before .before .before in
     let e = found o in
     (names-are (checked e), rw (o .start-of .ensures) (last e .names .in-turn), last e .len-fits)
 
@@ -61,7 +61,7 @@ returns-3 : tie.Need-returns-3
 returns-3 c =
     let n = c .before in
     let t = n .before .before in
-    let o = t .before .before .before .before .before in
+    let o = t .before .before .before .before in
     let e = found o in
     let d = e .before in
     let k = checked e in
@@ -71,4 +71,4 @@ returns-3 c =
 pub undo-spec : {M : Type 1} → statement M
 undo-spec =
     tie.close (tie.spec (λ c κs. search needs) returns (λ c κs. search needs) returns-2
-    (λ c κs. let e = c .before .before .before in omega (arith, last e .names .long)) clear-states-requires clear-names-requires returns-3)
+    (λ c κs. let e = c .before .before .before in omega (arith, last e .names .long)) (λ c. search needs) clear-states-requires clear-names-requires returns-3)
