@@ -45,7 +45,7 @@ module _ (g : Grid) (k : Book) where
   pub by-book : sizesOk g ≡ true → (n : ℕ) → n ≡ borderCount g → (t : Bool) → bookHolds n noneGiven k ≡ t → pick t 0 2 ≡ checkOf g k
   by-book p n e t q = rw (p, ← e, q)
 
--- DECIDE and UNDO of a board that question 1 or 2 refuses, or none of them
+-- STROKE and UNDO of a board that question 1 or 2 refuses, or none of them
 module _ (b : Board) (code : ℕ) (q : code ≡ boardCode b) where
   pub stopped : (next : ℕ) (k : Book) → code ≢ 0 → answer code b ≡ answered (firstCode (boardCode b) next) b k
   stopped next k z = rw (← q, first-stops code next z, ne-eqb code 0 z)

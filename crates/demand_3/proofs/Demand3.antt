@@ -1,6 +1,6 @@
 -- DEMAND 3, for every accepted making. The statement, sentence by sentence, is the record `Demand3` of specs/Demand3.antt. Assumes nothing.
 use Prim.Native.Nat.{ℕ, _+_, _/_, _%_, _≤_, _<_}
-use mathlib.Core.Path.{_≡_, refl, ap, sym, _∙_, subst}
+use mathlib.Core.Path.{_≡_, ap, sym, _∙_, subst}
 use mathlib.Core.Logic.{⊎-elim, _↔_}
 use mathlib.Core.Bool.{true, false}
 use mathlib.Core.List.{List, [], map}

@@ -3,7 +3,7 @@
 use Prim.Native.Nat.{ℕ, _+_, _/_, _%_, _≤_, _<_}
 use mathlib.Core.Path.{_≡_, refl, ap, sym, _∙_}
 use mathlib.Core.Logic.{inl, inr, _≢_, ⊎-elim}
-use mathlib.Core.Bool.{Bool, true, false}
+use mathlib.Core.Bool.{Bool, false}
 use mathlib.Core.List.{List, [], _∷_, _++_, map, map-append}
 use native.Mathlib.Omega.{arith}
 use borrow.Author.Tests.{eq-eqb, ne-eqb}
@@ -15,7 +15,7 @@ use Rattle.grid.specs.Grid.{grid, borderCount}
 use Rattle.ledger.specs.Ledger as ledger
 use Rattle.ledger.specs.Ledger.{Decision, decisionOf, decisions, stateFor, stateIn, standing, whole, borders, strokeCode, ledgerOf}
 use Rattle.ledger.proofs.Standing.{standing-named}
-use Rattle.ledger.proofs.Strokes.{Fits, code-fits, fits-code, fits-first, fits-then}
+use Rattle.ledger.proofs.Strokes.{code-fits, fits-code, fits-first, fits-then}
 use Rattle.ledger.proofs.Cuts.{strokes, after-stroke, whole-added, cut}
 use Rattle.borders.specs.Entry.{Standing}
 use Rattle.puzzle.specs.declared.Puzzle.{Puzzle}

@@ -8,7 +8,7 @@ use native.Mathlib.Omega.{arith}
 use borrow.Author.Tests.{eq-eqb, ne-eqb}
 use lib.Dec.{eqb}
 use lib.ListN.{length, getD, set, take, drop, replicate, length-set, length-replicate, length-append, getD-replicate, List·getD-eq-default}
-use lib.Seq.{sets, length-sets, sets-eq, getD-set-same, getD-set-other, ext-getD, length-take-le, take-at, drop-at, take-append-le}
+use lib.Seq.{sets, length-sets, sets-eq, getD-set-same, getD-set-other, ext-getD, length-take-le, take-at, take-append-le}
 use Rattle.limits.specs.Limits.{mostBorders}
 use Rattle.lists.specs.Lists.{count}
 use Rattle.lists.proofs.Cases.{le-or-lt, eq-or-ne}
@@ -130,9 +130,6 @@ module _ (l : List ℕ) (len : ℕ) (bs : List ℕ) (room : len + length bs ≤ 
   names-behind =
       ap (take (len + length bs)) front-names
       ∙ take-at (take len l ++ bs) (drop (len + length bs) l) (len + length bs) (length-append (take len l) bs ∙ ap (λ x. x + length bs) (length-take-le len l (omega arith)))
-
-  pub last-names : drop len (take (len + length bs) (sets l len bs)) ≡ bs
-  last-names = ap (drop len) names-behind ∙ drop-at (take len l) bs len (length-take-le len l (omega arith))
 
   -- and freed again
   pub names-freed : ((i : ℕ) → len ≤ i → getD l i 0 ≡ 0) → (k : ℕ) → k ≡ length bs → sets (sets l len bs) len (replicate k 0) ≡ l

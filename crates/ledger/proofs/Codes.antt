@@ -1,4 +1,4 @@
--- The numbers of a stroke and an undo as facts, a law for each, and two questions in their order. Assumes nothing.
+-- Two questions in their order, a law for each number of a stroke, and a decide as a stroke of one. Assumes nothing.
 use Prim.Native.Nat.{ℕ, _+_, _*_, _/_, _%_, _≤_, _<_}
 use mathlib.Core.Path.{_≡_, refl, ap}
 use mathlib.Core.Logic.{_⊎_, inl, inr, _≢_, ⊎-elim}
@@ -11,7 +11,7 @@ use Rattle.limits.specs.Limits.{mostBorders}
 use Rattle.lists.specs.Choice.{both, pick}
 use Rattle.lists.specs.Lists.{all, count}
 use Rattle.lists.proofs.Cases.{le-or-lt, eq-or-ne}
-use Rattle.ledger.specs.Ledger.{Decision, decisions, single, borders, allExist, noneTwice, allFree, strokeCode, undoCode, firstCode}
+use Rattle.ledger.specs.Ledger.{Decision, decisions, single, borders, allExist, noneTwice, allFree, strokeCode, firstCode}
 use Rattle.ledger.specs.declared.Book.{Book}
 use Rattle.ledger.specs.Books.{stateAt, placed}
 use Rattle.ledger.specs.Marks.{Entry}
@@ -30,14 +30,6 @@ clear-both code next = go (eqb code 0) refl
     go : (t : Bool) → eqb code 0 ≡ t → pick t next code ≡ 0 → (code ≡ 0) × (next ≡ 0)
     go true p z = (eqb-true code 0 p, z)
     go false p z = absurd (eqb-false code 0 p z)
-
--- an undo that no question refuses
-pub some-name : (len : ℕ) → undoCode len ≡ 0 → 0 < len
-some-name len = go (eqb len 0) refl
-  where
-    go : (t : Bool) → eqb len 0 ≡ t → _≡_ {A = ℕ} (pick t 5 0) 0 → 0 < len
-    go true p z = absurd (omega arith)
-    go false p z = omega (arith, eqb-false len 0 p)
 
 -- a stroke by its questions
 module _ (n : ℕ) (state : ℕ → ℕ) (ds : List Decision) where

@@ -1,26 +1,26 @@
 -- QUESTION 2 is yes exactly for what calls reach: a book that holds together, with free places behind its names, is what the strokes that it names make
 -- of a fresh one, none of them empty (SPEC 12.5). Assumes nothing.
-use Prim.Native.Nat.{ℕ, suc, _+_, _%_, _≤_, _<_}
+use Prim.Native.Nat.{ℕ, _+_, _%_, _≤_, _<_}
 use mathlib.Core.Path.{_≡_, refl, ap, sym, _∙_}
 use mathlib.Core.Logic.{inl, inr, _≢_, ⊎-elim}
-use mathlib.Core.Bool.{Bool, true, false, true≢false}
+use mathlib.Core.Bool.{Bool, true, false}
 use mathlib.Core.List.{List, [], _∷_, _++_, map, append-assoc, append-nil}
 use native.Mathlib.Omega.{arith}
-use borrow.Author.Tests.{eqb-true, eqb-false, eq-eqb, ne-eqb}
+use borrow.Author.Tests.{eqb-true, eq-eqb, ne-eqb}
 use lib.Dec.{eqb}
 use lib.ListN.{length, getD, take, length-map, length-append}
 use lib.Seq.{getD-take, ext-getD, length-sets, length-take-le}
 use Rattle.limits.specs.Limits.{mostBorders}
-use Rattle.lists.specs.Choice.{pick, either}
-use Rattle.lists.specs.Lists.{In, count}
-use Rattle.lists.proofs.Cases.{le-or-lt, eq-or-ne, true-or-false}
+use Rattle.lists.specs.Choice.{pick}
+use Rattle.lists.specs.Lists.{count}
+use Rattle.lists.proofs.Cases.{le-or-lt, eq-or-ne}
 use Rattle.ledger.specs.declared.Book.{Book}
 use Rattle.ledger.specs.Ledger.{Decision, stroke, standing, whole, borders, strokeCode, added, ledgerOf}
-use Rattle.ledger.specs.Books.{zeros, book, freshBook, half, starts, firstStarts, nameOf, namesFrom, namesOf, namesIn, stateAt, bookHolds, placed, bookAfter, run}
+use Rattle.ledger.specs.Books.{zeros, book, freshBook, half, starts, nameOf, namesFrom, namesOf, namesIn, stateAt, bookHolds, placed, bookAfter, run}
 use Rattle.ledger.proofs.Standing.{Sound, count-both, not-decided}
 use Rattle.ledger.proofs.Strokes.{Fits, code-fits, fits-code}
-use Rattle.ledger.proofs.NameLaws.{whole-append, NoneEmpty, namesAll, names-append, names-length}
-use Rattle.ledger.proofs.BookLaws.{states-length, states-other, zero-at, zeros-length}
+use Rattle.ledger.proofs.NameLaws.{whole-append, NoneEmpty, namesAll, names-append}
+use Rattle.ledger.proofs.BookLaws.{states-length, states-other, zeros-length}
 use Rattle.ledger.proofs.Found.{decisionsIn, borders-in, sound-in, stands-in, held, question}
 use Rattle.ledger.proofs.Reached.{Reached, reached}
 use Rattle.ledger.proofs.Cuts.{strokes, after-stroke}

@@ -1,5 +1,5 @@
 -- Names and their marks: the borders of names, those of a list of strokes, and where the last stroke starts. Assumes nothing.
-use Prim.Native.Nat.{ℕ, zero, suc, _+_, _-_, _*_, _/_, _%_, _≤_, _<_}
+use Prim.Native.Nat.{ℕ, zero, suc, _+_, _-_, _%_, _≤_, _<_}
 use mathlib.Core.Path.{_≡_, refl, ap, sym, _∙_}
 use mathlib.Core.Logic.{inl, _≢_}
 use mathlib.Core.Bool.{Bool, true, false}

@@ -1,17 +1,16 @@
--- Question 2 of a ledger as facts, both ways; and that a ledger with an undecided border has room for it. Assumes nothing.
+-- Question 2 of a ledger as facts, both ways. Assumes nothing.
 use Prim.Native.Nat.{ℕ, _≤_, _<_}
-use mathlib.Core.Path.{_≡_, refl, _∙_}
+use mathlib.Core.Path.{_≡_}
 use mathlib.Core.Bool.{Bool, true, false, not}
 use mathlib.Core.List.{List}
 use native.Mathlib.Omega.{arith}
 use borrow.Author.Tests.{eqb-true, eq-eqb, leb-true, le-leb, ltb-true, lt-ltb}
 use lib.Dec.{eqb, ltb}
-use lib.ListN.{length, getD}
+use lib.ListN.{getD}
 use Rattle.lists.specs.Choice.{both, pick}
 use Rattle.lists.specs.Lists.{range, In, count, all}
 use Rattle.lists.proofs.ChoiceLaws.{both-true, true-both}
 use Rattle.lists.proofs.ListLaws.{all-true, true-all, range-in, in-range}
-use Rattle.lists.proofs.CountLaws.{distinct-length}
 use Rattle.ledger.specs.Ledger.{stateOk, namedOnce, givenWall, holdsOf}
 
 -- how often the ledger is to name a border
@@ -74,16 +73,3 @@ module _ (n : ℕ) (given : ℕ → Bool) (s l : List ℕ) where
       (true-both _ _
       (true-both _ _ (true-all _ l (λ e i. lt-ltb e n (q .inside e i))) (over (namedOnce given s l) (λ e h. eq-eqb _ _ (q .kept e h .counted))))
       (over (givenWall given s) (λ e h. q .kept e h .wall)))
-
-  -- where a border is undecided, the ledger names fewer than there are
-  pub room-left : Question n given s l → (e : ℕ) → e < n → getD s e 0 ≡ 0 → length l < n
-  room-left q e h z =
-      distinct-length n l (q .inside) (λ x k. rw (q .kept x k .counted) (due-le given s x)) e h
-      (q .kept e h .counted ∙ none)
-    where
-      go : (t : Bool) → _≡_ {A = ℕ} (pick (both (not t) false) 1 0) 0
-      go true = refl
-      go false = refl
-
-      none : dueOf given s e ≡ 0
-      none = rw z (go (given e))

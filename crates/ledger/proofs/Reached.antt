@@ -4,7 +4,7 @@
 use Prim.Native.Nat.{ℕ, suc, _+_, _-_, _%_, _≤_, _<_}
 use mathlib.Core.Path.{_≡_, refl, ap, sym, _∙_}
 use mathlib.Core.Logic.{_⊎_, inl, inr, _≢_, ⊎-elim}
-use mathlib.Core.Bool.{Bool, true, false}
+use mathlib.Core.Bool.{Bool, true}
 use mathlib.Core.List.{List, [], _∷_, _++_, map}
 use native.Mathlib.Omega.{arith}
 use native.Mathlib.Nat.{add-zero}
@@ -13,7 +13,7 @@ use lib.Dec.{eqb}
 use lib.ListN.{length, getD, take, drop, replicate, length-map, length-append}
 use lib.Seq.{sets, getD-take, length-sets, take-take, take-length, take-at, drop-at, length-take-le}
 use Rattle.limits.specs.Limits.{mostBorders}
-use Rattle.lists.specs.Choice.{either, pick}
+use Rattle.lists.specs.Choice.{pick}
 use Rattle.lists.specs.Lists.{In, count}
 use Rattle.lists.proofs.ChoiceLaws.{true-both, left-either, right-either}
 use Rattle.lists.proofs.Cases.{le-or-lt, eq-or-ne}
@@ -171,9 +171,6 @@ module _ (n : ℕ) (given : ℕ → Bool) where
           last-in : (M : List (List Decision)) (s : List Decision) → In s (M ++ (s ∷ []))
           last-in [] s = inl refl
           last-in (x ∷ M) s = inr (last-in M s)
-
-      from : ℕ
-      from = length (whole M)
 
       len-more : b .len ≡ length (whole M) + length s
       len-more = r .len-is ∙ ap length parts ∙ length-append (whole M) s

@@ -10,7 +10,7 @@ ghost use Rattle.rooms.specs.Rooms.{isGiven};
 ghost use Rattle.rooms.specs.Lent.{Below, Given, Blank};
 ghost use Rattle.room_checks.specs.RoomChecks.{Finding};
 ghost use Rattle.puzzle.specs.Fault.{faultOf};
-ghost use Rattle.puzzle.specs.Puzzle.{freshBoard, noClues, freshPuzzle, zeroPuzzle, answer, makeOf, Arrays, puzzleOf, puzzleCode, strokeNumber, strokeOf, decideOf, undoNumber, undoOf, says, writes, askOf};
+ghost use Rattle.puzzle.specs.Puzzle.{freshBoard, freshPuzzle, zeroPuzzle, answer, makeOf, Arrays, puzzleOf, puzzleCode, strokeNumber, strokeOf, decideOf, undoNumber, undoOf, says, writes, askOf};
 use answers::Found;
 use board::Board;
 use grid::Grid;

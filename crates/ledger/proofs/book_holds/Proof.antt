@@ -1,6 +1,5 @@
 -- `ledger::book_holds` meets its contract: no more names than borders, the first one's mark, and `holds`. Assumes nothing.
 use mathlib.Core.Path.{sym, _∙_}
-use native.Mathlib.Omega.{arith}
 use borrow.Author.Needs.{needs}
 use borrow.Author.Tests.{lt-leb, le-leb, not-true, not-false}
 use Rattle.ledger.specs.Books.{bookHolds}

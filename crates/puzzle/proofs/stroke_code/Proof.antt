@@ -1,5 +1,5 @@
 -- `puzzle::stroke_code` meets its contract: the puzzle's number, or else the ledger's. Assumes nothing.
-use mathlib.Core.Path.{_≡_, ap, sym, _∙_}
+use mathlib.Core.Path.{ap, sym, _∙_}
 use native.Mathlib.Omega.{arith}
 use borrow.Author.Needs.{needs}
 use denote.Ref.{now}
