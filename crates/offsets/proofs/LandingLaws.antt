@@ -21,7 +21,7 @@ use Rattle.grid.specs.declared.Beyond.{Beyond}
 use Rattle.grid.specs.declared.Beyond.the-variants.{At, End, Refused}
 use Rattle.grid.proofs.Beyond.{the-type}
 use Rattle.grid.specs.declared.Grid.{Grid}
-use Rattle.grid.specs.Grid.{Limits, Cell, row, col, goesOn, next, border, borderCount, stepOf}
+use Rattle.grid.specs.Grid.{Limits, Cell, On, row, col, goesOn, next, border, borderCount, stepOf}
 use Rattle.grid.proofs.Geometry.{goes-step, border-lt, borderCount-le, row-lt, col-lt}
 use Rattle.borders.specs.Entry.{entryOf}
 use Rattle.borders.specs.Border.{stateAt, stands}
@@ -32,11 +32,20 @@ use Rattle.offsets.specs.declared.places.Landing.the-variants.{Border, O
 use Rattle.offsets.specs.declared.landings.Fail.{Fail}
 use Rattle.offsets.specs.declared.landings.Fail.the-variants.{Nowhere, At as Entry}
 use Rattle.offsets.specs.Places.{aheadOf, borderOf, landOf}
-use Rattle.offsets.specs.Table.{rowIn, colIn, unitsIn}
+use Rattle.offsets.specs.Table.{rowIn, colIn, unitsIn, Listed}
 use Rattle.offsets.specs.Reach.{Small}
-use Rattle.offsets.specs.Landings.{failOf, badOf, keptOf, landingOf, failAt, Turning}
+use Rattle.offsets.specs.Landings.{failOf, badOf, keptOf, landingOf, failAt, Seen, Turning}
+use Rattle.offsets.proofs.TableLaws.{listed}
 use Rattle.offsets.proofs.PlaceLaws.{coordinate-moves, place-lands}
 use Rattle.offsets.proofs.ReachLaws.{Fell, fell, fell-cell}
+
+-- the table has the cell's row and column
+module _ {g : Grid} {states table : List ℕ} {c : ℕ} (s : Seen g states table c) where
+  pub seen-listed : Listed table c
+  seen-listed = listed g table (s .limits) (s .table-of) c (s .cell)
+
+  pub seen-place : {y x : ℕ} → y ≡ rowIn table c → x ≡ colIn table c → On g c × (y ≡ row g c) × (x ≡ col g c)
+  seen-place p q = (record { limits = s .limits; cell = s .cell }, p ∙ s .table-of .row-at c (s .cell), q ∙ s .table-of .col-at c (s .cell))
 
 -- what a step answers
 pub record Beyonds (g : Grid) (d : Direction) (c n e : ℕ) : Type 0 where
@@ -157,10 +166,10 @@ module _ {g : Grid} {states table : List ℕ} {s : Shift} {c : ℕ} (t : Turning
 
   module _ {y x : ℕ} (y-is : y ≡ rowIn table c) (x-is : x ≡ colIn table c) where
     at-row : y ≡ row g c
-    at-row = y-is ∙ t .seen .table-of .row-at c (t .seen .cell)
+    at-row = seen-place (t .seen) y-is x-is .1
 
     at-col : x ≡ col g c
-    at-col = x-is ∙ t .seen .table-of .col-at c (t .seen .cell)
+    at-col = seen-place (t .seen) y-is x-is .2
 
     pub turning-small : Small g s y x
     turning-small =

@@ -4,5 +4,6 @@ pub mod PlaceLaws
 pub mod Cases
 pub mod ReachLaws
 pub mod LandingLaws
+pub mod NoneLaws
 pub mod FailLaws
 pub mod TrialLaws

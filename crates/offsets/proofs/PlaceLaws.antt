@@ -13,7 +13,7 @@ use Rattle.lists.specs.Choice.{pick}
 use Rattle.grid.specs.declared.Direction.{Direction}
 use Rattle.grid.specs.declared.Direction.the-variants.{Up, Down, Left, Right}
 use Rattle.grid.specs.declared.Grid.{Grid}
-use Rattle.grid.specs.Grid.{Limits, Cell, row, col, goesOn, next, border, stepOf}
+use Rattle.grid.specs.Grid.{Limits, Cell, On, row, col, goesOn, next, border, stepOf}
 use Rattle.grid.specs.Steps.{opposite}
 use Rattle.grid.proofs.Geometry.{coords, goes-step, step-back, step-goes}
 use Rattle.offsets.specs.declared.places.Landing.the-variants.{Outside}
@@ -79,6 +79,12 @@ module _ (g : Grid) (l : Limits g) where
       let y : Y / 2 < g .height = omega arith in
       let k = coords (g .width) (Y / 2 * g .width + X / 2) (Y / 2) (X / 2) x refl in
       div-lt-iff-lt-mul (let w : 0 < g .width = omega arith in w) .0 (let r : row g (Y / 2 * g .width + X / 2) < g .height = omega arith in r)
+
+  pub halved-on : (Y X : ℕ) → Y < 2 * g .height - 1 → X < 2 * g .width - 1
+      → let c = Y / 2 * g .width + X / 2 in On g c × (Y / 2 ≡ row g c) × (X / 2 ≡ col g c)
+  halved-on Y X p q =
+      let k = coords (g .width) (Y / 2 * g .width + X / 2) (Y / 2) (X / 2) (omega arith) refl in
+      (record { limits = l; cell = halved-cell Y X p q }, sym (k .0), sym (k .1))
 
   -- a border seen from the cell behind it
   from-behind : (d : Direction) (c : ℕ) → Cell g c → goesOn g d c ≡ true → borderOf (stepOf g (opposite d) (next g d c)) ≡ borderOf (stepOf g d c)

@@ -23,21 +23,18 @@ use Rattle.boundary.specs.Boundary.{ahead}
 use Rattle.groups.proofs.GroupLaws.{in-cells}
 use Rattle.shape.specs.declared.Try.{Try}
 use Rattle.shape.specs.declared.Try.the-variants.{Passed, Good, Failed}
-use Rattle.shape.specs.Shape.{UnitInfo, shift, headOr0, unitOf, adjacent, falls, meets, innerBorder, shut, onWall, onConnected, landing, landed, try, tryAt}
+use Rattle.shape.specs.Shape.{UnitInfo, shift, headOr0, unitOf, adjacent, falls, meets, innerBorder, shut, onWall, onConnected, landing, landed, try, tryAt, isGood}
 use Rattle.offsets.specs.declared.reach.Shift.{Shift}
 use Rattle.offsets.specs.declared.landings.Fail.{Fail}
 use Rattle.offsets.specs.declared.landings.Fail.the-variants.{Nowhere, At}
 use Rattle.offsets.specs.Table.{rowIn, colIn, unitIn, potentialIn, unitsIn, potentialsIn, Listed}
 use Rattle.offsets.specs.Reach.{moved, Small, Reaching, fallsOff, fallsMarked, reachesOf}
 use Rattle.offsets.specs.Landings.{failOf, failAt, failCell, firstFail, keptOf, Falling}
-use Rattle.offsets.specs.Trial.{unitAt, triedAt, Placed, Trial}
+use Rattle.offsets.specs.Trial.{unitAt, shiftOf, triedAt, Unit, Placed, Trial}
 use Rattle.offsets.proofs.TableLaws.{potential-at, listed}
 use Rattle.offsets.proofs.ReachLaws.{fell, fell-cell}
+use Rattle.offsets.proofs.NoneLaws.{isNone, none-orElse, good-pick}
 use Rattle.offsets.proofs.FailLaws.{failed-at, failed-nowhere}
-
--- the shift that puts f on t
-abbrev pub shiftOf : Grid → ℕ → ℕ → ℕ → Shift
-shiftOf g k f t = record { unit = k; «from_row» = row g f; «from_col» = col g f; «to_row» = row g t; «to_col» = col g t }
 
 shift-moved : (g : Grid) (k f t c : ℕ) → shift g f t c ≡ moved g (shiftOf g k f t) (row g c) (col g c)
 unfolding shift moved
@@ -52,6 +49,33 @@ pub head-at : (cs : List ℕ) → getD cs 0 0 ≡ headOr0 cs
 unfolding headOr0
 head-at [] = refl
 head-at (c ∷ cs) = refl
+
+-- the shift's numbers are the table's
+module _ {g : Grid} {table cs : List ℕ} {t : ℕ} (u : Unit g table cs) (to-cell : Cell g t) where
+  a-cell : (c : ℕ) → In c cs → Cell g c
+  a-cell c m = in-cells g (unitsIn g table) (unitIn table (headOr0 cs)) c (rw (u .cells-are) at m) .0
+
+  head-cell : Cell g (headOr0 cs)
+  head-cell = a-cell (headOr0 cs) (head-in cs (u .some))
+
+  pub to-listed : Listed table t
+  to-listed = listed g table (u .limits) (u .table-of) t to-cell
+
+  module _ {f' : ℕ} (first-is : f' ≡ getD cs 0 0) where
+    pub first-listed : Listed table f'
+    first-listed = rw (first-is ∙ head-at cs) (listed g table (u .limits) (u .table-of) (headOr0 cs) head-cell)
+
+    pub shift-is : {k a b c d : ℕ} → k ≡ unitIn table f' → a ≡ rowIn table f' → b ≡ colIn table f' → c ≡ rowIn table t → d ≡ colIn table t
+        → _≡_ {A = Shift} (record { unit = k; «from_row» = a; «from_col» = b; «to_row» = c; «to_col» = d }) (shiftOf g (unitIn table (headOr0 cs)) (headOr0 cs) t)
+    shift-is {k} {a} {b} {c} {d} e x y m n =
+        let w : f' ≡ headOr0 cs = first-is ∙ head-at cs in
+        let e' : k ≡ unitIn table (headOr0 cs) = e ∙ ap (unitIn table) w in
+        let x' : a ≡ row g (headOr0 cs) = x ∙ ap (rowIn table) w ∙ u .table-of .row-at (headOr0 cs) head-cell in
+        let y' : b ≡ col g (headOr0 cs) = y ∙ ap (colIn table) w ∙ u .table-of .col-at (headOr0 cs) head-cell in
+        rw (e', x', y', m ∙ u .table-of .row-at t to-cell, n ∙ u .table-of .col-at t to-cell)
+
+pub unit-of : {g : Grid} {states table marks cs : List ℕ} → Placed g states table marks cs → Unit g table cs
+unit-of p = record { limits = p .limits; table-of = p .table-of; some = p .some; cells-are = p .cells-are }
 
 module _ {g : Grid} {states table marks cs : List ℕ} {t : ℕ} (r : Trial g states table marks cs t) where
   abbrev p : Placed g states table marks cs
@@ -80,22 +104,6 @@ module _ {g : Grid} {states table marks cs : List ℕ} {t : ℕ} (r : Trial g st
 
   first-cell : Cell g f
   first-cell = on-board f (head-in cs (p .some))
-
-  module _ {f' : ℕ} (first-is : f' ≡ getD cs 0 0) where
-    pub first-listed : Listed table f'
-    first-listed = rw (first-is ∙ head-at cs) (listed g table (p .limits) (p .table-of) f first-cell)
-
-    pub shift-is : {k a b c d : ℕ} → k ≡ unitIn table f' → a ≡ rowIn table f' → b ≡ colIn table f' → c ≡ rowIn table t → d ≡ colIn table t
-        → _≡_ {A = Shift} (record { unit = k; «from_row» = a; «from_col» = b; «to_row» = c; «to_col» = d }) s
-    shift-is {k} {a} {b} {c} {d} e x y m n =
-        let w : f' ≡ f = first-is ∙ head-at cs in
-        let e' : k ≡ unit = e ∙ ap (unitIn table) w in
-        let x' : a ≡ row g f = x ∙ ap (rowIn table) w ∙ p .table-of .row-at f first-cell in
-        let y' : b ≡ col g f = y ∙ ap (colIn table) w ∙ p .table-of .col-at f first-cell in
-        rw (e', x', y', m ∙ p .table-of .row-at t (r .to-cell), n ∙ p .table-of .col-at t (r .to-cell))
-
-  pub to-listed : Listed table t
-  to-listed = listed g table (p .limits) (p .table-of) t (r .to-cell)
 
   small : Small g s 0 0
   small =
@@ -201,6 +209,13 @@ module _ {g : Grid} {states table marks cs : List ℕ} {t : ℕ} (r : Trial g st
   abbrev answer : Try
   answer = triedAt g states table cs t
 
+  -- whether the offset is good
+  pub good-is : isGood answer ≡ both reached (both (isNone (firstFail g s states ids true cs)) (isNone (firstFail g s states ids false cs)))
+  unfolding tryAt try landing innerFirst outerFirst
+  good-is =
+      good-pick (both (all (falls ids u put) (u .cells)) (any (meets g states pids u put) (u .cells))) (landing g states ids u put)
+      ∙ ap₂ both (sym reach-is) (none-orElse innerFirst outerFirst ∙ ap₂ both (ap isNone (sym first-inner)) (ap isNone (sym first-outer)))
+
   module _ {s' : Shift} (e : s' ≡ s) where
     pub reach-asks : Reaching g table marks cs s'
     reach-asks = rw e reaching
@@ -243,3 +258,16 @@ module _ {g : Grid} {states table marks cs : List ℕ} {t : ℕ} (r : Trial g st
             pub trial-good : b ≡ Nowhere → Good ≡ answer
             unfolding landed orElse
             trial-good m = sym (by-landing none (rw (none-inner, sym first-outer ∙ failed-nowhere (firstFail g s states ids false cs) (sym m ∙ outer-told))))
+
+-- whether it is good
+pub passed-not : {t : Try} → Passed ≡ t → false ≡ isGood t
+unfolding isGood
+passed-not e = ap isGood e
+
+pub failed-not : {l : ℕ} {t : Try} → Failed l ≡ t → false ≡ isGood t
+unfolding isGood
+failed-not e = ap isGood e
+
+pub good-so : {t : Try} → Good ≡ t → true ≡ isGood t
+unfolding isGood
+good-so e = ap isGood e

@@ -22,7 +22,7 @@ pub enum Fail {
 }
 
 // Whether the border of a cell must land well: an inner border of the unit, or else a Wall or the board's edge.
-fn kept<'a>(
+pub fn kept<'a>(
     g: Grid,
     states: &'a [u8],
     table: &'a [u16],
@@ -34,7 +34,9 @@ fn kept<'a>(
     requires { ⌜ Seen g (now states) (now table) c ⌝ }
     ensures { λ r. ⌜ r ≡ keptOf g (now (states .entry)) (unitsIn g (now (table .entry))) inner unit c direction ⌝ }
 {
-    let Beyond::At(n, border) = grid::step(g, c, direction) else {
+    let row = table::row(table, c);
+    let col = table::col(table, c);
+    let Beyond::At(n, border) = grid::step_at(g, row, col, c, direction) else {
         return !inner;
     };
     if inner {

@@ -55,11 +55,13 @@ fn border_at(g: Grid, y: usize, x: usize) -> Landing
     if 2 * width - 1 <= x {
         return Landing::Outside;
     }
-    let cell = y / 2 * width + x / 2;
+    let row = y / 2;
+    let col = x / 2;
+    let cell = row * width + col;
     if y % 2 == 1 {
-        return border_of(grid::step(g, cell, Direction::Down));
+        return border_of(grid::step_at(g, row, col, cell, Direction::Down));
     }
-    border_of(grid::step(g, cell, Direction::Right))
+    border_of(grid::step_at(g, row, col, cell, Direction::Right))
 }
 
 fn border_of(b: Beyond) -> Landing
