@@ -1,0 +1,2 @@
+pub mod OwnLaws
+pub mod NearLaws

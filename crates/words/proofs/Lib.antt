@@ -1,0 +1,4 @@
+pub mod AnyLaws
+pub mod WordLaws
+pub mod SetLaws
+pub mod WalkLaws
