@@ -1,79 +1,52 @@
--- Finding: a unit at the offsets in turn, and the units in turn. Assumes nothing.
-use Prim.Native.Nat.{ℕ, _+_, _-_, _≤_, _<_}
-use mathlib.Core.Path.{_≡_, refl, ap, sym, _∙_}
-use mathlib.Core.Logic.{_⊎_, _≢_, ⊎-elim}
-use mathlib.Core.Bool.{Bool, true, false}
+-- Finding: one offset, and the units in turn. Assumes nothing.
+use Prim.Native.Nat.{ℕ, _+_, _≤_, _<_}
+use mathlib.Core.Path.{_≡_, ap, sym, _∙_}
+use mathlib.Core.Logic.{_≢_, ⊎-elim}
+use mathlib.Core.Bool.{Bool, true, false, not}
 use mathlib.Core.List.{List}
 use native.Mathlib.Omega.{arith}
-use native.Mathlib.Nat.{sub-zero}
-use denote.Enum.Declared.{tagOf}
+use borrow.Author.Tests.{eq-eqb, not-true}
+use lib.Dec.{eqb}
 use lib.ListN.{getD, length}
-use Rattle.lists.specs.Choice.{either}
-use Rattle.lists.specs.Lists.{countFrom, range, any}
-use Rattle.lists.proofs.Cases.{eq-or-ne}
-use Rattle.lists.proofs.ListLaws.{countFrom-step, countFrom-end}
+use Rattle.lists.specs.Choice.{both}
+use Rattle.lists.specs.Lists.{all, any, range}
+use Rattle.lists.proofs.Cases.{eq-or-ne, true-or-false, not-both}
+use Rattle.lists.proofs.ChoiceLaws.{both-true, holds-true}
+use Rattle.lists.proofs.ListLaws.{getD-in, any-true, true-any, all-true, range-in}
 use Rattle.grid.specs.declared.Grid.{Grid}
-use Rattle.grid.specs.Grid.{cells, Cell}
+use Rattle.grid.specs.Grid.{cells, Cell, row, col}
+use Rattle.grid.proofs.Geometry.{cells-le}
 use Rattle.groups.specs.Groups.{cellsOf}
 use Rattle.groups.specs.Info.{groupPart}
+use Rattle.boundary.proofs.BoundaryLaws.{cells-most}
 use Rattle.groups.proofs.GroupLaws.{in-cells}
 use Rattle.groups.proofs.Theorems.{turn-some}
-use Rattle.shape.specs.declared.Try.{Try}
-use Rattle.shape.specs.declared.Try.the-variants.{Passed, Good, Failed}
-use Rattle.shape.proofs.Try.{the-type}
-use Rattle.shape.specs.Shape.{headOr0, unitOf, isGood, fits}
+use Rattle.shape.specs.Shape.{headOr0, shift, unitOf, falls, meets, landing, try, tryAt, isGood, fits}
 use Rattle.offsets.specs.Table.{unitIn, potentialIn, unitsIn, potentialsIn, Listed}
-use Rattle.offsets.specs.Trial.{unitAt, triedAt, Placed}
+use Rattle.offsets.specs.Reach.{moved}
+use Rattle.offsets.specs.Trial.{unitAt, shiftOf, triedAt, fitsAt, Unit, Placed}
 use Rattle.offsets.proofs.TableLaws.{unit-at, potential-at, listed}
+use Rattle.offsets.proofs.ReachLaws.{fell, fell-cell}
+use Rattle.offsets.proofs.NoneLaws.{isNone, good-pick}
 use Rattle.offsets.proofs.TrialLaws.{head-in, head-at}
-use Rattle.adjacency.specs.Adjacency.{Marking, MarksOf}
+use Rattle.cell_words.specs.Cells.{Blank, Stamped}
+use Rattle.cell_words.proofs.OwnLaws.{on-board}
+use Rattle.adjacency.specs.Adjacency.{Unmarked, Marking, MarksOf}
 use Rattle.adjacency.proofs.ListingLaws.{marking}
-use Rattle.unit_check.specs.Find.{fitsAt, fitsIn, FirstUnfit, Finding, MarkedFor}
+use Rattle.row_trials.specs.Rows.{Asking}
+use Rattle.unit_check.specs.Find.{fitsIn, AllFit, FirstUnfit, Finding, Room, MarkedFor}
 
--- THE OFFSETS IN TURN
+-- ONE OFFSET
 
-not-good : (r : Try) → (tagOf the-type r ≡ 0) ⊎ (tagOf the-type r ≡ 2) → isGood r ≡ false
-unfolding isGood
-not-good Passed k = refl
-not-good Good k = absurd (⊎-elim (λ q. omega arith) (λ q. omega arith) k)
-not-good (Failed e) k = refl
+-- a good offset is one that fits
+pub good-fits : (g : Grid) (states table cs : List ℕ) (to : ℕ) → Cell g to → isGood (triedAt g states table cs to) ≡ true → fitsAt g states table cs ≡ true
+unfolding fits
+good-fits g states table cs to h e = true-any (λ t. isGood (triedAt g states table cs t)) (range (cells g)) to (range-in (cells g) to h) e
 
-module _ (g : Grid) (states table cs : List ℕ) where
-  abbrev isGoodAt : ℕ → Bool
-  isGoodAt t = isGood (triedAt g states table cs t)
-
-  -- no offset before `to` is good
-  pub record Trying (to : ℕ) : Type 0 where
-    pub within : to ≤ cells g
-    pub rest : any isGoodAt (countFrom to (cells g - to)) ≡ fitsAt g states table cs
-
-  pub trying-first : Trying 0
-  unfolding fits range
-  trying-first = record { within = omega arith; rest = rw (sub-zero (cells g)) }
-
-  module _ {to : ℕ} (w : Trying to) where
-    module _ (h : to < cells g) {r : Try} (told : r ≡ triedAt g states table cs to) where
-      left : either (isGood r) (any isGoodAt (countFrom (to + 1) (cells g - (to + 1)))) ≡ fitsAt g states table cs
-      unfolding any
-      left = rw told (rw (countFrom-step (cells g) to h) at (w .rest))
-
-      pub trial-good : r ≡ Good → true ≡ fitsAt g states table cs
-      unfolding isGood
-      trial-good e = (rw e at left)
-
-      pub trial-on : (tagOf the-type r ≡ 0) ⊎ (tagOf the-type r ≡ 2) → Trying (to + 1)
-      trial-on k = record { within = omega arith; rest = (rw (not-good r k) at left) }
-
-    pub trials-over : cells g ≤ to → false ≡ fitsAt g states table cs
-    unfolding any
-    trials-over h = rw (countFrom-end (cells g) to h) at (w .rest)
+pub first-small : {g : Grid} {table cs : List ℕ} → Unit g table cs → (0 < length cs) × (getD cs 0 0 < 1024)
+first-small {g} {table} {cs} u = (u .some, omega (arith, on-board u (getD cs 0 0) (getD-in 0 cs 0 (u .some)), cells-le g (u .limits)))
 
 -- THE UNITS IN TURN
-
--- each of the first k passes the test
-pub record AllFit (test : ℕ → Bool) (n k : ℕ) : Type 0 where
-  pub within : k ≤ n
-  pub before : (i : ℕ) → i < k → test i ≡ true
 
 pub fit-none : (test : ℕ → Bool) (n : ℕ) → AllFit test n 0
 fit-none test n = record { within = omega arith; before = λ i l. absurd (omega arith) }
@@ -94,6 +67,11 @@ module _ {test : ℕ → Bool} {n k : ℕ} (a : AllFit test n k) where
 
 pub below : {test : ℕ → Bool} {n k : ℕ} → FirstUnfit test n k → k ≢ n → k < n
 below w e = omega (arith, w .within)
+
+-- as many marks as before
+pub same-room : {g : Grid} {states table starts flat nstarts near : List ℕ} {room more : ℕ} → more ≡ room → Finding g states table starts flat nstarts near room
+    → Finding g states table starts flat nstarts near more
+same-room e p = rw e p
 
 -- unit k, whose cells are lent
 module _ {g : Grid} {states table starts flat nstarts near : List ℕ} {room : ℕ} (p : Finding g states table starts flat nstarts near room) {k : ℕ} (h : k < length starts)
@@ -153,3 +131,71 @@ module _ {g : Grid} {states table starts flat nstarts near : List ℕ} {room : �
 
       pub marked-for : (marks : List ℕ) → MarksOf g states pids own marks → MarkedFor g states table k marks
       marked-for marks m = record { only = rw (own-head ∙ ap (λ (l : List ℕ). potentialIn table (headOr0 l)) own-cells) at m }
+
+      pub marks-of : (marks : List ℕ) → MarkedFor g states table k marks → MarksOf g states pids own marks
+      marks-of marks m = rw (own-head ∙ ap (λ (l : List ℕ). potentialIn table (headOr0 l)) own-cells) (m .only)
+
+  -- what the trials of its offsets ask
+  pub asking : {marks : List ℕ} {full : ℕ} {words : List ℕ} {codes borders : ℕ} → MarkedFor g states table k marks → p .count ≤ length marks → Room g states full words codes borders
+      → Asking g states table marks cs full words codes borders
+  asking m l r =
+      let few : length cs ≤ cells g = rw own-cells (cells-most g ids k) in
+      record {
+        placed = placed m l;
+        own-small = omega (arith, p .small (headOr0 cs) (head .0), p .few);
+        whole = r .whole;
+        words-are = r .words-are;
+        codes-long = omega (arith, few, r .codes-long);
+        borders-long = omega (arith, few, r .borders-long);
+      }
+
+-- a unit that is the whole board fits nowhere: each offset puts its first cell on it
+module _ {g : Grid} {states table starts flat nstarts near : List ℕ} {room : ℕ} (p : Finding g states table starts flat nstarts near room) (e : length starts ≡ 1) where
+  abbrev all-ids : List ℕ
+  all-ids = unitsIn g table
+
+  abbrev all-cells : List ℕ
+  all-cells = cellsOf g all-ids 0
+
+  fits-never : fitsIn g states table 0 ≡ true → ⊥
+  unfolding fits tryAt try falls unitOf shift moved
+  fits-never q =
+      let u = unitOf g all-ids (potentialsIn g table) 0 in
+      let f = headOr0 all-cells in
+      let a = any-true (λ t. isGood (tryAt g states all-ids (potentialsIn g table) u t)) (range (cells g)) q in
+      let put = shift g f (a .0) in
+      let t = both (all (falls all-ids u put) all-cells) (any (meets g states (potentialsIn g table) u put) all-cells) in
+      let o = landing g states all-ids u put in
+      let b = both-true t (isNone o) (sym (good-pick t o) ∙ a .2) .0 in
+      let c = both-true (all (falls all-ids u put) all-cells) (any (meets g states (potentialsIn g table) u put) all-cells) b .0 in
+      let d = all-true (falls all-ids u put) all-cells c f (head-in all-cells (turn-some (p .units) (omega arith))) in
+      let x = holds-true (put f) (λ z. not (eqb (getD all-ids z 0) 0)) d in
+      let s = shiftOf g 0 f (a .0) in
+      let k = p .units .small (x .0) (fell-cell g s (row g f) (col g f) (x .0) (fell g s (row g f) (col g f) (x .0) (x .1))) in
+      not-both (eqb (getD all-ids (x .0) 0) 0) (eq-eqb (getD all-ids (x .0) 0) 0 (omega (arith, k, e))) (not-true (eqb (getD all-ids (x .0) 0) 0) (x .2))
+
+  pub only-unit : FirstUnfit (fitsIn g states table) (length starts) 0
+  only-unit =
+      record {
+        within = omega arith;
+        before = λ i l. absurd (omega arith);
+        there = λ l. ⊎-elim (λ q. absurd (fits-never q)) (λ q. q) (true-or-false (fitsIn g states table 0));
+      }
+
+-- EACH UNIT FROM ONE ON
+
+-- each unit so far fits, nothing is marked, the stamps hold, the unit's words are blank, and the slices are as long as at the start
+pub record FindWalk (g : Grid) (states table : List ℕ) (n : ℕ) (inside₀ codes₀ borders₀ nearby₀ stamps₀ marks₀ inside codes borders nearby stamps marks : List ℕ) (unit : ℕ) : Type 0 where
+  pub fit : AllFit (fitsIn g states table) n unit
+  pub clear : Unmarked marks
+  pub stamped : Stamped g states (potentialsIn g table) nearby stamps
+  pub blank : Blank g inside
+  pub inside-long : length inside ≡ length inside₀
+  pub codes-long : length codes ≡ length codes₀
+  pub borders-long : length borders ≡ length borders₀
+  pub nearby-long : length nearby ≡ length nearby₀
+  pub stamps-long : length stamps ≡ length stamps₀
+  pub marks-long : length marks ≡ length marks₀
+
+pub same-rooms : {g : Grid} {states : List ℕ} {full : ℕ} {words : List ℕ} {a b c d : ℕ} → c ≡ a → d ≡ b → Room g states full words a b → Room g states full words c d
+same-rooms e q r = rw (e, q) r

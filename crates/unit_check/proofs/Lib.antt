@@ -2,3 +2,4 @@ pub mod FindLaws
 pub mod RestLaws
 pub mod WriteLaws
 pub mod StageLaws
+pub mod RoomLaws

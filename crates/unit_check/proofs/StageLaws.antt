@@ -19,6 +19,7 @@ use Rattle.answers.specs.declared.Found.the-variants.{Nothing, Fault}
 use Rattle.answers.specs.Answers.{Told}
 use Rattle.grid.specs.declared.Grid.{Grid}
 use Rattle.grid.specs.Grid.{cells}
+use Rattle.grid.proofs.Geometry.{cells-le}
 use Rattle.groups.specs.Groups.{groupIds}
 use Rattle.groups.specs.Lent.{Fits}
 use Rattle.groups.specs.Info.{endOf, groupPart}
@@ -100,7 +101,7 @@ front-turns {g} {ids} {count} {starts} {flat} w =
 
 -- ARRAYS OF ZEROS
 
-abbrev zeros : ℕ → List ℕ
+abbrev pub zeros : ℕ → List ℕ
 zeros n = replicate n 0
 
 pub none-marked : (n : ℕ) → Unmarked (zeros n)
@@ -176,6 +177,7 @@ module _ {g : Grid} {states ids starts flat : List ℕ} {room : ℕ} (p : Staged
             count = length (take count pstarts);
             lists = rw (f .potentials) a;
             small = λ c z. rw (← potential-at g table c z, f .potentials) (potentials .small c z);
+            few = omega (arith, potentials .few, cells-le g (p .limits));
             marks-long = omega (arith, potentials .few);
           }
 

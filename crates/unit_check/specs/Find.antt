@@ -1,25 +1,27 @@
 -- The first unit that fits nowhere. The table tells the units and potential units of the cells. Assumes nothing.
-use Prim.Native.Nat.{ℕ, _≤_, _<_}
+use Prim.Native.Nat.{ℕ, _*_, _≤_, _<_}
 use mathlib.Core.Path.{_≡_}
 use mathlib.Core.Bool.{Bool, true, false}
 use mathlib.Core.List.{List}
 use lib.ListN.{length}
 use Rattle.grid.specs.declared.Grid.{Grid}
-use Rattle.grid.specs.Grid.{Limits, Cell, borderCount}
+use Rattle.grid.specs.Grid.{Limits, cells, Cell, borderCount}
 use Rattle.groups.specs.Groups.{cellsOf}
 use Rattle.groups.specs.Lent.{InTurn}
 use Rattle.shape.specs.Shape.{headOr0, unitOf, fits}
 use Rattle.offsets.specs.Table.{potentialIn, unitsIn, potentialsIn, Table}
-use Rattle.offsets.specs.Trial.{unitAt}
+use Rattle.words.specs.Words.{Full}
+use Rattle.border_words.specs.Sides.{BorderWords}
 use Rattle.adjacency.specs.Adjacency.{Adjacency, MarksOf}
 
--- the unit of these cells fits somewhere: it has a good offset (SPEC 4.8, 4.9)
-abbrev pub fitsAt : Grid → List ℕ → List ℕ → List ℕ → Bool
-fitsAt g states table cs = fits g states (unitsIn g table) (potentialsIn g table) (unitAt g table cs)
-
--- unit k fits somewhere
+-- unit k fits somewhere: it has a good offset (SPEC 4.8, 4.9)
 abbrev pub fitsIn : Grid → List ℕ → List ℕ → ℕ → Bool
 fitsIn g states table k = fits g states (unitsIn g table) (potentialsIn g table) (unitOf g (unitsIn g table) (potentialsIn g table) k)
+
+-- each of the first k of n numbers passes the test
+pub record AllFit (test : ℕ → Bool) (n k : ℕ) : Type 0 where
+  pub within : k ≤ n
+  pub before : (i : ℕ) → i < k → test i ≡ true
 
 -- k is the first of n numbers that does not pass the test, or n where all pass it
 pub record FirstUnfit (test : ℕ → Bool) (n k : ℕ) : Type 0 where
@@ -27,7 +29,7 @@ pub record FirstUnfit (test : ℕ → Bool) (n k : ℕ) : Type 0 where
   pub before : (i : ℕ) → i < k → test i ≡ true
   pub there : k < n → test k ≡ false
 
--- exactly the potential units adjacent to unit k's own are marked
+-- exactly the potential units adjacent to unit k's own are marked: that one, and those that a Wall parts from that one (SPEC 13.1)
 pub record MarkedFor (g : Grid) (states table : List ℕ) (k : ℕ) (marks : List ℕ) : Type 0 where
   pub only : MarksOf g states (potentialsIn g table) (potentialIn table (headOr0 (cellsOf g (unitsIn g table) k))) marks
 
@@ -40,4 +42,12 @@ pub record Finding (g : Grid) (states table starts flat nstarts near : List ℕ)
   pub count : ℕ
   pub lists : Adjacency g states (potentialsIn g table) count nstarts near
   pub small : (c : ℕ) → Cell g c → potentialIn table c < count
+  pub few : count ≤ 1024
   pub marks-long : count ≤ marks
+
+-- the words of the board's borders and of a whole row, and room for the codes of any unit
+pub record Room (g : Grid) (states : List ℕ) (full : ℕ) (words : List ℕ) (codes borders : ℕ) : Type 0 where
+  pub whole : Full (g .width) full
+  pub words-are : BorderWords g states words
+  pub codes-long : cells g ≤ codes
+  pub borders-long : 6 * cells g ≤ borders

@@ -1,41 +1,255 @@
-// Finding: whether a unit fits somewhere, and the first unit that does not.
-ghost use mathlib.Core.Path.{_≡_};
-ghost use Prim.Native.Nat.{_<_};
+// Finding: the first unit that fits nowhere.
+ghost use Prim.Native.Nat.{_*_, _<_, _≤_};
 ghost use lib.ListN.{length};
+ghost use Rattle.offsets.specs.Table.{potentialsIn};
+ghost use Rattle.cell_words.specs.Cells.{Blank, Stamped};
 ghost use Rattle.adjacency.specs.Adjacency.{Unmarked};
-ghost use Rattle.offsets.specs.Trial.{Placed};
-ghost use Rattle.unit_check.specs.Find.{fitsAt, fitsIn, FirstUnfit, Finding, MarkedFor};
+ghost use Rattle.unit_check.specs.Find.{fitsIn, AllFit, FirstUnfit, Finding, Room, MarkedFor};
+use crate::soon;
 use grid::Grid;
 use lists::wide;
 use offsets::table;
-use shape::Try;
 
-// Whether any offset is good for the unit of these cells, whose adjacent potential units are marked.
-pub fn fits<'a>(
+// Marks the potential units adjacent to the unit's own, and no others, before the unit's offsets begin.
+fn mark_unit<'a>(
     g: Grid,
     states: &'a [u8],
     table: &'a [u16],
-    marks: &'a [u8],
-    cells: &'a [u16],
-) -> bool
-    requires { ⌜ Placed g (now states) (now table) (now marks) (now cells) ⌝ }
-    ensures { λ r. ⌜ r ≡ fitsAt g (now (states .entry)) (now (table .entry)) (now (cells .entry)) ⌝ }
+    starts: &'a [u16],
+    flat: &'a [u16],
+    nstarts: &'a [usize],
+    near: &'a [u16],
+    unit: usize,
+    marks: &mut [u8],
+)
+    requires { ⌜ Finding g (now states) (now table) (now starts) (now flat) (now nstarts) (now near) (length (now marks)) ⌝ }
+    requires { ⌜ unit < length (now starts) ⌝ }
+    requires { ⌜ Unmarked (now marks) ⌝ }
+    ensures { λ _. ⌜ MarkedFor g (now (states .entry)) (now (table .entry)) unit (now (marks .exit)) ⌝ }
 {
-    let height = g.height;
-    let width = g.width;
-    let n = height * width;
-    let mut to = 0;
-    while to < n {
-        let t = offsets::try_at(g, states, table, marks, cells, to);
-        if let Try::Good = t {
-            return true;
-        }
-        to += 1;
-    }
-    false
+    let cells = groups::cells_of(g, starts, flat, starts.len(), unit);
+    let own = table::potential(table, wide(cells[0]));
+    adjacency::mark_adjacent(own, nstarts, near, marks);
 }
 
-// The first unit that fits nowhere, for which the marks are left set; as many as there are units, where each fits somewhere.
+// Takes these marks away again, before the next unit's are set.
+fn unmark_unit<'a>(
+    g: Grid,
+    states: &'a [u8],
+    table: &'a [u16],
+    starts: &'a [u16],
+    flat: &'a [u16],
+    nstarts: &'a [usize],
+    near: &'a [u16],
+    unit: usize,
+    marks: &mut [u8],
+)
+    requires { ⌜ Finding g (now states) (now table) (now starts) (now flat) (now nstarts) (now near) (length (now marks)) ⌝ }
+    requires { ⌜ unit < length (now starts) ⌝ }
+    requires { ⌜ MarkedFor g (now states) (now table) unit (now marks) ⌝ }
+    ensures { λ _. ⌜ Unmarked (now (marks .exit)) ⌝ }
+{
+    let cells = groups::cells_of(g, starts, flat, starts.len(), unit);
+    let own = table::potential(table, wide(cells[0]));
+    adjacency::unmark_adjacent(own, nstarts, near, marks);
+}
+
+// The first unit from one on that fits at none of the places that are tried soon; as many as there are units, where each fits at one.
+fn find_soon<'a>(
+    g: Grid,
+    states: &'a [u8],
+    table: &'a [u16],
+    starts: &'a [u16],
+    flat: &'a [u16],
+    nstarts: &'a [usize],
+    near: &'a [u16],
+    from: usize,
+    marks: &mut [u8],
+) -> usize
+    requires { ⌜ Finding g (now states) (now table) (now starts) (now flat) (now nstarts) (now near) (length (now marks)) ⌝ }
+    requires { ⌜ Unmarked (now marks) ⌝ }
+    requires { ⌜ AllFit (fitsIn g (now states) (now table)) (length (now starts)) from ⌝ }
+    ensures { λ r. ⌜ AllFit (fitsIn g (now (states .entry)) (now (table .entry))) (length (now (starts .entry))) r ⌝ }
+    ensures { λ r. ⌜ from ≤ r ⌝ }
+    ensures { λ _. ⌜ Unmarked (now (marks .exit)) ⌝ }
+{
+    let count = starts.len();
+    let mut unit = from;
+    while unit < count {
+        mark_unit(g, states, table, starts, flat, nstarts, near, unit, marks);
+        let cells = groups::cells_of(g, starts, flat, count, unit);
+        let fits = soon::fits_soon(g, states, table, marks, cells);
+        unmark_unit(g, states, table, starts, flat, nstarts, near, unit, marks);
+        if !fits {
+            return unit;
+        }
+        unit += 1;
+    }
+    unit
+}
+
+// The first unit from one on that fits nowhere, for which the marks are left set; as many as there are units, where each fits somewhere. The
+// unit to begin with is one that fits at none of the places that are tried soon. The words of the board's borders and of a whole row are made.
+fn find_from<'a>(
+    g: Grid,
+    states: &'a [u8],
+    table: &'a [u16],
+    starts: &'a [u16],
+    flat: &'a [u16],
+    nstarts: &'a [usize],
+    near: &'a [u16],
+    from: usize,
+    full: u64,
+    words: &'a [u64],
+    inside: &mut [u64],
+    codes: &mut [u16],
+    borders: &mut [u16],
+    nearby: &mut [u64],
+    stamps: &mut [usize],
+    marks: &mut [u8],
+) -> usize
+    requires { ⌜ Finding g (now states) (now table) (now starts) (now flat) (now nstarts) (now near) (length (now marks)) ⌝ }
+    requires { ⌜ Unmarked (now marks) ⌝ }
+    requires { ⌜ AllFit (fitsIn g (now states) (now table)) (length (now starts)) from ⌝ }
+    requires { ⌜ Room g (now states) full (now words) (length (now codes)) (length (now borders)) ⌝ }
+    requires { ⌜ Stamped g (now states) (potentialsIn g (now table)) (now nearby) (now stamps) ⌝ }
+    requires { ⌜ Blank g (now inside) ⌝ }
+    ensures { λ r. ⌜ FirstUnfit (fitsIn g (now (states .entry)) (now (table .entry))) (length (now (starts .entry))) r ⌝ }
+    ensures { λ r. ⌜ (r < length (now (starts .entry)) → MarkedFor g (now (states .entry)) (now (table .entry)) r (now (marks .exit))) ⌝ }
+{
+    let count = starts.len();
+    let mut unit = from;
+    while unit < count {
+        mark_unit(g, states, table, starts, flat, nstarts, near, unit, marks);
+        let cells = groups::cells_of(g, starts, flat, count, unit);
+        let fit = row_trials::fits(
+            g,
+            states,
+            table,
+            marks,
+            cells,
+            full,
+            words,
+            inside,
+            codes,
+            borders,
+            nearby,
+            stamps,
+        );
+        if !fit {
+            return unit;
+        }
+        unmark_unit(g, states, table, starts, flat, nstarts, near, unit, marks);
+        unit = find_soon(
+            g,
+            states,
+            table,
+            starts,
+            flat,
+            nstarts,
+            near,
+            unit + 1,
+            marks,
+        );
+    }
+    unit
+}
+
+// The units of a board of at most 64 cells from one on, in short arrays, since all of an array is zeroed.
+fn find_small<'a>(
+    g: Grid,
+    states: &'a [u8],
+    table: &'a [u16],
+    starts: &'a [u16],
+    flat: &'a [u16],
+    nstarts: &'a [usize],
+    near: &'a [u16],
+    from: usize,
+    marks: &mut [u8],
+) -> usize
+    requires { ⌜ Finding g (now states) (now table) (now starts) (now flat) (now nstarts) (now near) (length (now marks)) ⌝ }
+    requires { ⌜ Unmarked (now marks) ⌝ }
+    requires { ⌜ AllFit (fitsIn g (now states) (now table)) (length (now starts)) from ⌝ }
+    requires { ⌜ g .height * g .width ≤ 64 ⌝ }
+    ensures { λ r. ⌜ FirstUnfit (fitsIn g (now (states .entry)) (now (table .entry))) (length (now (starts .entry))) r ⌝ }
+    ensures { λ r. ⌜ (r < length (now (starts .entry)) → MarkedFor g (now (states .entry)) (now (table .entry)) r (now (marks .exit))) ⌝ }
+{
+    let mut words = [0u64; 132];
+    border_words::fill(g, states, &mut words);
+    let full = words::full_word(g.width);
+    let mut inside = [0u64; 32];
+    let mut codes = [0u16; 64];
+    let mut borders = [0u16; 384];
+    let mut nearby = [0u64; 32];
+    let mut stamps = [1024usize; 32];
+    find_from(
+        g,
+        states,
+        table,
+        starts,
+        flat,
+        nstarts,
+        near,
+        from,
+        full,
+        &words,
+        &mut inside,
+        &mut codes,
+        &mut borders,
+        &mut nearby,
+        &mut stamps,
+        marks,
+    )
+}
+
+// The units of any board from one on.
+fn find_large<'a>(
+    g: Grid,
+    states: &'a [u8],
+    table: &'a [u16],
+    starts: &'a [u16],
+    flat: &'a [u16],
+    nstarts: &'a [usize],
+    near: &'a [u16],
+    from: usize,
+    marks: &mut [u8],
+) -> usize
+    requires { ⌜ Finding g (now states) (now table) (now starts) (now flat) (now nstarts) (now near) (length (now marks)) ⌝ }
+    requires { ⌜ Unmarked (now marks) ⌝ }
+    requires { ⌜ AllFit (fitsIn g (now states) (now table)) (length (now starts)) from ⌝ }
+    ensures { λ r. ⌜ FirstUnfit (fitsIn g (now (states .entry)) (now (table .entry))) (length (now (starts .entry))) r ⌝ }
+    ensures { λ r. ⌜ (r < length (now (starts .entry)) → MarkedFor g (now (states .entry)) (now (table .entry)) r (now (marks .exit))) ⌝ }
+{
+    let mut words = [0u64; 132];
+    border_words::fill(g, states, &mut words);
+    let full = words::full_word(g.width);
+    let mut inside = [0u64; 32];
+    let mut codes = [0u16; limits::CELLS];
+    let mut borders = [0u16; 6144];
+    let mut nearby = [0u64; 32];
+    let mut stamps = [1024usize; 32];
+    find_from(
+        g,
+        states,
+        table,
+        starts,
+        flat,
+        nstarts,
+        near,
+        from,
+        full,
+        &words,
+        &mut inside,
+        &mut codes,
+        &mut borders,
+        &mut nearby,
+        &mut stamps,
+        marks,
+    )
+}
+
+// The first unit that fits nowhere, for which the marks are left set; as many as there are units, where each fits somewhere. A unit that is
+// the whole board fits nowhere. Words are made only once a unit fits at none of the offsets that are tried soon.
 pub fn find<'a>(
     g: Grid,
     states: &'a [u8],
@@ -51,17 +265,16 @@ pub fn find<'a>(
     ensures { λ r. ⌜ FirstUnfit (fitsIn g (now (states .entry)) (now (table .entry))) (length (now (starts .entry))) r ⌝ }
     ensures { λ r. ⌜ (r < length (now (starts .entry)) → MarkedFor g (now (states .entry)) (now (table .entry)) r (now (marks .exit))) ⌝ }
 {
-    let count = starts.len();
-    let mut unit = 0;
-    while unit < count {
-        let cells = groups::cells_of(g, starts, flat, count, unit);
-        let own = table::potential(table, wide(cells[0]));
-        adjacency::mark_adjacent(own, nstarts, near, marks);
-        if !fits(g, states, table, marks, cells) {
-            return unit;
-        }
-        adjacency::unmark_adjacent(own, nstarts, near, marks);
-        unit += 1;
+    if starts.len() == 1 {
+        mark_unit(g, states, table, starts, flat, nstarts, near, 0, marks);
+        return 0;
     }
-    unit
+    let unit = find_soon(g, states, table, starts, flat, nstarts, near, 0, marks);
+    if unit == starts.len() {
+        return unit;
+    }
+    if g.height * g.width <= 64 {
+        return find_small(g, states, table, starts, flat, nstarts, near, unit, marks);
+    }
+    find_large(g, states, table, starts, flat, nstarts, near, unit, marks)
 }

@@ -8,6 +8,7 @@ use answers::Found;
 use grid::Grid;
 
 mod find;
+mod soon;
 mod write;
 
 // The units of a board of at most 64 cells, in short arrays, since all of an array is zeroed.
