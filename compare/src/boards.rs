@@ -26,6 +26,39 @@ impl Standing {
         self.height * self.width
     }
 
+    /// The two cells beside a border, the first in row order first.
+    pub fn beside(&self, border: usize) -> (usize, usize) {
+        let (right, width) = (self.height * (self.width - 1), self.width);
+        if border < right {
+            let cell = border / (width - 1) * width + border % (width - 1);
+            (cell, cell + 1)
+        } else {
+            (border - right, border - right + width)
+        }
+    }
+
+    /// The border between a cell and the one right of it or under it.
+    pub fn between(&self, cell: usize, next: usize) -> usize {
+        if self.width > 1 && next == cell + 1 {
+            cell - cell / self.width
+        } else {
+            self.height * (self.width - 1) + cell
+        }
+    }
+
+    /// The unit of each cell.
+    pub fn units(&self) -> Vec<usize> {
+        let mut unit: Vec<usize> = (0..self.cells()).collect();
+        for (border, _) in self.states.iter().enumerate().filter(|(_, &state)| state == CONNECTED) {
+            let (a, b) = self.beside(border);
+            let (from, to) = (unit[a], unit[b]);
+            if from != to {
+                unit.iter_mut().filter(|u| **u == from).for_each(|u| *u = to);
+            }
+        }
+        unit
+    }
+
     /// The border's state is given by its two cells.
     pub fn by(height: usize, width: usize, state: impl Fn((usize, usize), (usize, usize)) -> u8) -> Standing {
         let right = (0..height).flat_map(|y| (0..width - 1).map(move |x| ((y, x), (y, x + 1))));
@@ -81,7 +114,7 @@ pub fn sizes(borders: usize) -> Vec<(usize, usize)> {
 }
 
 /// The cell's place on a path that goes round the board from the outside in.
-fn spiral(height: usize, width: usize) -> Vec<usize> {
+pub fn spiral(height: usize, width: usize) -> Vec<usize> {
     let mut place = vec![usize::MAX; height * width];
     let (mut y, mut x, mut turn) = (0i32, 0i32, 0);
     let steps = [(0, 1), (1, 0), (0, -1), (-1, 0)];

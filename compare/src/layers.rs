@@ -2,6 +2,7 @@
 pub mod board;
 pub mod boundary;
 pub mod city_count;
+pub mod edges;
 pub mod files;
 pub mod generator;
 pub mod groups;
@@ -38,7 +39,7 @@ pub struct Layer {
     pub run: fn(&Limits) -> Tally,
 }
 
-pub const LAYERS: [Layer; 14] = [
+pub const LAYERS: [Layer; 15] = [
     Layer { name: "numbering", run: numbering::run },
     Layer { name: "board", run: board::run },
     Layer { name: "groups", run: groups::run },
@@ -48,6 +49,7 @@ pub const LAYERS: [Layer; 14] = [
     Layer { name: "union_find", run: union_find::run },
     Layer { name: "city_count", run: city_count::run },
     Layer { name: "puzzle", run: puzzle::run },
+    Layer { name: "edges", run: edges::run },
     Layer { name: "strokes", run: strokes::run },
     Layer { name: "right_boards", run: right_boards::run },
     Layer { name: "hand_over", run: hand_over::run },

@@ -4,8 +4,10 @@
 mod answers;
 mod bench;
 mod boards;
+mod edges;
 mod files;
 mod findings;
+mod fits;
 mod generator;
 mod layers;
 mod ledger;

@@ -1,5 +1,5 @@
 //! Puzzles to compare on, damaged records, and SPEC's questions about both.
-use crate::boards::{self, border_count, Standing, CONNECTED, UNDECIDED, WALL};
+use crate::boards::{self, border_count, Standing, UNDECIDED, WALL};
 use crate::ledger::{self, Ledger};
 use crate::port::PuzzleRecord;
 use crate::random::Random;
@@ -85,25 +85,9 @@ pub fn every(height: usize, width: usize) -> Vec<Making> {
     all
 }
 
-/// The two cells beside a border.
-fn beside(height: usize, width: usize, border: usize) -> (usize, usize) {
-    let right = height * (width - 1);
-    if border < right {
-        let cell = border / (width - 1) * width + border % (width - 1);
-        (cell, cell + 1)
-    } else {
-        (border - right, border - right + width)
-    }
-}
-
 /// How many units of a board each room holds.
 fn units_in(board: &Standing, rooms: &[Vec<usize>]) -> Vec<usize> {
-    let mut unit: Vec<usize> = (0..board.cells()).collect();
-    for (border, _) in board.states.iter().enumerate().filter(|(_, &state)| state == CONNECTED) {
-        let (a, b) = beside(board.height, board.width, border);
-        let (from, to) = (unit[a], unit[b]);
-        unit.iter_mut().filter(|u| **u == from).for_each(|u| *u = to);
-    }
+    let unit = board.units();
     let held = |room: &Vec<usize>| {
         let mut units: Vec<usize> = room.iter().map(|&cell| unit[cell]).collect();
         units.sort();

@@ -13,9 +13,9 @@ use crate::sample::{code, numbers, record, Sample, LARGEST};
 use crate::tally::Tally;
 
 /// The tally, and how many of the accepted asks were clear, faults of the shape check, and faults of a room.
-struct Compared {
-    tally: Tally,
-    answers: [u64; 3],
+pub(super) struct Compared {
+    pub(super) tally: Tally,
+    pub(super) answers: [u64; 3],
 }
 
 /// A puzzle on both sides.
@@ -39,6 +39,10 @@ impl Both<'_> {
 }
 
 impl Compared {
+    pub(super) fn new(layer: &'static str) -> Compared {
+        Compared { tally: Tally::new(layer), answers: [0; 3] }
+    }
+
     /// Makes a puzzle on both sides; where SPEC 3 refuses it and the Rust has a word on it, that is the same one.
     fn made<'a>(&mut self, making: &'a Making, absent: bool) -> Option<Both<'a>> {
         self.tally.case();
@@ -115,7 +119,7 @@ impl Compared {
     }
 
     /// A whole board stands on the puzzle, in one stroke: an ask of each kind.
-    fn standing(&mut self, making: &Making, board: &Standing) {
+    pub(super) fn standing(&mut self, making: &Making, board: &Standing) {
         let Some(mut both) = self.made(making, false) else { return };
         let on = || format!("{making:?}, {board:?}");
         self.turn(&mut both, &Turn::Stroke(puzzles::entries(board, making)), on);
@@ -211,7 +215,7 @@ fn random_record(compared: &mut Compared, random: &mut Random) {
 }
 
 pub fn run(limits: &Limits) -> Tally {
-    let mut compared = Compared { tally: Tally::new("puzzle"), answers: [0; 3] };
+    let mut compared = Compared::new("puzzle");
     let random = &mut Random::new(limits.seed);
     // to 6 borders, and to 7 where there are two rows and columns
     let small = |&(height, width): &(usize, usize)| border_count(height, width) < 7 || (height > 1 && width > 1);
