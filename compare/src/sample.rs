@@ -1,5 +1,6 @@
 //! The script that crate `vectors` runs in the gate, and the Rust's answers to it: a line for each call. README.md has the calls.
 use crate::boards::{self, Standing, UNDECIDED};
+use crate::edges::{self, KINDS};
 use crate::layers::{
     board, boundary, city_count, generator, groups, hand_over, numbering, path, puzzle, right_boards, shape, strokes, union_find,
 };
@@ -85,12 +86,24 @@ fn standing(sample: &mut Sample) {
     }
 }
 
+/// Boards whose units lie along the sides or fit in few places: small ones of each kind, and two of the largest sizes.
+fn along_sides(sample: &mut Sample) {
+    let random = &mut Random::new(137);
+    let small = (0..KINDS.len()).flat_map(|kind| [(kind, 3, 7), (kind, 8, 5), (kind, 1, 9)]);
+    for (kind, height, width) in small.chain([(2, 32, 32), (4, 31, 32)]) {
+        let board = edges::drawn(random, kind, height, width);
+        sample.board(&board);
+        shape::sample(sample, &board);
+    }
+}
+
 /// Writes the script of all layers and the answers to it.
 pub fn write(folder: &Path) {
     let sample = &mut Sample { script: String::new(), answers: String::new() };
     numbering::sample(sample);
     board::sample(sample);
     standing(sample);
+    along_sides(sample);
     union_find::sample(sample);
     city_count::sample(sample);
     puzzle::sample(sample);

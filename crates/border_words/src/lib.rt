@@ -1,5 +1,5 @@
 // Row words of a board's borders: where Walls stand, and where Connected borders, so that the borders of a unit are tried on a row of
-// offsets at once. Holes and images of a unit read the same words.
+// offsets at once.
 ghost use Prim.Native.Nat.{_+_, _-_, _*_, _≤_};
 ghost use lib.ListN.{length};
 ghost use Rattle.border_words.specs.Sides.{BorderWords};

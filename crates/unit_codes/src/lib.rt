@@ -1,5 +1,5 @@
-// A unit as lists of codes: each reads a row's word so that one bit of it speaks of one offset. An image of a unit is another list, and
-// nothing else changes for it.
+// A unit as lists of codes, of its cells and of its borders that must land well: each reads a row's word so that one bit of it speaks of
+// one offset.
 ghost use mathlib.Core.Path.{_≡_};
 ghost use Prim.Native.Nat.{_+_, _-_, _*_, _≤_, _<_};
 ghost use lib.ListN.{length};
