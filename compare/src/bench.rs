@@ -198,9 +198,7 @@ shape check, as `solve_sendai` has it (of the asks below at 4 by 4, Connected in
 ";
 
 const WHY: &str = "Where an ask gains least, two costs of the port show, which the Rust does not have: its arrays have the length of the largest board, and
-the puzzle goes over the C interface by value, 12 KB each time. Of the cycles of a puzzle's ask at 4 by 4, some 28 in 100 copy the record
-and 18 clear arrays (counted around memcpy and memset; one room, all undecided). A decide and an undo put question 2 to the whole ledger, each name of it
-one store; where two thirds of the borders are decided and the ask ends at its first Wall inside a unit, that is more than a twentieth.
+the puzzle goes over the C interface by value, 12 KB each time. A decide and an undo put question 2 to the whole ledger, each name of it one store; where two thirds of the borders are decided and the ask ends at its first Wall inside a unit, that is more than a twentieth.
 ";
 
 const OTHER_CALLS: &str = "The port's µs, and the ratio in brackets. A path leads from the first to the last cell of the largest unit; a boundary is that of

@@ -38,7 +38,8 @@ const BLOCKS: [(&str, [&[u8; 4]; 4]); 2] = [
     ("corners in pairs on the slant", [b"abbc", b"aabd", b"efgg", b"hffg"]),
 ];
 
-/// Boards on which each unit fits, but half of them or more at none of the offsets that the port tries before it looks at rows of them.
+/// Boards on which each unit fits, but on more than 25 cells about half of them or more at none of the offsets that the port tries before
+/// it looks at rows of them.
 pub fn later(side: usize) -> Vec<(&'static str, Standing)> {
     let tiled = |block: [&[u8; 4]; 4]| {
         let part = |y: usize, x: usize| (y / 4 * 64 + x / 4) * 256 + block[y % 4][x % 4] as usize;
@@ -61,7 +62,7 @@ pub fn about_later(side: usize) -> String {
     };
     let list: Vec<String> = later(side).iter().map(told).collect();
     format!(
-        "Some units fit, but neither right of their first row, nor under their last one, nor at the first offset, where the port tries\n\
+        "Some units fit, but neither right nor left of their first row, nor under their last one, nor at the first offset, where the port tries\n\
          first. Of 100 units these are on {}.\n",
         list.join(", on ")
     )

@@ -1,4 +1,4 @@
--- What the row words of a board's borders say. Assumes nothing.
+-- What the row words of a board's borders say (SPEC 13.3). Assumes nothing.
 use Prim.Native.Nat.{ℕ, _+_, _-_, _*_, _≤_, _<_}
 use mathlib.Core.Path.{_≡_}
 use mathlib.Core.Bool.{Bool}

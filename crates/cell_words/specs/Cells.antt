@@ -26,7 +26,7 @@ pub record Inside (g : Grid) (ids : List ℕ) (k : ℕ) (inside : List ℕ) : Ty
   pub none : (y : ℕ) → ((c : ℕ) → In c (cellsOf g ids k) → row g c ≢ y) → _≡_ {A = ℕ} (getD inside y 0) 0
   pub long : g .height ≤ length inside
 
--- the word of row y stands for p: it has the cells in potential units adjacent to p
+-- the word of row y stands for p: it has the cells in potential units adjacent to p (SPEC 4.7, 13.1)
 abbrev pub NearRow : Grid → List ℕ → List ℕ → ℕ → List ℕ → ℕ → Type 0
 NearRow g states pids p near y = Says (g .width) (λ x. adjacent g states pids p (getD pids (y * g .width + x) 0)) (getD near y 0)
 

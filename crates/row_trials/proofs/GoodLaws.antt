@@ -13,7 +13,7 @@ use Rattle.lists.proofs.Cases.{true-or-false}
 use Rattle.lists.proofs.ListLaws.{all-true}
 use Rattle.grid.specs.Orders.{around, forward}
 use Rattle.grid.specs.declared.Grid.{Grid}
-use Rattle.grid.specs.Grid.{Cell, cells, row}
+use Rattle.grid.specs.Grid.{Cell, row}
 use Rattle.borders.proofs.Congruence.{any-same, all-same}
 use Rattle.groups.proofs.GroupLaws.{in-cells}
 use Rattle.shape.specs.Shape.{headOr0}

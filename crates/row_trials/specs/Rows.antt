@@ -18,7 +18,7 @@ use Rattle.unit_codes.specs.Codes.{cellCodes, borderCodes}
 use Rattle.cell_words.specs.Cells.{Inside, NearRow, Stamped}
 use Rattle.row_trials.specs.declared.Coded.{Coded}
 
--- the offset that puts the first cell on column x of row t is good
+-- the offset that puts the first cell on column x of row t is good (SPEC 4.8, 4.9)
 abbrev pub goodAt : Grid → List ℕ → List ℕ → List ℕ → ℕ → ℕ → Bool
 goodAt g states table cs t x = isGood (triedAt g states table cs (t * g .width + x))
 

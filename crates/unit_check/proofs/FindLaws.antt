@@ -31,7 +31,7 @@ use Rattle.offsets.proofs.NoneLaws.{isNone, good-pick}
 use Rattle.offsets.proofs.TrialLaws.{head-in, head-at}
 use Rattle.cell_words.specs.Cells.{Blank, Stamped}
 use Rattle.cell_words.proofs.OwnLaws.{on-board}
-use Rattle.adjacency.specs.Adjacency.{Unmarked, Marking, MarksOf}
+use Rattle.adjacency.specs.Adjacency.{Marking, MarksOf}
 use Rattle.adjacency.proofs.ListingLaws.{marking}
 use Rattle.row_trials.specs.Rows.{Asking}
 use Rattle.unit_check.specs.Find.{fitsIn, AllFit, FirstUnfit, Finding, Room, MarkedFor}
@@ -184,10 +184,10 @@ module _ {g : Grid} {states table starts flat nstarts near : List ℕ} {room : �
 
 -- EACH UNIT FROM ONE ON
 
--- each unit so far fits, nothing is marked, the stamps hold, the unit's words are blank, and the slices are as long as at the start
+-- each unit so far fits, the next one has its marks, the stamps hold, the unit's words are blank, and the slices are as long as at the start
 pub record FindWalk (g : Grid) (states table : List ℕ) (n : ℕ) (inside₀ codes₀ borders₀ nearby₀ stamps₀ marks₀ inside codes borders nearby stamps marks : List ℕ) (unit : ℕ) : Type 0 where
   pub fit : AllFit (fitsIn g states table) n unit
-  pub clear : Unmarked marks
+  pub marked : unit < n → MarkedFor g states table unit marks
   pub stamped : Stamped g states (potentialsIn g table) nearby stamps
   pub blank : Blank g inside
   pub inside-long : length inside ≡ length inside₀

@@ -54,7 +54,8 @@ fn unmark_unit<'a>(
     adjacency::unmark_adjacent(own, nstarts, near, marks);
 }
 
-// The first unit from one on that fits at none of the places that are tried soon; as many as there are units, where each fits at one.
+// The first unit from one on that fits at none of the places that are tried soon, for which the marks are left set; as many as there are
+// units, where each fits at one.
 fn find_soon<'a>(
     g: Grid,
     states: &'a [u8],
@@ -71,25 +72,25 @@ fn find_soon<'a>(
     requires { ⌜ AllFit (fitsIn g (now states) (now table)) (length (now starts)) from ⌝ }
     ensures { λ r. ⌜ AllFit (fitsIn g (now (states .entry)) (now (table .entry))) (length (now (starts .entry))) r ⌝ }
     ensures { λ r. ⌜ from ≤ r ⌝ }
-    ensures { λ _. ⌜ Unmarked (now (marks .exit)) ⌝ }
+    ensures { λ r. ⌜ (r < length (now (starts .entry)) → MarkedFor g (now (states .entry)) (now (table .entry)) r (now (marks .exit))) ⌝ }
 {
     let count = starts.len();
     let mut unit = from;
     while unit < count {
         mark_unit(g, states, table, starts, flat, nstarts, near, unit, marks);
         let cells = groups::cells_of(g, starts, flat, count, unit);
-        let fits = soon::fits_soon(g, states, table, marks, cells);
-        unmark_unit(g, states, table, starts, flat, nstarts, near, unit, marks);
-        if !fits {
+        if !soon::fits_soon(g, states, table, marks, cells) {
             return unit;
         }
+        unmark_unit(g, states, table, starts, flat, nstarts, near, unit, marks);
         unit += 1;
     }
     unit
 }
 
 // The first unit from one on that fits nowhere, for which the marks are left set; as many as there are units, where each fits somewhere. The
-// unit to begin with is one that fits at none of the places that are tried soon. The words of the board's borders and of a whole row are made.
+// unit to begin with has its marks, and fits at none of the places that are tried soon. The words of the board's borders and of a whole row
+// are made.
 fn find_from<'a>(
     g: Grid,
     states: &'a [u8],
@@ -109,7 +110,7 @@ fn find_from<'a>(
     marks: &mut [u8],
 ) -> usize
     requires { ⌜ Finding g (now states) (now table) (now starts) (now flat) (now nstarts) (now near) (length (now marks)) ⌝ }
-    requires { ⌜ Unmarked (now marks) ⌝ }
+    requires { ⌜ (from < length (now starts) → MarkedFor g (now states) (now table) from (now marks)) ⌝ }
     requires { ⌜ AllFit (fitsIn g (now states) (now table)) (length (now starts)) from ⌝ }
     requires { ⌜ Room g (now states) full (now words) (length (now codes)) (length (now borders)) ⌝ }
     requires { ⌜ Stamped g (now states) (potentialsIn g (now table)) (now nearby) (now stamps) ⌝ }
@@ -120,7 +121,6 @@ fn find_from<'a>(
     let count = starts.len();
     let mut unit = from;
     while unit < count {
-        mark_unit(g, states, table, starts, flat, nstarts, near, unit, marks);
         let cells = groups::cells_of(g, starts, flat, count, unit);
         let fit = row_trials::fits(
             g,
@@ -168,7 +168,7 @@ fn find_small<'a>(
     marks: &mut [u8],
 ) -> usize
     requires { ⌜ Finding g (now states) (now table) (now starts) (now flat) (now nstarts) (now near) (length (now marks)) ⌝ }
-    requires { ⌜ Unmarked (now marks) ⌝ }
+    requires { ⌜ (from < length (now starts) → MarkedFor g (now states) (now table) from (now marks)) ⌝ }
     requires { ⌜ AllFit (fitsIn g (now states) (now table)) (length (now starts)) from ⌝ }
     requires { ⌜ g .height * g .width ≤ 64 ⌝ }
     ensures { λ r. ⌜ FirstUnfit (fitsIn g (now (states .entry)) (now (table .entry))) (length (now (starts .entry))) r ⌝ }
@@ -215,7 +215,7 @@ fn find_large<'a>(
     marks: &mut [u8],
 ) -> usize
     requires { ⌜ Finding g (now states) (now table) (now starts) (now flat) (now nstarts) (now near) (length (now marks)) ⌝ }
-    requires { ⌜ Unmarked (now marks) ⌝ }
+    requires { ⌜ (from < length (now starts) → MarkedFor g (now states) (now table) from (now marks)) ⌝ }
     requires { ⌜ AllFit (fitsIn g (now states) (now table)) (length (now starts)) from ⌝ }
     ensures { λ r. ⌜ FirstUnfit (fitsIn g (now (states .entry)) (now (table .entry))) (length (now (starts .entry))) r ⌝ }
     ensures { λ r. ⌜ (r < length (now (starts .entry)) → MarkedFor g (now (states .entry)) (now (table .entry)) r (now (marks .exit))) ⌝ }

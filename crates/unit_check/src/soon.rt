@@ -1,5 +1,5 @@
-// The offsets that are tried before any words are made: on most boards one of them is good for almost every unit, since what is adjacent
-// is near.
+// The offsets at which a unit is tried before it is tried by words: on most boards one of them is good for almost every unit, since what is
+// adjacent is near.
 ghost use mathlib.Core.Path.{_≡_};
 ghost use mathlib.Core.Bool.{true};
 ghost use Prim.Native.Nat.{_<_, _≤_};
@@ -77,7 +77,7 @@ fn place<'a>(g: Grid, table: &'a [u16], cells: &'a [u16], i: usize) -> usize
     0
 }
 
-// How many places are tried soon: on a small board all of them, since making words would take longer.
+// How many places are tried soon: on a small board all of them, so that words are made only where a unit fits nowhere.
 fn turns(g: Grid) -> usize
     requires { ⌜ Limits g ⌝ }
     ensures { λ r. ⌜ r ≤ 28 ⌝ }

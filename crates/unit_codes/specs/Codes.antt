@@ -1,5 +1,5 @@
 -- A unit as codes that read row words: of its cells, and of those of its borders that must land well. `f` is the unit's first cell, from
--- whose row and column the codes count. Assumes nothing.
+-- whose row and column the codes count (SPEC 13.3). Assumes nothing.
 use Prim.Native.Nat.{ℕ, _+_, _-_, _*_, _≤_, _<_}
 use mathlib.Core.Bool.{Bool, true, false}
 use mathlib.Core.List.{List, [], _∷_, _++_}
@@ -25,7 +25,7 @@ cellCode g f c = 64 * (row g c - row g f) + (32 + col g c - col g f)
 abbrev pub borderCode : Grid → ℕ → Bool → ℕ → Direction → ℕ
 borderCode g f inner c d = 64 * (sideAt inner d + (row g c - row g f)) + (32 + col g c - backOf d - col g f)
 
--- the codes of a cell's borders that must land well
+-- the codes of a cell's borders that must land well (SPEC 4.9)
 unfoldable pub codesAt : Grid → List ℕ → List ℕ → ℕ → ℕ → Bool → ℕ → List ℕ
 unfolding gather when keptOf
 codesAt g states ids unit f inner c = gather (λ d. when (keptOf g states ids inner unit c d) (borderCode g f inner c d)) (pick inner forward around)

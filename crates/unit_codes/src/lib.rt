@@ -56,6 +56,7 @@ fn back_of(direction: Direction) -> usize
     }
 }
 
+// A code that reads so many rows further on, moved by so many bits.
 fn code(rows: usize, by: usize) -> u16
     requires { ⌜ (rows < 1000) × (by < 64) ⌝ }
     ensures { λ r. ⌜ r ≡ 64 * rows + by ⌝ }

@@ -2,7 +2,7 @@
 use Prim.Native.Nat.{ℕ, zero, suc, _+_, _-_, _*_, _/_, _%_, _^_, _≤_, _<_, min}
 use mathlib.Core.Path.{_≡_, refl, sym, ap, ap₂, _∙_, subst}
 use mathlib.Core.Logic.{_⊎_, ⊎-elim, _≢_}
-use mathlib.Core.Bool.{true, false, not}
+use mathlib.Core.Bool.{true, false}
 use native.Mathlib.Nat.{zero-div, div-one, div-eq-of-lt, mod-lt, zero-lt-suc, add-comm, mul-mod-left, one-mul, div-add-mod', zero-min}
 use native.Mathlib.Numerals.{add-one}
 use native.Mathlib.Omega.{arith}

@@ -6,13 +6,14 @@ use Rattle.lists.specs.Choice.{pick}
 use Rattle.grid.specs.declared.Direction.{Direction}
 use Rattle.grid.specs.declared.Direction.the-variants.{Up, Down, Left, Right}
 
--- the place of row 0's word for the borders in a direction: Walls, or else Connected borders
+-- the place of row 0's word for the Walls in a direction
 abbrev pub baseOf : Direction → ℕ
 baseOf Up = 0
 baseOf Down = 1
 baseOf Left = 33
 baseOf Right = 33
 
+-- the same for Walls, or else for Connected borders
 abbrev pub sideAt : Bool → Direction → ℕ
 sideAt walls d = pick walls 0 66 + baseOf d
 

@@ -1,4 +1,4 @@
--- The bits of a word, a row of a board in one word, and what codes read of a table of words. Assumes nothing.
+-- The bits of a word, a row of a board in one word, and what codes read of a table of words (SPEC 13.3). Assumes nothing.
 use Prim.Native.Nat.{ℕ, _+_, _-_, _/_, _%_, _^_, _≤_, _<_}
 use mathlib.Core.Path.{_≡_}
 use mathlib.Core.Bool.{Bool}
