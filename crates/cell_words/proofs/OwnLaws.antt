@@ -1,22 +1,22 @@
--- The words of a unit's own cells: set cell by cell, and blanked again. Assumes nothing.
+-- The words of a unit's own cells, set cell by cell. Assumes nothing.
 use Prim.Native.Nat.{ℕ, _+_, _*_, _≤_, _<_}
 use mathlib.Core.Path.{_≡_, refl, sym, ap, _∙_}
 use mathlib.Core.Logic.{⊎-elim, _≢_}
 use mathlib.Core.Bool.{Bool, true}
-use mathlib.Core.List.{List, _∷_}
+use mathlib.Core.List.{List}
 use native.Mathlib.Omega.{arith}
 use native.Mathlib.Nat.{mul-le-mul, suc-mul, le-refl, div-add-mod'}
 use borrow.Author.Tests.{eq-eqb, ne-eqb, eqb-true}
 use lib.Dec.{eqb}
-use lib.ListN.{getD, length, set, length-set, drop, drop-of-length-le}
+use lib.ListN.{getD, length, set, length-set, drop, drop-of-length-le, replicate, length-replicate, getD-replicate, List·getD-eq-default}
 use lib.Seq.{getD-set-same, getD-set-other}
 use Rattle.lists.specs.Choice.{both, either}
 use Rattle.lists.specs.Lists.{In, any}
-use Rattle.lists.proofs.Cases.{eq-or-ne}
+use Rattle.lists.proofs.Cases.{le-or-lt, eq-or-ne}
 use Rattle.lists.proofs.ChoiceLaws.{both-true, true-both, same-truth}
 use Rattle.lists.proofs.ListLaws.{getD-in, any-true, true-any}
 use Rattle.grid.specs.declared.Grid.{Grid}
-use Rattle.grid.specs.Grid.{Cell, row, col}
+use Rattle.grid.specs.Grid.{Limits, Cell, row, col}
 use Rattle.grid.proofs.Geometry.{coords, row-lt, col-lt}
 use Rattle.groups.specs.Groups.{cellsOf}
 use Rattle.groups.proofs.GroupLaws.{in-cells, cells-in}
@@ -34,20 +34,25 @@ use Rattle.cell_words.specs.Cells.{Blank, Inside}
 pub cell-at : (g : Grid) (y x : ℕ) → y < g .height → x < g .width → Cell g (y * g .width + x)
 cell-at g y x h k = omega (arith, mul-le-mul h (le-refl (g .width)), suc-mul y (g .width))
 
+-- an array of zeros
+pub getD-zeros : (n k : ℕ) → _≡_ {A = ℕ} (getD (replicate n 0) k 0) 0
+getD-zeros n k =
+    ⊎-elim
+    (λ (h : n ≤ k). List·getD-eq-default (replicate n 0) 0 {n = k} (simp length-replicate h))
+    (λ (h : k < n). getD-replicate n k 0 0 h)
+    (le-or-lt n k)
+
+pub blank : {g : Grid} → Limits g → Blank g (replicate 32 0)
+blank l = record { clear = getD-zeros 32; long = simp length-replicate (l .height-fits) }
+
 -- cell c has bit j of row y's word
 abbrev standsAt : List ℕ → ℕ → ℕ → ℕ → Bool
 standsAt table y j c = both (eqb (rowIn table c) y) (eqb j (32 + colIn table c))
 
--- the cells from place i on are still to be set; a row without cells has no bits
+-- the cells from place i on are still to be set
 pub record AddWalk (table cs inside₀ inside : List ℕ) (i : ℕ) : Type 0 where
   pub long : length inside ≡ length inside₀
   pub rest : (y j : ℕ) → either (bit (getD inside y 0) j) (any (standsAt table y j) (drop i cs)) ≡ any (standsAt table y j) cs
-  pub none : (y : ℕ) → ((c : ℕ) → In c cs → rowIn table c ≢ y) → _≡_ {A = ℕ} (getD inside y 0) 0
-
--- a row in which no cell from place i on stands is blank
-pub record ClearWalk (table cs inside₀ inside : List ℕ) (i : ℕ) : Type 0 where
-  pub long : length inside ≡ length inside₀
-  pub blank : (y : ℕ) → ((c : ℕ) → In c (drop i cs) → rowIn table c ≢ y) → _≡_ {A = ℕ} (getD inside y 0) 0
 
 -- a bit more in row y's word
 stored : (table inside : List ℕ) (new c y x : ℕ) → y ≡ rowIn table c → x ≡ colIn table c → y < length inside
@@ -102,25 +107,10 @@ module _ {g : Grid} {table cs : List ℕ} (u : Unit g table cs) where
                 ap (λ b. either b (any (standsAt table z j) (drop (i + 1) cs))) (stored table inside new c y x y-is x-is l n z j)
                 ∙ either-assoc (bit (getD inside z 0) j) (standsAt table z j c) (any (standsAt table z j) (drop (i + 1) cs))
                 ∙ ap (λ r. either (bit (getD inside z 0) j) (any (standsAt table z j) r)) (sym (next-cell cs i c h q)) ∙ w .rest z j;
-            none = λ z k. getD-set-other inside y z new 0 (λ e. k c own-in (sym y-is ∙ sym e)) ∙ w .none z k;
           }
-
-      pub clear-turn : ClearWalk table cs inside₀ inside i → ClearWalk table cs inside₀ (set inside y 0) (i + 1)
-      clear-turn w =
-          record {
-            long = length-set inside y 0 ∙ w .long;
-            blank = λ z k.
-                ⊎-elim
-                (λ (e : z ≡ y). rw e (getD-set-same inside y 0 0 l))
-                (λ (e : z ≢ y). getD-set-other inside y z 0 0 e ∙ w .blank z (λ b m. left z e k b (rw (next-cell cs i c h q) at m)))
-                (eq-or-ne z y);
-          }
-        where
-          left : (z : ℕ) → z ≢ y → ((b : ℕ) → In b (drop (i + 1) cs) → rowIn table b ≢ z) → (b : ℕ) → In b (c ∷ drop (i + 1) cs) → rowIn table b ≢ z
-          left z e k b = ⊎-elim (λ (p : b ≡ c). λ r. e (sym r ∙ ap (rowIn table) p ∙ sym y-is)) (k b)
 
   pub add-start : {inside : List ℕ} → Blank g inside → AddWalk table cs inside inside 0
-  add-start b = record { long = refl; rest = λ y j. rw (b .clear y, bit-zero j); none = λ y k. b .clear y }
+  add-start b = record { long = refl; rest = λ y j. rw (b .clear y, bit-zero j) }
 
   -- the cells that are to have bits are those with the unit's number
   own-at : {y x : ℕ} → y < g .height → x < g .width → any (standsAt table y (32 + x)) (cellsOf g ids unit) ≡ eqb (getD ids (y * g .width + x) 0) unit
@@ -154,12 +144,5 @@ module _ {g : Grid} {table cs : List ℕ} (u : Unit g table cs) where
             sym (either-false (bit (getD inside y 0) (32 + x)))
             ∙ ap (λ r. either (bit (getD inside y 0) (32 + x)) (any (standsAt table y (32 + x)) r)) (sym (drop-of-length-le cs l))
             ∙ w .rest y (32 + x) ∙ ap (any (standsAt table y (32 + x))) (u .cells-are) ∙ own-at a k;
-        none = λ y k. w .none y (λ c m e. k c (rw (u .cells-are) at m) (sym (row-is c m) ∙ e));
         long = omega (arith, w .long, b .long);
       }
-
-  pub clear-start : {inside : List ℕ} → Inside g ids unit inside → ClearWalk table cs inside inside 0
-  clear-start n = record { long = refl; blank = λ y k. n .none y (λ c m e. let o : In c cs = rw (← u .cells-are) at m in k c o (row-is c o ∙ e)) }
-
-  pub clear-end : {inside₀ inside : List ℕ} {i : ℕ} → Inside g ids unit inside₀ → length cs ≤ i → ClearWalk table cs inside₀ inside i → Blank g inside
-  clear-end n l w = record { clear = λ y. w .blank y (λ c m. absurd (rw (drop-of-length-le cs l) at m)); long = omega (arith, w .long, n .long) }

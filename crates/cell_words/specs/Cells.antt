@@ -2,15 +2,12 @@
 -- unit for which it stands. Assumes nothing.
 use Prim.Native.Nat.{ℕ, _+_, _*_, _≤_, _<_}
 use mathlib.Core.Path.{_≡_}
-use mathlib.Core.Logic.{_≢_}
 use mathlib.Core.Bool.{not}
 use mathlib.Core.List.{List}
 use lib.Dec.{eqb}
 use lib.ListN.{getD, length}
-use Rattle.lists.specs.Lists.{In}
 use Rattle.grid.specs.declared.Grid.{Grid}
-use Rattle.grid.specs.Grid.{Limits, Cell, row}
-use Rattle.groups.specs.Groups.{cellsOf}
+use Rattle.grid.specs.Grid.{Limits, Cell}
 use Rattle.shape.specs.Shape.{adjacent}
 use Rattle.offsets.specs.Table.{Table, potentialIn, potentialsIn}
 use Rattle.words.specs.Words.{Says}
@@ -20,10 +17,9 @@ pub record Blank (g : Grid) (inside : List ℕ) : Type 0 where
   pub clear : (y : ℕ) → _≡_ {A = ℕ} (getD inside y 0) 0
   pub long : g .height ≤ length inside
 
--- the words of unit k's cells; a row without any has none
+-- the words of unit k's cells
 pub record Inside (g : Grid) (ids : List ℕ) (k : ℕ) (inside : List ℕ) : Type 0 where
   pub says : (y : ℕ) → y < g .height → Says (g .width) (λ x. eqb (getD ids (y * g .width + x) 0) k) (getD inside y 0)
-  pub none : (y : ℕ) → ((c : ℕ) → In c (cellsOf g ids k) → row g c ≢ y) → _≡_ {A = ℕ} (getD inside y 0) 0
   pub long : g .height ≤ length inside
 
 -- the word of row y stands for p: it has the cells in potential units adjacent to p (SPEC 4.7, 13.1)

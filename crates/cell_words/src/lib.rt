@@ -13,7 +13,7 @@ use grid::Grid;
 use lists::wide;
 use offsets::table;
 
-// Sets the bits of the unit's cells in their rows' words.
+// Sets the bits of the unit's cells in words that are blank.
 pub fn add_cells<'a>(g: Grid, table: &'a [u16], cells: &'a [u16], inside: &mut [u64])
     requires { ⌜ Unit g (now table) (now cells) ⌝ }
     requires { ⌜ Blank g (now inside) ⌝ }
@@ -24,20 +24,6 @@ pub fn add_cells<'a>(g: Grid, table: &'a [u16], cells: &'a [u16], inside: &mut [
         let c = wide(cells[i]);
         let y = table::row(table, c);
         inside[y] = words::with_bit(inside[y], true, 32 + table::col(table, c));
-        i += 1;
-    }
-}
-
-// Blanks the words of the unit's rows.
-pub fn clear_cells<'a>(g: Grid, table: &'a [u16], cells: &'a [u16], inside: &mut [u64])
-    requires { ⌜ Unit g (now table) (now cells) ⌝ }
-    requires { ⌜ Inside g (unitsIn g (now table)) (unitIn (now table) (headOr0 (now cells))) (now inside) ⌝ }
-    ensures { λ _. ⌜ Blank g (now (inside .exit)) ⌝ }
-{
-    let mut i = 0;
-    while i < cells.len() {
-        let c = wide(cells[i]);
-        inside[table::row(table, c)] = 0;
         i += 1;
     }
 }

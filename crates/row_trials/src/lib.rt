@@ -8,7 +8,7 @@ ghost use Rattle.shape.specs.Shape.{headOr0};
 ghost use Rattle.offsets.specs.Table.{potentialsIn};
 ghost use Rattle.offsets.specs.Trial.{fitsAt};
 ghost use Rattle.words.specs.Words.{Readable};
-ghost use Rattle.cell_words.specs.Cells.{Blank, Stamped};
+ghost use Rattle.cell_words.specs.Cells.{Stamped};
 ghost use Rattle.row_trials.specs.Rows.{rowsGood, leftAt, Found, CodedUnit, Ends, Asking, Held};
 use grid::Grid;
 use lists::wide;
@@ -160,7 +160,7 @@ fn fits_rows<'a>(
 }
 
 // Whether a unit fits somewhere, whose adjacent potential units are marked. `full` has a bit for each column, `words` those of the board's
-// borders. `inside` is blank, and blank again at the end; `near` keeps its words while the next units have the same potential unit.
+// borders. `near` keeps its words while the next units have the same potential unit.
 pub fn fits<'a>(
     g: Grid,
     states: &'a [u8],
@@ -169,7 +169,6 @@ pub fn fits<'a>(
     cells: &'a [u16],
     full: u64,
     words: &'a [u64],
-    inside: &mut [u64],
     codes: &mut [u16],
     borders: &mut [u16],
     near: &mut [u64],
@@ -177,17 +176,16 @@ pub fn fits<'a>(
 ) -> bool
     requires { ⌜ Asking g (now states) (now table) (now marks) (now cells) full (now words) (length (now codes)) (length (now borders)) ⌝ }
     requires { ⌜ Stamped g (now states) (potentialsIn g (now table)) (now near) (now stamps) ⌝ }
-    requires { ⌜ Blank g (now inside) ⌝ }
     ensures { λ r. ⌜ r ≡ fitsAt g (now (states .entry)) (now (table .entry)) (now (cells .entry)) ⌝ }
     ensures { λ _. ⌜ Held g (now (states .entry)) (potentialsIn g (now (table .entry))) (now (near .entry)) (now (stamps .entry)) (now (near .exit)) (now (stamps .exit)) ⌝ }
-    ensures { λ _. ⌜ Blank g (now (inside .exit)) ⌝ }
 {
     let first = wide(cells[0]);
     let last = wide(cells[cells.len() - 1]);
     let row = table::row(table, first);
     let count = unit_codes::write_cells(g, table, cells, codes);
     let more = unit_codes::write_borders(g, states, table, cells, borders);
-    cell_words::add_cells(g, table, cells, inside);
+    let mut inside = [0u64; 32];
+    cell_words::add_cells(g, table, cells, &mut inside);
     let u = Coded {
         own: table::potential(table, first),
         on: words::common(full, codes, count),
@@ -195,7 +193,7 @@ pub fn fits<'a>(
         count: count,
         more: more,
     };
-    let fit = fits_rows(
+    fits_rows(
         g,
         states,
         table,
@@ -203,13 +201,11 @@ pub fn fits<'a>(
         cells,
         u,
         words,
-        inside,
+        &inside,
         codes,
         borders,
         row,
         near,
         stamps,
-    );
-    cell_words::clear_cells(g, table, cells, inside);
-    fit
+    )
 }

@@ -1,5 +1,5 @@
--- Finding: one offset, and the units in turn. Assumes nothing.
-use Prim.Native.Nat.{ℕ, _+_, _≤_, _<_}
+-- Finding: the units in turn. Assumes nothing.
+use Prim.Native.Nat.{ℕ, _+_, _*_, _≤_, _<_}
 use mathlib.Core.Path.{_≡_, ap, sym, _∙_}
 use mathlib.Core.Logic.{_≢_, ⊎-elim}
 use mathlib.Core.Bool.{Bool, true, false, not}
@@ -12,39 +12,37 @@ use Rattle.lists.specs.Choice.{both}
 use Rattle.lists.specs.Lists.{all, any, range}
 use Rattle.lists.proofs.Cases.{eq-or-ne, true-or-false, not-both}
 use Rattle.lists.proofs.ChoiceLaws.{both-true, holds-true}
-use Rattle.lists.proofs.ListLaws.{getD-in, any-true, true-any, all-true, range-in}
+use Rattle.lists.proofs.ListLaws.{any-true, all-true}
 use Rattle.grid.specs.declared.Grid.{Grid}
 use Rattle.grid.specs.Grid.{cells, Cell, row, col}
-use Rattle.grid.proofs.Geometry.{cells-le}
 use Rattle.groups.specs.Groups.{cellsOf}
 use Rattle.groups.specs.Info.{groupPart}
 use Rattle.boundary.proofs.BoundaryLaws.{cells-most}
 use Rattle.groups.proofs.GroupLaws.{in-cells}
 use Rattle.groups.proofs.Theorems.{turn-some}
 use Rattle.shape.specs.Shape.{headOr0, shift, unitOf, falls, meets, landing, try, tryAt, isGood, fits}
-use Rattle.offsets.specs.Table.{unitIn, potentialIn, unitsIn, potentialsIn, Listed}
+use Rattle.offsets.specs.Table.{unitIn, potentialIn, unitsIn, potentialsIn}
 use Rattle.offsets.specs.Reach.{moved}
-use Rattle.offsets.specs.Trial.{unitAt, shiftOf, triedAt, fitsAt, Unit, Placed}
-use Rattle.offsets.proofs.TableLaws.{unit-at, potential-at, listed}
+use Rattle.offsets.specs.Trial.{unitAt, shiftOf, fitsAt, Unit, Placed}
+use Rattle.offsets.proofs.TableLaws.{unit-at, potential-at}
 use Rattle.offsets.proofs.ReachLaws.{fell, fell-cell}
 use Rattle.offsets.proofs.NoneLaws.{isNone, good-pick}
 use Rattle.offsets.proofs.TrialLaws.{head-in, head-at}
-use Rattle.cell_words.specs.Cells.{Blank, Stamped}
+use Rattle.words.specs.Words.{Full}
+use Rattle.border_words.specs.Sides.{BorderWords}
+use Rattle.cell_words.specs.Cells.{Stamped}
 use Rattle.cell_words.proofs.OwnLaws.{on-board}
 use Rattle.adjacency.specs.Adjacency.{Marking, MarksOf}
 use Rattle.adjacency.proofs.ListingLaws.{marking}
 use Rattle.row_trials.specs.Rows.{Asking}
-use Rattle.unit_check.specs.Find.{fitsIn, AllFit, FirstUnfit, Finding, Room, MarkedFor}
+use Rattle.unit_check.specs.Find.{unitCells, fitsIn, AllFit, FirstUnfit, AdjacentTo, Finding, MarkedFor}
 
--- ONE OFFSET
-
--- a good offset is one that fits
-pub good-fits : (g : Grid) (states table cs : List ℕ) (to : ℕ) → Cell g to → isGood (triedAt g states table cs to) ≡ true → fitsAt g states table cs ≡ true
-unfolding fits
-good-fits g states table cs to h e = true-any (λ t. isGood (triedAt g states table cs t)) (range (cells g)) to (range-in (cells g) to h) e
-
-pub first-small : {g : Grid} {table cs : List ℕ} → Unit g table cs → (0 < length cs) × (getD cs 0 0 < 1024)
-first-small {g} {table} {cs} u = (u .some, omega (arith, on-board u (getD cs 0 0) (getD-in 0 cs 0 (u .some)), cells-le g (u .limits)))
+-- the words of the board's borders and of a whole row, and room for the codes of any unit
+pub record Room (g : Grid) (states : List ℕ) (full : ℕ) (words : List ℕ) (codes borders : ℕ) : Type 0 where
+  pub whole : Full (g .width) full
+  pub words-are : BorderWords g states words
+  pub codes-long : cells g ≤ codes
+  pub borders-long : 6 * cells g ≤ borders
 
 -- THE UNITS IN TURN
 
@@ -59,19 +57,42 @@ module _ {test : ℕ → Bool} {n k : ℕ} (a : AllFit test n k) where
         before = λ i l. ⊎-elim (λ (e : i ≡ k). rw e t) (λ (e : i ≢ k). a .before i (omega arith)) (eq-or-ne i k);
       }
 
-  pub fit-not : test k ≡ false → FirstUnfit test n k
-  fit-not t = record { within = a .within; before = a .before; there = λ l. t }
+  pub fit-there : (k < n → test k ≡ false) → FirstUnfit test n k
+  fit-there t = record { within = a .within; before = a .before; there = t }
 
   pub fit-all : n ≤ k → FirstUnfit test n k
-  fit-all h = record { within = a .within; before = a .before; there = λ l. absurd (omega arith) }
+  fit-all h = fit-there (λ l. absurd (omega arith))
 
 pub below : {test : ℕ → Bool} {n k : ℕ} → FirstUnfit test n k → k ≢ n → k < n
 below w e = omega (arith, w .within)
 
 -- as many marks as before
+pub same-marks : {g : Grid} {states table nstarts near : List ℕ} {room more : ℕ} → more ≡ room → AdjacentTo g states table nstarts near room → AdjacentTo g states table nstarts near more
+same-marks e n = rw e n
+
 pub same-room : {g : Grid} {states table starts flat nstarts near : List ℕ} {room more : ℕ} → more ≡ room → Finding g states table starts flat nstarts near room
     → Finding g states table starts flat nstarts near more
 same-room e p = rw e p
+
+-- the own potential unit of the unit of these cells, whose first cell is f
+module _ {g : Grid} {table cs : List ℕ} (u : Unit g table cs) {states nstarts near : List ℕ} {room : ℕ} (n : AdjacentTo g states table nstarts near room)
+    {f own : ℕ} (first-is : f ≡ getD cs 0 0) (own-is : own ≡ potentialIn table f) where
+  own-head : own ≡ potentialIn table (headOr0 cs)
+  own-head = own-is ∙ ap (potentialIn table) (first-is ∙ head-at cs)
+
+  pub own-exists : own < n .count
+  own-exists = rw own-head (n .small (headOr0 cs) (on-board u (headOr0 cs) (head-in cs (u .some))))
+
+  pub own-marking : (marks : List ℕ) → length marks ≡ room → Marking own nstarts near marks
+  own-marking marks e =
+      marking {g = g} {states = states} {pids = potentialsIn g table} {count = n .count} {starts = nstarts} {list = near} (λ c l. rw (potential-at g table c l) (n .small c l))
+      (n .lists) marks (omega (arith, n .marks-long)) own own-exists
+
+  pub marked-for : (marks : List ℕ) → MarksOf g states (potentialsIn g table) own marks → MarkedFor g states table cs marks
+  marked-for marks m = record { only = rw own-head at m }
+
+  pub marks-of : (marks : List ℕ) → MarkedFor g states table cs marks → MarksOf g states (potentialsIn g table) own marks
+  marks-of marks m = rw own-head (m .only)
 
 -- unit k, whose cells are lent
 module _ {g : Grid} {states table starts flat nstarts near : List ℕ} {room : ℕ} (p : Finding g states table starts flat nstarts near room) {k : ℕ} (h : k < length starts)
@@ -100,49 +121,36 @@ module _ {g : Grid} {states table starts flat nstarts near : List ℕ} {room : �
   pub fits-is : fitsAt g states table cs ≡ fitsIn g states table k
   fits-is = ap (fits g states ids pids) unit-is
 
-  pub placed : {marks : List ℕ} → MarkedFor g states table k marks → p .count ≤ length marks → Placed g states table marks cs
+  pub its-unit : Unit g table cs
+  its-unit = record { limits = p .limits; table-of = p .table-of; some = some-cells; cells-are = own-cells ∙ ap (cellsOf g ids) (sym number) }
+
+  -- the marks of these cells are those of unit k's
+  pub marked-there : {marks : List ℕ} → MarkedFor g states table cs marks → MarkedFor g states table (unitCells g table k) marks
+  marked-there m = rw own-cells at m
+
+  pub marked-here : {marks : List ℕ} → MarkedFor g states table (unitCells g table k) marks → MarkedFor g states table cs marks
+  marked-here m = rw own-cells m
+
+  pub placed : {marks : List ℕ} → MarkedFor g states table cs marks → p .adjacent .count ≤ length marks → Placed g states table marks cs
   placed m l =
       record {
         limits = p .limits;
         states-long = p .states-long;
         table-of = p .table-of;
         some = some-cells;
-        cells-are = own-cells ∙ ap (cellsOf g ids) (sym number);
-        marks-long = λ c h. omega (arith, p .small c h);
-        marked = rw (← own-cells) at (m .only);
+        cells-are = its-unit .cells-are;
+        marks-long = λ c h. omega (arith, p .adjacent .small c h);
+        marked = m .only;
       }
 
-  module _ {f : ℕ} (first-is : f ≡ getD cs 0 0) where
-    first-head : f ≡ headOr0 cs
-    first-head = first-is ∙ head-at cs
-
-    pub first-listed : Listed table f
-    first-listed = rw first-head (listed g table (p .limits) (p .table-of) (headOr0 cs) (head .0))
-
-    module _ {own : ℕ} (own-is : own ≡ potentialIn table f) where
-      own-head : own ≡ potentialIn table (headOr0 cs)
-      own-head = own-is ∙ ap (potentialIn table) first-head
-
-      pub own-exists : own < p .count
-      own-exists = rw own-head (p .small (headOr0 cs) (head .0))
-
-      pub own-marking : (marks : List ℕ) → length marks ≡ room → Marking own nstarts near marks
-      own-marking marks e = marking {g = g} {states = states} {pids = pids} {count = p .count} {starts = nstarts} {list = near} (λ c l. rw (potential-at g table c l) (p .small c l)) (p .lists) marks (omega (arith, p .marks-long)) own own-exists
-
-      pub marked-for : (marks : List ℕ) → MarksOf g states pids own marks → MarkedFor g states table k marks
-      marked-for marks m = record { only = rw (own-head ∙ ap (λ (l : List ℕ). potentialIn table (headOr0 l)) own-cells) at m }
-
-      pub marks-of : (marks : List ℕ) → MarkedFor g states table k marks → MarksOf g states pids own marks
-      marks-of marks m = rw (own-head ∙ ap (λ (l : List ℕ). potentialIn table (headOr0 l)) own-cells) (m .only)
-
   -- what the trials of its offsets ask
-  pub asking : {marks : List ℕ} {full : ℕ} {words : List ℕ} {codes borders : ℕ} → MarkedFor g states table k marks → p .count ≤ length marks → Room g states full words codes borders
+  pub asking : {marks : List ℕ} {full : ℕ} {words : List ℕ} {codes borders : ℕ} → MarkedFor g states table cs marks → p .adjacent .count ≤ length marks → Room g states full words codes borders
       → Asking g states table marks cs full words codes borders
   asking m l r =
       let few : length cs ≤ cells g = rw own-cells (cells-most g ids k) in
       record {
         placed = placed m l;
-        own-small = omega (arith, p .small (headOr0 cs) (head .0), p .few);
+        own-small = omega (arith, p .adjacent .small (headOr0 cs) (head .0), p .adjacent .few);
         whole = r .whole;
         words-are = r .words-are;
         codes-long = omega (arith, few, r .codes-long);
@@ -184,17 +192,15 @@ module _ {g : Grid} {states table starts flat nstarts near : List ℕ} {room : �
 
 -- EACH UNIT FROM ONE ON
 
--- each unit so far fits, the next one has its marks, the stamps hold, the unit's words are blank, and the slices are as long as at the start
-pub record FindWalk (g : Grid) (states table : List ℕ) (n : ℕ) (inside₀ codes₀ borders₀ nearby₀ stamps₀ marks₀ inside codes borders nearby stamps marks : List ℕ) (unit : ℕ) : Type 0 where
+-- each unit so far fits, the next one has its marks, the stamps hold, and slices and arrays are as long as at the start
+pub record FindWalk (g : Grid) (states table : List ℕ) (n : ℕ) (codes₀ borders₀ marks₀ codes borders marks nearby stamps : List ℕ) (unit : ℕ) : Type 0 where
   pub fit : AllFit (fitsIn g states table) n unit
-  pub marked : unit < n → MarkedFor g states table unit marks
+  pub marked : unit < n → MarkedFor g states table (unitCells g table unit) marks
   pub stamped : Stamped g states (potentialsIn g table) nearby stamps
-  pub blank : Blank g inside
-  pub inside-long : length inside ≡ length inside₀
+  pub nearby-long : length nearby ≡ 32
+  pub stamps-long : length stamps ≡ 32
   pub codes-long : length codes ≡ length codes₀
   pub borders-long : length borders ≡ length borders₀
-  pub nearby-long : length nearby ≡ length nearby₀
-  pub stamps-long : length stamps ≡ length stamps₀
   pub marks-long : length marks ≡ length marks₀
 
 pub same-rooms : {g : Grid} {states : List ℕ} {full : ℕ} {words : List ℕ} {a b c d : ℕ} → c ≡ a → d ≡ b → Room g states full words a b → Room g states full words c d

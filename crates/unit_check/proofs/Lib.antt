@@ -1,3 +1,4 @@
+pub mod SoonLaws
 pub mod FindLaws
 pub mod RestLaws
 pub mod WriteLaws

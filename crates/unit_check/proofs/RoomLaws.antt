@@ -9,9 +9,10 @@ use Rattle.offsets.specs.Table.{potentialsIn}
 use Rattle.words.specs.Words.{Full}
 use Rattle.border_words.specs.Sides.{BorderWords}
 use Rattle.border_words.specs.Filled.{Filling}
-use Rattle.cell_words.specs.Cells.{Blank, Stamped}
-use Rattle.unit_check.specs.Find.{Finding, Room}
-use Rattle.unit_check.proofs.StageLaws.{zeros, zeros-long, none-marked}
+use Rattle.cell_words.specs.Cells.{Stamped}
+use Rattle.unit_check.specs.Find.{Finding}
+use Rattle.unit_check.proofs.FindLaws.{Room}
+use Rattle.unit_check.proofs.StageLaws.{zeros, zeros-long}
 
 -- stamps that say nothing
 abbrev unused : List ℕ
@@ -30,10 +31,6 @@ module _ {g : Grid} {states table starts flat nstarts near : List ℕ} {marks : 
         says = λ y h l. absurd (omega (arith, getD-replicate {A = ℕ} 32 y 1024 0 (omega (arith, p .limits .height-fits)), l));
       }
 
-  pub none-inside : Blank g (zeros 32)
-  none-inside = record { clear = none-marked 32; long = zeros-long (g .height) 32 (p .limits .height-fits) }
-
-  pub room : (codes borders : ℕ) → cells g ≤ codes → 6 * codes ≤ borders → {full : ℕ} {words : List ℕ} → Full (g .width) full → BorderWords g states words
-      → Room g states full words (length (zeros codes)) (length (zeros borders))
-  room codes borders h k f w =
-      record { whole = f; words-are = w; codes-long = zeros-long (cells g) codes h; borders-long = zeros-long (6 * cells g) borders (omega arith) }
+  pub room : {codes borders : ℕ} → (cells g ≤ codes) × (6 * cells g ≤ borders) → {full : ℕ} {words : List ℕ} → Full (g .width) full → BorderWords g states words
+      → Room g states full words codes borders
+  room l f w = record { whole = f; words-are = w; codes-long = l .0; borders-long = l .1 }

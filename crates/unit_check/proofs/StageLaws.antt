@@ -8,7 +8,7 @@ use mathlib.Core.Option.{Option, none, some}
 use native.Mathlib.Omega.{arith}
 use native.Mathlib.Nat.{sub-zero}
 use native.Mathlib.Numerals.{add-one}
-use lib.ListN.{getD, length, take, replicate, length-replicate, getD-replicate, List·getD-eq-default}
+use lib.ListN.{getD, length, take, replicate, length-replicate}
 use lib.Seq.{length-sets, length-take-le, getD-take}
 use Rattle.lists.specs.Choice.{give, orElse}
 use Rattle.lists.specs.Lists.{countFrom, range, first}
@@ -31,11 +31,12 @@ use Rattle.boundary.specs.Appended.{Appended}
 use Rattle.shape.specs.Shape.{UnitInfo, unitOf, failures, boundaries, unitFault}
 use Rattle.offsets.specs.Table.{unitsIn, potentialsIn, Fillable, Filled}
 use Rattle.offsets.proofs.TableLaws.{potential-at}
+use Rattle.cell_words.proofs.OwnLaws.{getD-zeros}
 use Rattle.adjacency.specs.Adjacency.{Unmarked, Listing, Adjacency}
-use Rattle.unit_check.specs.Find.{fitsIn, FirstUnfit, Finding, MarkedFor}
+use Rattle.unit_check.specs.Find.{unitCells, fitsIn, FirstUnfit, Finding, MarkedFor}
 use Rattle.unit_check.specs.Write.{listAt, Writing}
 use Rattle.unit_check.specs.Units.{unitStage, Staged}
-use Rattle.unit_check.proofs.FindLaws.{unit-is, placed}
+use Rattle.unit_check.proofs.FindLaws.{unit-is, marked-here, placed}
 
 -- THE FIRST UNIT THAT FITS NOWHERE
 
@@ -105,11 +106,7 @@ abbrev pub zeros : ℕ → List ℕ
 zeros n = replicate n 0
 
 pub none-marked : (n : ℕ) → Unmarked (zeros n)
-none-marked n q =
-    ⊎-elim
-    (λ (h : n ≤ q). List·getD-eq-default (zeros n) 0 {n = q} (simp length-replicate h))
-    (λ (h : q < n). getD-replicate n q 0 0 h)
-    (le-or-lt n q)
+none-marked = getD-zeros
 
 pub zeros-long : (n m : ℕ) → n ≤ m → n ≤ length (zeros m)
 zeros-long n m h = simp length-replicate h
@@ -174,11 +171,14 @@ module _ {g : Grid} {states ids starts flat : List ℕ} {room : ℕ} (p : Staged
             states-long = p .states-long;
             table-of = f .table-of;
             units = rw (f .units) (p .units);
-            count = length (take count pstarts);
-            lists = rw (f .potentials) a;
-            small = λ c z. rw (← potential-at g table c z, f .potentials) (potentials .small c z);
-            few = omega (arith, potentials .few, cells-le g (p .limits));
-            marks-long = omega (arith, potentials .few);
+            adjacent =
+                record {
+                  count = length (take count pstarts);
+                  lists = rw (f .potentials) a;
+                  small = λ c z. rw (← potential-at g table c z, f .potentials) (potentials .small c z);
+                  few = omega (arith, potentials .few, cells-le g (p .limits));
+                  marks-long = omega (arith, potentials .few);
+                };
           }
 
       -- the stage is that of the units and potential units that the table tells
@@ -192,11 +192,11 @@ module _ {g : Grid} {states ids starts flat : List ℕ} {room : ℕ} (p : Staged
             rw z record { answer = refl; stored = refl }
 
         module _ (h : unit < length starts) {cs : List ℕ} (cells-are : cs ≡ groupPart (cells g) (length starts) starts flat unit) {marks : List ℕ} (long : cells g ≤ length marks)
-            (m : MarkedFor g states table unit marks) where
+            (m : MarkedFor g states table (unitCells g table unit) marks) where
           pub writing : Writing g states ids (take (cells g) pids) (take count pstarts) pflat table marks cs room
           writing =
               record {
-                placed = placed (finding long) h cells-are m (finding long .marks-long);
+                placed = placed (finding long) h cells-are (marked-here (finding long) h cells-are m) (finding long .adjacent .marks-long);
                 near = record { limits = p .limits; states-long = p .states-long; turns = potentials; marks-long = omega (arith, potentials .few) };
                 units = f .units;
                 potentials = f .potentials;

@@ -1,33 +1,32 @@
 // Finding: the first unit that fits nowhere.
+ghost use mathlib.Core.Path.{_≡_};
+ghost use mathlib.Core.Bool.{true, false};
 ghost use Prim.Native.Nat.{_*_, _<_, _≤_};
 ghost use lib.ListN.{length};
-ghost use Rattle.offsets.specs.Table.{potentialsIn};
-ghost use Rattle.cell_words.specs.Cells.{Blank, Stamped};
+ghost use Rattle.grid.specs.Grid.{cells as cellsOf};
+ghost use Rattle.offsets.specs.Trial.{Unit};
 ghost use Rattle.adjacency.specs.Adjacency.{Unmarked};
-ghost use Rattle.unit_check.specs.Find.{fitsIn, AllFit, FirstUnfit, Finding, Room, MarkedFor};
+ghost use Rattle.unit_check.specs.Find.{unitCells, fitsIn, triesAll, AllFit, FirstUnfit, AdjacentTo, Finding, MarkedFor};
 use crate::soon;
 use grid::Grid;
 use lists::wide;
 use offsets::table;
 
-// Marks the potential units adjacent to the unit's own, and no others, before the unit's offsets begin.
+// Marks the potential units adjacent to the own one of the unit of these cells, and no others, before its offsets begin.
 fn mark_unit<'a>(
     g: Grid,
     states: &'a [u8],
     table: &'a [u16],
-    starts: &'a [u16],
-    flat: &'a [u16],
+    cells: &'a [u16],
     nstarts: &'a [usize],
     near: &'a [u16],
-    unit: usize,
     marks: &mut [u8],
 )
-    requires { ⌜ Finding g (now states) (now table) (now starts) (now flat) (now nstarts) (now near) (length (now marks)) ⌝ }
-    requires { ⌜ unit < length (now starts) ⌝ }
+    requires { ⌜ Unit g (now table) (now cells) ⌝ }
+    requires { ⌜ AdjacentTo g (now states) (now table) (now nstarts) (now near) (length (now marks)) ⌝ }
     requires { ⌜ Unmarked (now marks) ⌝ }
-    ensures { λ _. ⌜ MarkedFor g (now (states .entry)) (now (table .entry)) unit (now (marks .exit)) ⌝ }
+    ensures { λ _. ⌜ MarkedFor g (now (states .entry)) (now (table .entry)) (now (cells .entry)) (now (marks .exit)) ⌝ }
 {
-    let cells = groups::cells_of(g, starts, flat, starts.len(), unit);
     let own = table::potential(table, wide(cells[0]));
     adjacency::mark_adjacent(own, nstarts, near, marks);
 }
@@ -37,25 +36,22 @@ fn unmark_unit<'a>(
     g: Grid,
     states: &'a [u8],
     table: &'a [u16],
-    starts: &'a [u16],
-    flat: &'a [u16],
+    cells: &'a [u16],
     nstarts: &'a [usize],
     near: &'a [u16],
-    unit: usize,
     marks: &mut [u8],
 )
-    requires { ⌜ Finding g (now states) (now table) (now starts) (now flat) (now nstarts) (now near) (length (now marks)) ⌝ }
-    requires { ⌜ unit < length (now starts) ⌝ }
-    requires { ⌜ MarkedFor g (now states) (now table) unit (now marks) ⌝ }
+    requires { ⌜ Unit g (now table) (now cells) ⌝ }
+    requires { ⌜ AdjacentTo g (now states) (now table) (now nstarts) (now near) (length (now marks)) ⌝ }
+    requires { ⌜ MarkedFor g (now states) (now table) (now cells) (now marks) ⌝ }
     ensures { λ _. ⌜ Unmarked (now (marks .exit)) ⌝ }
 {
-    let cells = groups::cells_of(g, starts, flat, starts.len(), unit);
     let own = table::potential(table, wide(cells[0]));
     adjacency::unmark_adjacent(own, nstarts, near, marks);
 }
 
 // The first unit from one on that fits at none of the places that are tried soon, for which the marks are left set; as many as there are
-// units, where each fits at one.
+// units, where each fits at one. On a small board it fits nowhere.
 fn find_soon<'a>(
     g: Grid,
     states: &'a [u8],
@@ -72,25 +68,25 @@ fn find_soon<'a>(
     requires { ⌜ AllFit (fitsIn g (now states) (now table)) (length (now starts)) from ⌝ }
     ensures { λ r. ⌜ AllFit (fitsIn g (now (states .entry)) (now (table .entry))) (length (now (starts .entry))) r ⌝ }
     ensures { λ r. ⌜ from ≤ r ⌝ }
-    ensures { λ r. ⌜ (r < length (now (starts .entry)) → MarkedFor g (now (states .entry)) (now (table .entry)) r (now (marks .exit))) ⌝ }
+    ensures { λ r. ⌜ (r < length (now (starts .entry)) → MarkedFor g (now (states .entry)) (now (table .entry)) (unitCells g (now (table .entry)) r) (now (marks .exit))) ⌝ }
+    ensures { λ r. ⌜ (triesAll g ≡ true → r < length (now (starts .entry)) → fitsIn g (now (states .entry)) (now (table .entry)) r ≡ false) ⌝ }
 {
     let count = starts.len();
     let mut unit = from;
     while unit < count {
-        mark_unit(g, states, table, starts, flat, nstarts, near, unit, marks);
         let cells = groups::cells_of(g, starts, flat, count, unit);
+        mark_unit(g, states, table, cells, nstarts, near, marks);
         if !soon::fits_soon(g, states, table, marks, cells) {
             return unit;
         }
-        unmark_unit(g, states, table, starts, flat, nstarts, near, unit, marks);
+        unmark_unit(g, states, table, cells, nstarts, near, marks);
         unit += 1;
     }
     unit
 }
 
 // The first unit from one on that fits nowhere, for which the marks are left set; as many as there are units, where each fits somewhere. The
-// unit to begin with has its marks, and fits at none of the places that are tried soon. The words of the board's borders and of a whole row
-// are made.
+// unit to begin with has its marks, and fits at none of the places that are tried soon. There is room for the codes of any unit.
 fn find_from<'a>(
     g: Grid,
     states: &'a [u8],
@@ -100,24 +96,22 @@ fn find_from<'a>(
     nstarts: &'a [usize],
     near: &'a [u16],
     from: usize,
-    full: u64,
-    words: &'a [u64],
-    inside: &mut [u64],
     codes: &mut [u16],
     borders: &mut [u16],
-    nearby: &mut [u64],
-    stamps: &mut [usize],
     marks: &mut [u8],
 ) -> usize
     requires { ⌜ Finding g (now states) (now table) (now starts) (now flat) (now nstarts) (now near) (length (now marks)) ⌝ }
-    requires { ⌜ (from < length (now starts) → MarkedFor g (now states) (now table) from (now marks)) ⌝ }
+    requires { ⌜ (from < length (now starts) → MarkedFor g (now states) (now table) (unitCells g (now table) from) (now marks)) ⌝ }
     requires { ⌜ AllFit (fitsIn g (now states) (now table)) (length (now starts)) from ⌝ }
-    requires { ⌜ Room g (now states) full (now words) (length (now codes)) (length (now borders)) ⌝ }
-    requires { ⌜ Stamped g (now states) (potentialsIn g (now table)) (now nearby) (now stamps) ⌝ }
-    requires { ⌜ Blank g (now inside) ⌝ }
+    requires { ⌜ (cellsOf g ≤ length (now codes)) × (6 * cellsOf g ≤ length (now borders)) ⌝ }
     ensures { λ r. ⌜ FirstUnfit (fitsIn g (now (states .entry)) (now (table .entry))) (length (now (starts .entry))) r ⌝ }
-    ensures { λ r. ⌜ (r < length (now (starts .entry)) → MarkedFor g (now (states .entry)) (now (table .entry)) r (now (marks .exit))) ⌝ }
+    ensures { λ r. ⌜ (r < length (now (starts .entry)) → MarkedFor g (now (states .entry)) (now (table .entry)) (unitCells g (now (table .entry)) r) (now (marks .exit))) ⌝ }
 {
+    let mut words = [0u64; 132];
+    border_words::fill(g, states, &mut words);
+    let full = words::full_word(g.width);
+    let mut nearby = [0u64; 32];
+    let mut stamps = [1024usize; 32];
     let count = starts.len();
     let mut unit = from;
     while unit < count {
@@ -129,17 +123,16 @@ fn find_from<'a>(
             marks,
             cells,
             full,
-            words,
-            inside,
+            &words,
             codes,
             borders,
-            nearby,
-            stamps,
+            &mut nearby,
+            &mut stamps,
         );
         if !fit {
             return unit;
         }
-        unmark_unit(g, states, table, starts, flat, nstarts, near, unit, marks);
+        unmark_unit(g, states, table, cells, nstarts, near, marks);
         unit = find_soon(
             g,
             states,
@@ -168,20 +161,14 @@ fn find_small<'a>(
     marks: &mut [u8],
 ) -> usize
     requires { ⌜ Finding g (now states) (now table) (now starts) (now flat) (now nstarts) (now near) (length (now marks)) ⌝ }
-    requires { ⌜ (from < length (now starts) → MarkedFor g (now states) (now table) from (now marks)) ⌝ }
+    requires { ⌜ (from < length (now starts) → MarkedFor g (now states) (now table) (unitCells g (now table) from) (now marks)) ⌝ }
     requires { ⌜ AllFit (fitsIn g (now states) (now table)) (length (now starts)) from ⌝ }
-    requires { ⌜ g .height * g .width ≤ 64 ⌝ }
+    requires { ⌜ cellsOf g ≤ 64 ⌝ }
     ensures { λ r. ⌜ FirstUnfit (fitsIn g (now (states .entry)) (now (table .entry))) (length (now (starts .entry))) r ⌝ }
-    ensures { λ r. ⌜ (r < length (now (starts .entry)) → MarkedFor g (now (states .entry)) (now (table .entry)) r (now (marks .exit))) ⌝ }
+    ensures { λ r. ⌜ (r < length (now (starts .entry)) → MarkedFor g (now (states .entry)) (now (table .entry)) (unitCells g (now (table .entry)) r) (now (marks .exit))) ⌝ }
 {
-    let mut words = [0u64; 132];
-    border_words::fill(g, states, &mut words);
-    let full = words::full_word(g.width);
-    let mut inside = [0u64; 32];
     let mut codes = [0u16; 64];
     let mut borders = [0u16; 384];
-    let mut nearby = [0u64; 32];
-    let mut stamps = [1024usize; 32];
     find_from(
         g,
         states,
@@ -191,13 +178,8 @@ fn find_small<'a>(
         nstarts,
         near,
         from,
-        full,
-        &words,
-        &mut inside,
         &mut codes,
         &mut borders,
-        &mut nearby,
-        &mut stamps,
         marks,
     )
 }
@@ -215,19 +197,13 @@ fn find_large<'a>(
     marks: &mut [u8],
 ) -> usize
     requires { ⌜ Finding g (now states) (now table) (now starts) (now flat) (now nstarts) (now near) (length (now marks)) ⌝ }
-    requires { ⌜ (from < length (now starts) → MarkedFor g (now states) (now table) from (now marks)) ⌝ }
+    requires { ⌜ (from < length (now starts) → MarkedFor g (now states) (now table) (unitCells g (now table) from) (now marks)) ⌝ }
     requires { ⌜ AllFit (fitsIn g (now states) (now table)) (length (now starts)) from ⌝ }
     ensures { λ r. ⌜ FirstUnfit (fitsIn g (now (states .entry)) (now (table .entry))) (length (now (starts .entry))) r ⌝ }
-    ensures { λ r. ⌜ (r < length (now (starts .entry)) → MarkedFor g (now (states .entry)) (now (table .entry)) r (now (marks .exit))) ⌝ }
+    ensures { λ r. ⌜ (r < length (now (starts .entry)) → MarkedFor g (now (states .entry)) (now (table .entry)) (unitCells g (now (table .entry)) r) (now (marks .exit))) ⌝ }
 {
-    let mut words = [0u64; 132];
-    border_words::fill(g, states, &mut words);
-    let full = words::full_word(g.width);
-    let mut inside = [0u64; 32];
     let mut codes = [0u16; limits::CELLS];
     let mut borders = [0u16; 6144];
-    let mut nearby = [0u64; 32];
-    let mut stamps = [1024usize; 32];
     find_from(
         g,
         states,
@@ -237,13 +213,8 @@ fn find_large<'a>(
         nstarts,
         near,
         from,
-        full,
-        &words,
-        &mut inside,
         &mut codes,
         &mut borders,
-        &mut nearby,
-        &mut stamps,
         marks,
     )
 }
@@ -263,14 +234,18 @@ pub fn find<'a>(
     requires { ⌜ Finding g (now states) (now table) (now starts) (now flat) (now nstarts) (now near) (length (now marks)) ⌝ }
     requires { ⌜ Unmarked (now marks) ⌝ }
     ensures { λ r. ⌜ FirstUnfit (fitsIn g (now (states .entry)) (now (table .entry))) (length (now (starts .entry))) r ⌝ }
-    ensures { λ r. ⌜ (r < length (now (starts .entry)) → MarkedFor g (now (states .entry)) (now (table .entry)) r (now (marks .exit))) ⌝ }
+    ensures { λ r. ⌜ (r < length (now (starts .entry)) → MarkedFor g (now (states .entry)) (now (table .entry)) (unitCells g (now (table .entry)) r) (now (marks .exit))) ⌝ }
 {
     if starts.len() == 1 {
-        mark_unit(g, states, table, starts, flat, nstarts, near, 0, marks);
+        let cells = groups::cells_of(g, starts, flat, starts.len(), 0);
+        mark_unit(g, states, table, cells, nstarts, near, marks);
         return 0;
     }
     let unit = find_soon(g, states, table, starts, flat, nstarts, near, 0, marks);
     if unit == starts.len() {
+        return unit;
+    }
+    if soon::tries_all(g) {
         return unit;
     }
     if g.height * g.width <= 64 {

@@ -1,13 +1,14 @@
 -- `row_trials::fits` meets its contract: the unit's codes are written, and its rows tried. Assumes nothing.
-use mathlib.Core.Path.{refl, _∙_}
+use mathlib.Core.Path.{refl}
 use borrow.Author.Needs.{needs}
+use Rattle.cell_words.proofs.OwnLaws.{blank}
 use Rattle.row_trials.proofs.CodedLaws.{unit, count-fits, first-listed, last-listed, first-row, last-after, ends, coded}
 use Rattle.row_trials.proofs.fits.Statement.{statement}
 use Rattle.row_trials.proofs.fits.Tie as tie
 
 -- the places of the code: the start, the first cell, the last one, its codes, those of its borders, the words of its cells, and all that its rows read
 abbrev start : tie.After-wide → tie.Start
-start c = c .before .before .before .before .before .before .before .before .before .before .before .before
+start c = c .before .before .before .before .before .before .before .before .before .before .before
 
 abbrev first : tie.After-wide2 → tie.After-wide
 first c = c .before .before
@@ -19,7 +20,7 @@ abbrev borders : tie.After-add-cells → tie.After-write-borders
 borders c = c .before .before .before .before
 
 abbrev inside : tie.After-potential → tie.After-add-cells
-inside c = c .before .before .before
+inside c = c .before .before
 
 abbrev own : tie.After-common → tie.After-potential
 own c = c .before .before
@@ -40,8 +41,8 @@ row-requires-2 c κs =
     let l = begun c .before in
     last-listed (start (first l) .pre .0) (first l .wide .ensures) (l .wide2 .ensures)
 
-sub-t24 : tie.Need-sub-t24
-sub-t24 c =
+sub-t23 : tie.Need-sub-t23
+sub-t23 c =
     let r = begun (c .before) in
     let l = r .before in
     last-after (start (first l) .pre .0) (first l .wide .ensures) (l .wide2 .ensures) (r .row .ensures) (c .row2 .ensures)
@@ -59,33 +60,24 @@ fits-rows-requires c κs =
     let f = first l in
     let p = start f .pre in (
       coded (p .0) (f .wide .ensures) (l .wide2 .ensures) (r .row .ensures) (e .row2 .ensures) refl refl (o .potential .ensures) (w .write-cells .ensures) (b .write-borders .ensures) (i .add-cells .ensures) (m .common .ensures),
-      (p .1 .0, (first-row (p .0) (f .wide .ensures) (l .wide2 .ensures) (r .row .ensures) (e .row2 .ensures), ends (p .0) (f .wide .ensures) (l .wide2 .ensures) (r .row .ensures) (e .row2 .ensures))),
+      (p .1, (first-row (p .0) (f .wide .ensures) (l .wide2 .ensures) (r .row .ensures) (e .row2 .ensures), ends (p .0) (f .wide .ensures) (l .wide2 .ensures) (r .row .ensures) (e .row2 .ensures))),
     )
 
--- from the trial of its rows back to the start
-abbrev tried : tie.After-clear-cells → tie.After-fits-rows
-tried c = c .before .before .before .before .before .before
+-- from the trial of its rows back to the codes
+abbrev tried : tie.After-slice-known8 → tie.After-fits-rows
+tried c = c .before .before .before .before
 
-abbrev ready : tie.After-fits-rows → tie.After-common
-ready c = c .before .before .before .before .before .before .before
-
-clear-cells-requires : tie.Need-clear-cells-requires
-clear-cells-requires c κs =
-    let i = inside (own (ready (c .before .before .before .before .before))) in
-    let l = top (cells (borders i)) .before in
-    (unit (start (first l) .pre .0), i .add-cells .ensures)
+abbrev written : tie.After-fits-rows → tie.After-write-borders
+written c = borders (inside (own (c .before .before .before .before .before .before .before)))
 
 pub fits-spec : {M : Type 1} → statement M
 fits-spec =
     tie.close (tie.spec (λ c. search needs) (λ c κs. search needs) (λ c. search needs) (λ c. search needs) (λ c. search needs) (λ c κs. search needs)
     (λ c κs. let f = first c in first-listed (start f .pre .0) (f .wide .ensures) (c .wide2 .ensures))
     (λ c κs. let l = c .before .before in let p = start (first l) .pre .0 in (unit p, p .codes-long))
-    (λ c κs. let l = top (c .before .before .before) .before in let p = start (first l) .pre .0 in (unit p, (p .placed .states-long, p .borders-long)))
-    (λ c κs. let l = top (cells (c .before .before .before)) .before in let p = start (first l) .pre in (unit (p .0), p .1 .1))
-    (λ c κs. let l = top (cells (borders (c .before .before))) .before in first-listed (start (first l) .pre .0) (first l .wide .ensures) (l .wide2 .ensures))
-    common-requires row-requires-2 sub-t24 fits-rows-requires clear-cells-requires
-    (λ c. let k = c .before .before in k .clear-cells .kept .1 .1 .1 .0 ∙ inside (own (ready (tried k))) .add-cells .kept .1 .1 .1 .0)
-    (λ c. cells (borders (inside (own (ready (tried (c .before .before)))))) .write-cells .kept .1 .1 .1 .0)
-    (λ c. borders (inside (own (ready (tried (c .before .before))))) .write-borders .kept .1 .1 .1 .1 .0)
-    (λ c. tried (c .before .before) .fits-rows .ensures .1 .near-same) (λ c. tried (c .before .before) .fits-rows .ensures .1 .stamps-same)
-    (λ c. let k = c .before .before in let f = tried k in (f .fits-rows .ensures .0, (f .fits-rows .ensures .1, k .clear-cells .ensures))))
+    (λ c κs. let l = top (c .before .before .before) .before in let p = start (first l) .pre .0 in (unit p, (p .placed .states-long, p .borders-long))) (λ c. search needs)
+    (λ c κs. let l = top (cells (c .before .before .before)) .before in let p = start (first l) .pre .0 in (unit p, blank (p .placed .limits)))
+    (λ c κs. let l = top (cells (borders (c .before))) .before in first-listed (start (first l) .pre .0) (first l .wide .ensures) (l .wide2 .ensures))
+    common-requires row-requires-2 sub-t23 (λ c. search needs) fits-rows-requires
+    (λ c. cells (written (tried c)) .write-cells .kept .1 .1 .1 .0) (λ c. written (tried c) .write-borders .kept .1 .1 .1 .1 .0)
+    (λ c. tried c .fits-rows .ensures .1 .near-same) (λ c. tried c .fits-rows .ensures .1 .stamps-same) (λ c. tried c .fits-rows .ensures))

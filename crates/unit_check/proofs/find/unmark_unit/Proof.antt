@@ -1,37 +1,27 @@
 -- `unit_check::find::unmark_unit` meets its contract: what was marked for the unit is taken away. Assumes nothing.
 use borrow.Author.Needs.{needs}
 use mathlib.Core.Path.{refl}
-use Rattle.groups.proofs.Theorems.{turn-slot}
-use Rattle.unit_check.proofs.FindLaws.{some-cells, first-listed, own-exists, own-marking, marks-of}
+use Rattle.cell_words.proofs.OwnLaws.{own-listed}
+use Rattle.unit_check.proofs.FindLaws.{own-exists, own-marking, marks-of}
 use Rattle.unit_check.proofs.find.unmark_unit.Statement.{statement}
 use Rattle.unit_check.proofs.find.unmark_unit.Tie as tie
 
--- the places of the code: the start, the unit's cells, and its own potential unit
-abbrev start : tie.After-cells-of → tie.Start
+-- the start, as the first cell sees it
+abbrev start : tie.After-wide → tie.Start
 start c = c .before .before .before .before .before .before .before .before
-
-abbrev its-cells : tie.After-potential → tie.After-cells-of
-its-cells c = c .before .before .before
-
-unmark-adjacent-requires : tie.Need-unmark-adjacent-requires
-unmark-adjacent-requires c κs =
-    let o = c .before in
-    let k = its-cells o in
-    let p = start k .pre in
-    own-marking (p .0) (p .1 .0) (k .cells-of .ensures .0) (o .before .wide .ensures) (o .potential .ensures) _ refl
 
 returns : tie.Need-returns
 returns c =
     let m = c .before .before in
     let o = m .before .before in
-    let k = its-cells o in
-    let p = start k .pre in
-    m .unmark-adjacent .ensures _ _ _ _ (p .0 .lists) (own-exists (p .0) (p .1 .0) (k .cells-of .ensures .0) (o .before .wide .ensures) (o .potential .ensures))
-    (marks-of (p .0) (p .1 .0) (k .cells-of .ensures .0) (o .before .wide .ensures) (o .potential .ensures) _ (p .1 .1))
+    let w = o .before in
+    let p = start w .pre in
+    m .unmark-adjacent .ensures _ _ _ _ (p .1 .0 .lists) (own-exists (p .0) (p .1 .0) (w .wide .ensures) (o .potential .ensures))
+    (marks-of (p .0) (p .1 .0) (w .wide .ensures) (o .potential .ensures) _ (p .1 .1))
 
 pub unmark-unit-spec : {M : Type 1} → statement M
 unmark-unit-spec =
-    tie.close (tie.spec (λ c κs. let p = c .before .before .before .before .before .before .before .pre in turn-slot (p .0 .units) (p .1 .0))
-    (λ c. let k = c .before in let p = start k .pre in some-cells (p .0) (p .1 .0) (k .cells-of .ensures .0)) (λ c κs. search needs)
-    (λ c κs. let k = c .before .before in let p = start k .pre in first-listed (p .0) (p .1 .0) (k .cells-of .ensures .0) (c .wide .ensures))
-    unmark-adjacent-requires (λ c. search needs) returns)
+    tie.close (tie.spec (λ c. c .before .before .before .before .before .before .before .pre .0 .some) (λ c κs. search needs)
+    (λ c κs. let u = start c .pre .0 in own-listed u (u .some) (c .wide .ensures))
+    (λ c κs. let o = c .before in let w = o .before in let p = start w .pre in own-marking (p .0) (p .1 .0) (w .wide .ensures) (o .potential .ensures) _ refl)
+    (λ c. search needs) returns)
