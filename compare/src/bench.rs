@@ -1,5 +1,6 @@
 //! Times of both sides from one driver, and docs/PERFORMANCE.md, which it writes. A ratio above 1 says that the port is faster.
 mod asked;
+pub mod before;
 mod calls;
 mod loads;
 mod paper;
@@ -8,11 +9,12 @@ mod stack;
 mod strokes;
 
 use crate::boards::Standing;
-use asked::{boards, later, puzzles, SIDES};
+use asked::{boards, later, puzzles, unfit, SIDES};
 use calls::Asked;
 use paper::{micros, number, Pair, Row};
 use searches::Searched;
 use std::hint::black_box;
+use std::path::PathBuf;
 use std::process::Command;
 use std::time::Instant;
 
@@ -57,23 +59,32 @@ fn row<T>(name: impl Into<String>, times: T) -> Row<T> {
 fn asks() -> Vec<Row<Vec<Pair>>> {
     let mut rows: Vec<Row<Vec<Pair>>> = vec![];
     for side in SIDES {
-        let shapes = boards(side).into_iter().chain(later(side)).map(|(name, board)| (name, calls::ask(&board)));
+        let shapes = boards(side).into_iter().chain(later(side)).chain(unfit(side)).map(|(name, board)| (name, calls::ask(&board)));
         let rooms = puzzles(side).into_iter().map(|(name, laid)| (name, calls::puzzle_ask(&laid)));
         for (name, Asked { times, kind }) in shapes.chain(rooms) {
             println!("{side} by {side}, {name}, {kind}: {} µs, ratio {}", micros(times.port), number(times.ratio()));
-            match rows.iter_mut().find(|row| row.name == name) {
-                Some(found) => found.times.push(times),
-                None => rows.push(row(name, vec![times])),
-            }
+            add(&mut rows, name, times);
         }
     }
     rows
 }
 
-/// What the archive of the port takes from elsewhere, where `nm` is at hand.
+/// Puts an ask's times behind those of the sides before.
+fn add(rows: &mut Vec<Row<Vec<Pair>>>, name: &str, times: Pair) {
+    match rows.iter_mut().find(|row| row.name == name) {
+        Some(found) => found.times.push(times),
+        None => rows.push(row(name, vec![times])),
+    }
+}
+
+/// The archive of the port.
+fn archive() -> PathBuf {
+    PathBuf::from(concat!(env!("CARGO_MANIFEST_DIR"), "/../target/staticlib/libexports.a"))
+}
+
+/// What it takes from elsewhere, where `nm` is at hand.
 fn foreign() -> Option<Vec<String>> {
-    let archive = concat!(env!("CARGO_MANIFEST_DIR"), "/../target/staticlib/libexports.a");
-    let told = Command::new("nm").args(["-u", archive]).output().ok()?;
+    let told = Command::new("nm").arg("-u").arg(archive()).output().ok()?;
     let text = String::from_utf8(told.stdout).ok()?;
     let mut names: Vec<String> = text.lines().filter_map(|line| Some(line.trim().strip_prefix("U ")?.to_string())).collect();
     names.sort();
@@ -132,7 +143,7 @@ fn goals(
 
 /// The most stack of each call.
 fn stacks() -> Vec<(String, usize)> {
-    let standing: Vec<(&str, Standing)> = boards(32).into_iter().chain(later(32)).collect();
+    let standing: Vec<(&str, Standing)> = boards(32).into_iter().chain(later(32)).chain(unfit(32)).collect();
     let mut stacks = calls::stacks(&standing, &puzzles(32));
     stacks.extend(strokes::stacks());
     stacks.push(("right boards, 24 borders undecided".into(), searches::stack()));

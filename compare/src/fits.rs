@@ -90,11 +90,11 @@ impl Fits<'_> {
             })
     }
 
-    /// Whether a unit fits where the port tries first: right of its first row, under its last one, left of its first, or at the first offset
-    /// of all; on a board of at most 25 cells anywhere.
+    /// Whether a unit fits where the port tries first: beside itself to the right or to the left, by as many columns as its longest run has
+    /// cells, under its last row, or at the first offset of all; on a board of at most 25 cells anywhere.
     pub fn fits_soon(&self, cells: &[u16]) -> bool {
         let (width, first, last) = (self.board.width, cells[0] as usize, cells[cells.len() - 1] as usize);
-        let run = (0..cells.len()).take_while(|&at| cells[at] as usize == first + at).count();
+        let run = cells.chunk_by(|a, b| a + 1 == *b).map(<[u16]>::len).max().expect("a cell");
         let soon = [first + run, (last / width + 1) * width + first % width, first.saturating_sub(run), 0];
         let all = 0..if self.board.cells() <= 25 { self.board.cells() } else { 0 };
         soon.into_iter().chain(all).any(|to| self.is_good(cells, to))

@@ -36,7 +36,7 @@ const SAMPLE: &str = concat!(env!("CARGO_MANIFEST_DIR"), "/../crates/vectors");
 
 fn usage(word: &str) -> ! {
     let layers: Vec<&str> = LAYERS.iter().map(|layer| layer.name).collect();
-    eprintln!("compare: `{word}` is none of vectors, bench, findings, seed=N, seconds=N, borders=N, {}", layers.join(", "));
+    eprintln!("compare: `{word}` is none of vectors, bench, before, findings, seed=N, seconds=N, borders=N, {}", layers.join(", "));
     std::process::exit(2);
 }
 
@@ -72,6 +72,13 @@ fn main() -> ExitCode {
     match words.first().map(String::as_str) {
         Some("vectors") => sample::write(Path::new(SAMPLE)),
         Some("bench") => bench::run(),
+        Some("before") => match words.get(1) {
+            Some(archive) => bench::before::run(Path::new(archive)),
+            None => {
+                eprintln!("compare: `before` wants the path of another archive");
+                return ExitCode::from(2);
+            }
+        },
         Some("findings") => findings::run(),
         _ => {
             if !compare(&words) {

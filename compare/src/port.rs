@@ -3,12 +3,14 @@
 
 pub mod file;
 mod lent;
+mod loaded;
 mod puzzle;
 mod record;
 
 use crate::answers::Groups;
 use crate::ledger::singles;
 pub use lent::{generate_in, hand_over_in, run_in};
+pub use loaded::{Archive, Told};
 pub use puzzle::{Puzzle, PuzzleRecord};
 pub use record::{InPlace, Record};
 

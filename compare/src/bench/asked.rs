@@ -31,25 +31,34 @@ pub fn boards(side: usize) -> Vec<(&'static str, Standing)> {
     ]
 }
 
-/// Blocks of 4 by 4 cells, a letter a unit, each a right board. In the first the lower of two like rows fits above alone, in the second the
-/// like of a corner is two rows and a column away.
-const BLOCKS: [(&str, [&[u8; 4]; 4]); 2] = [
-    ("rows of 1 and 3 cells in pairs", [b"abbb", b"cddd", b"eeef", b"gggh"]),
-    ("corners in pairs on the slant", [b"abbc", b"aabd", b"efgg", b"hffg"]),
+/// Blocks of 4 by 4 squares of so many cells a side, a letter a unit, each a right board. In the first the lower of two like rows fits above
+/// alone, in the others the like of a corner is two squares down and one to the side.
+const CORNERS: [&[u8; 4]; 4] = [b"abbc", b"aabd", b"efgg", b"hffg"];
+const BLOCKS: [(&str, usize, [&[u8; 4]; 4]); 3] = [
+    ("rows of 1 and 3 cells in pairs", 1, [b"abbb", b"cddd", b"eeef", b"gggh"]),
+    ("corners in pairs on the slant", 1, CORNERS),
+    ("corners of 12 cells in pairs on the slant", 2, CORNERS),
 ];
 
-/// Boards on which each unit fits, but on more than 25 cells about half of them or more at none of the offsets that the port tries before
-/// it looks at rows of them.
+/// Boards on which, where they are whole, each unit fits, but many at none of the offsets that the port tries before it looks at rows of them;
+/// and one with large units that fit beside themselves.
 pub fn later(side: usize) -> Vec<(&'static str, Standing)> {
-    let tiled = |block: [&[u8; 4]; 4]| {
+    let tiled = |scale: usize, block: [&[u8; 4]; 4]| {
         let part = |y: usize, x: usize| (y / 4 * 64 + x / 4) * 256 + block[y % 4][x % 4] as usize;
-        Standing::parted(side, side, CONNECTED, part)
+        Standing::parted(side, side, CONNECTED, |y, x| part(y / scale, x / scale))
     };
     // a column of four cells beside one that begins two rows higher; some of these are cut in the first and the last rows
     let skew = Standing::parted(side, side, CONNECTED, |y, x| (y + 1 + x % 2 * 2) / 4 * 64 + x / 2);
-    let mut list: Vec<(&str, Standing)> = BLOCKS.iter().map(|&(name, block)| (name, tiled(block))).collect();
+    let mut list: Vec<(&str, Standing)> = BLOCKS.iter().map(|&(name, scale, block)| (name, tiled(scale, block))).collect();
     list.push(("skew pieces of 8 cells", skew));
     list
+}
+
+/// Boards on which the shape check finds a unit that fits nowhere, in the middle row, once it is done with those before it.
+pub fn unfit(side: usize) -> Vec<(&'static str, Standing)> {
+    let joined = |y: usize, x: usize| y == side / 2 && x < 4;
+    let part = |y: usize, x: usize| y * 64 + if joined(y, x) { 63 } else { x / 2 };
+    vec![("dominoes, two of them joined, a fault", Standing::parted(side, side, CONNECTED, part))]
 }
 
 /// Of how many units in 100 that is so, for each of these boards.
@@ -62,8 +71,8 @@ pub fn about_later(side: usize) -> String {
     };
     let list: Vec<String> = later(side).iter().map(told).collect();
     format!(
-        "Some units fit, but neither right nor left of their first row, nor under their last one, nor at the first offset, where the port tries\n\
-         first. Of 100 units these are on {}.\n",
+        "Some units fit, but neither beside themselves, nor under their last row, nor at the first offset, where the port tries first. Of 100\n\
+         units these are on {}.\n",
         list.join(", on ")
     )
 }
