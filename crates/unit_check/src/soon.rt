@@ -55,8 +55,8 @@ fn longer(a: usize, b: usize) -> usize
     a
 }
 
-// How many cells the unit's longest run has, of cells that follow one another in a row: moved to the side by fewer columns, the unit would
-// fall on itself.
+// How many cells the unit's longest run has, of cells whose numbers follow one another. Where these are in one row, the unit would fall on
+// itself if it were moved to the side by fewer columns.
 fn longest_run(cells: &[u16]) -> usize
     requires { ⌜ (0 < length (now cells)) × (length (now cells) ≤ 1024) ⌝ }
     ensures { λ r. ⌜ r ≤ 1024 ⌝ }
