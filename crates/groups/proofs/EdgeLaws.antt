@@ -1,13 +1,16 @@
 -- A board's edges by direction: cells are linked exactly over a border that joins, in whatever direction; and what the lists that compute hold. Assumes nothing.
-use Prim.Native.Nat.{ℕ, _<_}
-use mathlib.Core.Path.{_≡_}
+use Prim.Native.Nat.{ℕ, zero, suc, _<_}
+use mathlib.Core.Path.{_≡_, refl, sym}
 use mathlib.Core.Logic.{inl, inr, ⊎-elim}
 use mathlib.Core.Bool.{Bool, true, false}
 use mathlib.Core.List.{List}
 use native.Mathlib.Omega.{arith}
-use borrow.Author.Tests.{eq-eqb, ne-eqb}
+use borrow.Author.Tests.{ne-eqb}
 use lib.ListN.{getD, length}
 use lib.Dec.{eqb}
+use lib.Bits.{bitOr, or-zero-r, or-add-and, and-le-r}
+use mir.Val.{boolByte}
+use Rattle.lists.specs.Choice.{either}
 use Rattle.lists.proofs.ChoiceLaws.{both-true, true-both}
 use Rattle.grid.specs.declared.Direction.{Direction}
 use Rattle.grid.specs.declared.Grid.{Grid}
@@ -78,14 +81,15 @@ module _ (g : Grid) (states : List ℕ) (p : Bool) where
   count-is = begun-at (cells g) (edges g states p) (cells g) within-board (omega arith)
 
 -- the code's test of a state
-pub passes-connected : (p : Bool) (s : ℕ) → s ≡ 1 → true ≡ passes p s
+pub passes-told : (p : Bool) (s : ℕ) → eqb (bitOr s (boolByte p)) 1 ≡ passes p s
 unfolding passes
-passes-connected p s q = rw (eq-eqb s 1 q)
-
-pub passes-undecided : (p : Bool) (s : ℕ) → (s ≡ 1 → ⊥) → p ≡ true → eqb s 0 ≡ passes p s
-unfolding passes
-passes-undecided p s z q = rw (ne-eqb s 1 z, q)
-
-pub passes-not : (p : Bool) (s : ℕ) → (s ≡ 1 → ⊥) → p ≡ false → false ≡ passes p s
-unfolding passes
-passes-not p s z q = rw (ne-eqb s 1 z, q)
+passes-told false s = rw (or-zero-r s) (sym (either-false (eqb s 1)))
+  where
+    either-false : (b : Bool) → either b false ≡ b
+    either-false true = refl
+    either-false false = refl
+passes-told true zero = refl
+passes-told true (suc zero) = refl
+passes-told true (suc (suc n)) =
+    let s = suc (suc n) in
+    rw (ne-eqb (bitOr s 1) 1 (λ (e : bitOr s 1 ≡ 1). omega (arith, or-add-and s 1, and-le-r s 1)), ne-eqb s 1 (omega arith), ne-eqb s 0 (omega arith)) refl
