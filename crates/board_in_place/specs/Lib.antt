@@ -1,1 +1,2 @@
--- Nothing is defined here: the contracts are by the definitions of the by-value calls, `board`'s `strokeOf`, `decideOf` and `undoOf`.
+-- Nothing is defined here: the contracts are by the definitions of the by-value calls, `board`'s `strokeOf`, `decideOf` and `undoOf` and `shape_check`'s
+-- `shapeOutcome`.

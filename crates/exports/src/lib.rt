@@ -1,6 +1,6 @@
 // The public calls for programs in Rust and C, each a thin wrapper with its call's contract. A record goes in and comes back
-// by value, laid out as in C; a slice is a pointer and a length, a lent board a pointer. An enum does not cross: it is handed
-// over as numbers.
+// by value, laid out as in C; a slice is a pointer and a length, a lent board or puzzle a pointer. An enum does not cross: it
+// is handed over as numbers.
 mod boards;
 mod boundaries;
 mod cases;
@@ -35,9 +35,14 @@ pub use files::sendai_file_numbers;
 pub use groupings::sendai_group;
 pub use groupings::sendai_groups;
 pub use hands::sendai_hand_over;
+pub use in_place::sendai_board_ask_in_place;
 pub use in_place::sendai_board_decide_in_place;
 pub use in_place::sendai_board_stroke_in_place;
 pub use in_place::sendai_board_undo_in_place;
+pub use in_place::sendai_puzzle_ask_in_place;
+pub use in_place::sendai_puzzle_decide_in_place;
+pub use in_place::sendai_puzzle_stroke_in_place;
+pub use in_place::sendai_puzzle_undo_in_place;
 pub use paths::sendai_path;
 pub use places::sendai_neighbour;
 pub use prints::sendai_line;

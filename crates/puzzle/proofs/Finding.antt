@@ -30,11 +30,6 @@ use Rattle.puzzle.specs.declared.Answer.{Answer}
 use Rattle.puzzle.specs.declared.Answer.the-variants.{Clear, Fault}
 use Rattle.puzzle.specs.Fault.{Found, foundBy, roomCheck, faultOf}
 use Rattle.puzzle.specs.Puzzle.{says, writes}
-use Rattle.groups.specs.Lent.{InTurn}
-
--- the same rooms by another count
-pub turn-by : {g : Grid} {ids : List ℕ} {n m : ℕ} {starts flat : List ℕ} → n ≡ m → InTurn g ids n starts flat → InTurn g ids m starts flat
-turn-by q t = rw (← q) t
 
 -- what the rooms' counts find and answer, as an ask tells it
 asked : Option Faulty → Option Found

@@ -22,9 +22,9 @@ use Rattle.puzzle.specs.declared.Puzzle.{Puzzle}
 use Rattle.puzzle.specs.declared.Made.{Made}
 use Rattle.rooms.specs.Rooms.{isGiven}
 use Rattle.puzzle.specs.Puzzle.{noClues, freshBoard, freshPuzzle, zeroPuzzle, answer, makeCode, makeOf, givenOf, cluesOf, statesOf, freshState}
-use Rattle.rooms.specs.Lent.{unmarked, puts, Below, Places}
+use Rattle.rooms.specs.Lent.{unmarked, puts, Below}
 use Rattle.rooms.proofs.RoomLaws.{given-in, rooms-few}
-use Rattle.rooms.proofs.PutLaws.{places, puts-length, puts-at, unmarked-at, unmarked-length}
+use Rattle.rooms.proofs.PutLaws.{puts-length, puts-at, unmarked-at, unmarked-length}
 use Rattle.clues.specs.Clues.{listsCode}
 use Rattle.clues.proofs.Fitting.{Fit, lists-fit, rises-length}
 use Rattle.puzzle.proofs.Basics.{states-are}
@@ -32,10 +32,6 @@ use Rattle.puzzle.proofs.Basics.{states-are}
 pub no-clues-length : length noClues ≡ mostCells
 unfolding noClues
 no-clues-length = length-replicate {A = ℕ} mostCells 0
-
-pub rooms-lent : (g : Grid) → Limits g → Places g noClues noClues
-unfolding noClues
-rooms-lent g l = places g mostCells (cells-le g l)
 
 -- what an accepted making is given
 pub record Accepted (h w : ℕ) (given clues : List ℕ) : Type 0 where

@@ -49,11 +49,11 @@ pub enum Answer {
 }
 
 // A puzzle's size, and how much of its arrays counts.
-struct Counts {
-    grid: Grid,
-    len: usize,
-    given: usize,
-    clues: usize,
+pub struct Counts {
+    pub grid: Grid,
+    pub len: usize,
+    pub given: usize,
+    pub clues: usize,
 }
 
 // A board with the given walls, and nothing else, decided.
@@ -180,7 +180,7 @@ fn ledger_holds<'a>(
 }
 
 // Questions 1 and 2 of a puzzle's parts: their number, or 0.
-fn code_of<'a>(
+pub fn code_of<'a>(
     z: Counts,
     states: &'a [u8],
     names: &'a [u16],
@@ -341,8 +341,8 @@ pub fn undo(p: Puzzle) -> Made
     out
 }
 
-// The shape check, and then the counts of the clued rooms, on a board whose borders have these states: what an ask finds. The rooms' cells are
-// put in turn only where the shape check is clear.
+// The shape check, and then the counts of the clued rooms, on a board whose borders have these states: what an ask finds. The rooms are found
+// only where the shape check is clear and a room has a clue.
 pub fn fault_of<'a>(
     g: Grid,
     given: &'a [u16],
@@ -358,14 +358,7 @@ pub fn fault_of<'a>(
     if let Found::Fault(n) = shape {
         return Answer::Fault(Check::Shape, n);
     }
-    let n = g.height * g.width;
-    let mut ids = [0u16; limits::CELLS];
-    let mut sizes = [0u16; limits::CELLS];
-    let count = rooms::rooms_of(g, given, &mut ids, &mut sizes);
-    let mut starts = [0u16; limits::CELLS];
-    let mut flat = [0u16; limits::CELLS];
-    groups::in_turn(&ids, n, &mut sizes[..count], &mut starts, &mut flat);
-    let counted = room_checks::rooms_fault(g, given, states, clues, &starts, &flat, buffer);
+    let counted = room_checks::count_rooms(g, given, states, clues, buffer);
     let Counted::Fault(room, n) = counted else {
         return Answer::Clear;
     };
@@ -391,8 +384,33 @@ fn find<'a>(
     fault_of(z.grid, &given[..many], states, &clues[..rooms], buffer)
 }
 
-// What stands wrong on a puzzle as it stands: the shape check, then the clued rooms in order, up to the first fault, whose list goes to the
+// What stands wrong on a puzzle of these parts: the shape check, then the clued rooms in order, up to the first fault, whose list goes to the
 // buffer's front.
+pub fn ask_in<'a>(
+    z: Counts,
+    states: &'a [u8],
+    names: &'a [u16],
+    given: &'a [u16],
+    clues: &'a [u16],
+    buffer: &mut [u16],
+) -> Answer
+    requires { ⌜ Arrays (now states) (now names) (now given) (now clues) ⌝ }
+    ensures { λ r. ⌜ r ≡ askOf (puzzleOf z (now (states .entry)) (now (names .entry)) (now (given .entry)) (now (clues .entry))) (now (buffer .entry)) .answer ⌝ }
+    ensures { λ _.
+        ⌜ now (buffer .exit) ≡ askOf (puzzleOf z (now (states .entry)) (now (names .entry)) (now (given .entry)) (now (clues .entry))) (now (buffer .entry)) .buffer ⌝ }
+{
+    let code = code_of(z, states, names, given, clues);
+    if code != 0 {
+        return Answer::Refused(code);
+    }
+    let g = z.grid;
+    if buffer.len() < 9 * (g.height * g.width) {
+        return Answer::Refused(6);
+    }
+    find(z, given, states, clues, buffer)
+}
+
+// What stands wrong on a puzzle as it stands.
 pub fn ask(p: Puzzle, buffer: &mut [u16]) -> Answer
     ensures { λ r. ⌜ r ≡ askOf p (now (buffer .entry)) .answer ⌝ }
     ensures { λ _. ⌜ now (buffer .exit) ≡ askOf p (now (buffer .entry)) .buffer ⌝ }
@@ -404,18 +422,12 @@ pub fn ask(p: Puzzle, buffer: &mut [u16]) -> Answer
         given: p.given_len,
         clues: p.clues_len,
     };
-    let code = code_of(
+    ask_in(
         z,
         &p.board.book.states,
         &p.board.book.names,
         &p.given,
         &p.clues,
-    );
-    if code != 0 {
-        return Answer::Refused(code);
-    }
-    if buffer.len() < 9 * (g.height * g.width) {
-        return Answer::Refused(6);
-    }
-    find(z, &p.given, &p.board.book.states, &p.clues, buffer)
+        buffer,
+    )
 }

@@ -88,3 +88,7 @@ module _ (g : Grid) (given states clues starts flat buffer : List ℕ) (w : Find
         room-fault k buffer' l p a b =
             is-fault (roomsIn g given clues states) (record { room = r; list = roomEntries g (markedIn marks) l wall (stateOf states) }) k buffer buffer'
             (sym (rw p (ap (foundAt g (markedIn marks) cs (stateOf states)) (sym e) ∙ c .told ∙ rooms-same))) a b
+
+-- the same rooms by another count
+pub turn-by : {g : Grid} {ids : List ℕ} {n m : ℕ} {starts flat : List ℕ} → n ≡ m → InTurn g ids n starts flat → InTurn g ids m starts flat
+turn-by q t = rw (← q) t

@@ -1,2 +1,3 @@
 pub mod RoomChecks
 pub mod Housed
+pub mod Unclued

@@ -9,7 +9,7 @@ use lib.ListN.{length, getD}
 use lib.Seq.{sets}
 use Rattle.limits.specs.Limits.{noClue}
 use Rattle.lists.specs.Choice.{pick}
-use Rattle.lists.specs.Lists.{range, first}
+use Rattle.lists.specs.Lists.{range, all, first}
 use Rattle.grid.specs.declared.Grid.{Grid}
 use Rattle.grid.specs.Grid.{Limits, cells, borderCount}
 use Rattle.groups.specs.Info.{groupPart}
@@ -22,6 +22,11 @@ use Rattle.room_checks.specs.declared.Checked.{Checked}
 use Rattle.room_checks.specs.declared.Checked.the-variants.{Nothing, At}
 use Rattle.room_checks.specs.declared.Counted.{Counted}
 use Rattle.room_checks.specs.declared.Counted.the-variants as case
+
+-- no room has a clue (SPEC 1.7)
+unfoldable pub noneClued : List ℕ → Bool
+unfolding all
+noneClued clues = all (λ c. eqb c noClue) clues
 
 -- the cells of room r: the part of `flat` between its start and its end
 abbrev pub partAt : Grid → List ℕ → List ℕ → ℕ → ℕ → List ℕ

@@ -4,10 +4,10 @@ ghost use Prim.Native.Nat.{_<_};
 ghost use lib.ListN.{length, getD};
 ghost use Rattle.borders.specs.Border.{stateOf};
 ghost use Rattle.groups.specs.Lent.{InTurn};
-ghost use Rattle.rooms.specs.Rooms.{roomIds};
+ghost use Rattle.rooms.specs.Rooms.{roomIds, roomCount};
 ghost use Rattle.rooms.specs.RoomGraph.{sideList};
-ghost use Rattle.rooms.specs.Lent.{markedIn};
-ghost use Rattle.room_checks.specs.RoomChecks.{partAt, clueList, Checks, roomsIn, countedOf, leaves, Housing, Finding};
+ghost use Rattle.rooms.specs.Lent.{Given, Places, markedIn};
+ghost use Rattle.room_checks.specs.RoomChecks.{noneClued, partAt, clueList, Checks, roomsIn, countedOf, leaves, Housing, Finding};
 use grid::Grid;
 use lists::wide;
 use rooms::Miscount;
@@ -22,6 +22,20 @@ enum Checked {
 pub enum Counted {
     Clear,
     Fault(usize, usize),
+}
+
+// Whether no room has a clue: then there is nothing to count.
+fn none_clued(clues: &[u16]) -> bool
+    ensures { λ r. ⌜ r ≡ noneClued (now (clues .entry)) ⌝ }
+{
+    let mut room = 0;
+    while room < clues.len() {
+        if clues[room] != limits::NO_CLUE {
+            return false;
+        }
+        room += 1;
+    }
+    true
 }
 
 // Which side of a room's count fails, where the room has a clue.
@@ -72,8 +86,8 @@ fn check_rooms<'a>(
     Checked::Nothing
 }
 
-// The counts of the clued rooms of a board whose borders have these states: the first that fails is listed.
-pub fn rooms_fault<'a>(
+// The counts of the clued rooms, whose cells stand in turn, of a board whose borders have these states: the first that fails is listed.
+fn rooms_fault<'a>(
     g: Grid,
     given: &'a [u16],
     states: &'a [u8],
@@ -97,4 +111,83 @@ pub fn rooms_fault<'a>(
     let end = groups::end_of(starts, clues.len(), g.height * g.width, room);
     let n = rooms::write(g, &marks, states, &flat[start..end], wall, buffer);
     Counted::Fault(room, n)
+}
+
+// Puts the cells of the rooms in turn, with a place for each cell's room and for each room's size that the caller lends.
+fn turn_in(
+    g: Grid,
+    given: &[u16],
+    ids: &mut [u16],
+    sizes: &mut [u16],
+    starts: &mut [u16],
+    flat: &mut [u16],
+)
+    requires { ⌜ Given g (now given) ⌝ }
+    requires { ⌜ Places g (now ids) (now sizes) × Places g (now starts) (now flat) ⌝ }
+    ensures { λ _. ⌜ InTurn g (roomIds g (now (given .entry))) (roomCount g (now (given .entry))) (now (starts .exit)) (now (flat .exit)) ⌝ }
+{
+    let count = rooms::rooms_of(g, given, ids, sizes);
+    groups::in_turn(ids, g.height * g.width, &mut sizes[..count], starts, flat);
+}
+
+// Puts the cells of the rooms in turn. A small board has short arrays, since all of an array is zeroed.
+fn turn(g: Grid, given: &[u16], starts: &mut [u16], flat: &mut [u16])
+    requires { ⌜ Given g (now given) ⌝ }
+    requires { ⌜ Places g (now starts) (now flat) ⌝ }
+    ensures { λ _. ⌜ InTurn g (roomIds g (now (given .entry))) (roomCount g (now (given .entry))) (now (starts .exit)) (now (flat .exit)) ⌝ }
+{
+    if grid::is_small(g) {
+        let mut ids = [0u16; 128];
+        let mut sizes = [0u16; 128];
+        turn_in(g, given, &mut ids, &mut sizes, starts, flat);
+        return;
+    }
+    let mut ids = [0u16; limits::CELLS];
+    let mut sizes = [0u16; limits::CELLS];
+    turn_in(g, given, &mut ids, &mut sizes, starts, flat);
+}
+
+// The counts of the clued rooms, with a place for each room's start and for each cell that the caller lends.
+fn count_in<'a>(
+    g: Grid,
+    given: &'a [u16],
+    states: &'a [u8],
+    clues: &'a [u16],
+    starts: &mut [u16],
+    flat: &mut [u16],
+    buffer: &mut [u16],
+) -> Counted
+    requires { ⌜ Finding g (now given) (now states) (now clues) (now buffer) ⌝ }
+    requires { ⌜ Places g (now starts) (now flat) ⌝ }
+    ensures { λ r. ⌜ r ≡ countedOf (roomsIn g (now (given .entry)) (now (clues .entry)) (now (states .entry))) ⌝ }
+    ensures { λ _. ⌜ now (buffer .exit) ≡ leaves (roomsIn g (now (given .entry)) (now (clues .entry)) (now (states .entry))) (now (buffer .entry)) ⌝ }
+{
+    turn(g, given, starts, flat);
+    rooms_fault(g, given, states, clues, starts, flat, buffer)
+}
+
+// The counts of the clued rooms of a board whose borders have these states: the first that fails is listed. Where no room has a clue the rooms are not
+// found.
+pub fn count_rooms<'a>(
+    g: Grid,
+    given: &'a [u16],
+    states: &'a [u8],
+    clues: &'a [u16],
+    buffer: &mut [u16],
+) -> Counted
+    requires { ⌜ Finding g (now given) (now states) (now clues) (now buffer) ⌝ }
+    ensures { λ r. ⌜ r ≡ countedOf (roomsIn g (now (given .entry)) (now (clues .entry)) (now (states .entry))) ⌝ }
+    ensures { λ _. ⌜ now (buffer .exit) ≡ leaves (roomsIn g (now (given .entry)) (now (clues .entry)) (now (states .entry))) (now (buffer .entry)) ⌝ }
+{
+    if none_clued(clues) {
+        return Counted::Clear;
+    }
+    if grid::is_small(g) {
+        let mut starts = [0u16; 128];
+        let mut flat = [0u16; 128];
+        return count_in(g, given, states, clues, &mut starts, &mut flat, buffer);
+    }
+    let mut starts = [0u16; limits::CELLS];
+    let mut flat = [0u16; limits::CELLS];
+    count_in(g, given, states, clues, &mut starts, &mut flat, buffer)
 }

@@ -3,10 +3,16 @@ use Prim.Native.Nat.{ℕ, _*_}
 use lib.Dec.{eqb, leb}
 use Rattle.lists.specs.Choice.{pick}
 use Rattle.answers.specs.Answers.{Outcome, refused, found}
+use Rattle.grid.specs.declared.Grid.{Grid}
 use Rattle.grid.specs.Grid.{cells}
+use Rattle.ledger.specs.declared.Book.{Book}
 use Rattle.board.specs.declared.Board.{Board}
 use Rattle.board.specs.Board.{sizeOf, boardCode}
 use Rattle.shape.specs.Shape.{shapeFault}
+
+-- the board of these parts
+abbrev pub boardOf : Grid → Book → Board
+boardOf g k = record { grid = g; book = k }
 
 -- questions 1 and 2 of the board, then 6: the buffer has room for 9·h·w entries
 abbrev pub shapeOutcome : Board → ℕ → Outcome

@@ -2,10 +2,12 @@
 ghost use mathlib.Core.Path.{_≡_};
 ghost use Prim.Native.Nat.{_*_, _≤_};
 ghost use lib.ListN.{length};
+ghost use Rattle.limits.specs.Limits.{mostBorders};
+ghost use Rattle.ledger.specs.Books.{book};
 ghost use Rattle.groups.specs.Lent.{Fits};
 ghost use Rattle.shape.specs.Shape.{shapeFault};
 ghost use Rattle.answers.specs.Answers.{Told, answerOf, written};
-ghost use Rattle.shape_check.specs.Answer.{shapeOutcome};
+ghost use Rattle.shape_check.specs.Answer.{boardOf, shapeOutcome};
 use answers::Answer;
 use answers::Found;
 use board::Board;
@@ -31,25 +33,37 @@ pub fn shape_fault(g: Grid, states: &[u8], buffer: &mut [u16]) -> Found
     unit_check::check_units(g, states, &ids[..n], &starts[..count], &flat, buffer)
 }
 
+// A board's ask, of its parts: questions 1, 2 and 6, and then the check. The calls on records and on lent boards share it.
+pub fn find_in<'a>(
+    g: Grid,
+    states: &'a [u8],
+    names: &'a [u16],
+    len: usize,
+    buffer: &mut [u16],
+) -> Answer
+    requires { ⌜ (length (now states) ≡ mostBorders) × (length (now names) ≡ mostBorders) ⌝ }
+    ensures { λ r. ⌜ r ≡ answerOf (shapeOutcome (boardOf g (book (now (states .entry)) (now (names .entry)) len)) (length (now (buffer .entry)))) ⌝ }
+    ensures { λ _.
+        ⌜ now (buffer .exit) ≡ written (shapeOutcome (boardOf g (book (now (states .entry)) (now (names .entry)) len)) (length (now (buffer .entry)))) (now (buffer .entry)) ⌝ }
+{
+    let code = board::check_parts(g, states, names, len);
+    if code != 0 {
+        return Answer::Refused(code);
+    }
+    let cells = g.height * g.width;
+    if buffer.len() < 9 * cells {
+        return Answer::Refused(6);
+    }
+    let Found::Fault(n) = shape_fault(g, states, buffer) else {
+        return Answer::Clear;
+    };
+    Answer::Fault(n)
+}
+
 // A board's ask: whether its standing borders contradict the laws that concern shape, and by which.
 pub fn find_inconsistency(b: Board, buffer: &mut [u16]) -> Answer
     ensures { λ r. ⌜ r ≡ answerOf (shapeOutcome b (length (now (buffer .entry)))) ⌝ }
     ensures { λ _. ⌜ now (buffer .exit) ≡ written (shapeOutcome b (length (now (buffer .entry)))) (now (buffer .entry)) ⌝ }
 {
-    let code = board::check_parts(b.grid, &b.book.states, &b.book.names, b.book.len);
-    if code != 0 {
-        return Answer::Refused(code);
-    }
-    let cells = b.grid.height * b.grid.width;
-    if buffer.len() < 9 * cells {
-        return Answer::Refused(6);
-    }
-    let g = Grid {
-        height: b.grid.height,
-        width: b.grid.width,
-    };
-    let Found::Fault(n) = shape_fault(g, &b.book.states, buffer) else {
-        return Answer::Clear;
-    };
-    Answer::Fault(n)
+    find_in(b.grid, &b.book.states, &b.book.names, b.book.len, buffer)
 }

@@ -1,0 +1,1 @@
+-- Nothing is defined here: the contracts are by the definitions of the by-value calls, `puzzle`'s `strokeOf`, `decideOf`, `undoOf` and `askOf`.
