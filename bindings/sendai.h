@@ -1,15 +1,18 @@
 /* The Sendai border checker for C11 and C++11: the functions of target/staticlib/libexports.a, which `rt staticlib exports` writes.
  *
  * Every call answers on every input: numbers and records may be anything, and bad ones are refused by number (below). What the caller
- * owes is its pointers: each points to as many elements as the length behind it says and is never null, not even where the length is 0;
- * a buffer that a call writes overlaps no other argument. No call allocates, keeps a pointer or has state of its own, so threads with
- * buffers of their own need no lock. The most stack is listed in docs/PERFORMANCE.md.
+ * owes is its pointers: each points to as many elements as the length behind it says, or to one record, and is never null, not even where
+ * the length is 0; a buffer or record that a call writes overlaps no other argument. No call allocates, keeps a pointer or has state of its
+ * own, so threads with buffers and records of their own need no lock. The most stack is listed in docs/PERFORMANCE.md.
  *
  * Cell (y, x) of a board of h by w has number y*w + x. The border between (y, x) and (y, x+1) has number y*(w-1) + x, the one between
  * (y, x) and (y+1, x) has h*(w-1) + y*w + x. A list has entries: 2*border + 1 for Wall, 2*border for Connected.
  *
  * A call that writes a list fills the first `length` places of the buffer and leaves the others. A refusal changes no buffer, returns
  * the record that came in, and has all other numbers 0; a refused making, into which no record came, returns a record of zeros.
+ *
+ * Decide, stroke, undo and ask of boards and puzzles come in two forms that answer alike: by value, and with `_in_place` behind the name on
+ * a lent record. Of a lent record nothing is copied: it is changed where it is, by an ask only read, and a refusal leaves it as it was.
  */
 #ifndef SENDAI_H
 #define SENDAI_H
@@ -326,13 +329,17 @@ SendaiBoardAnswer sendai_board_stroke(SendaiBoard board, const uint16_t *entries
 /* The board without its last stroke, all of it: the very board from before, if calls made it. Refused: 1, 2, 5, with the board as it came. */
 SendaiBoardAnswer sendai_board_undo(SendaiBoard board);
 
-/* As the three calls above, on the board where it is; returned is the code. A refusal leaves the board as it was. */
+/* As the three calls above, on a lent board, which is changed where it is; returned is the code. Refused likewise: 1, 2, 3, 4; 1, 2, 3, 14, 4;
+ * 1, 2, 5, with the board as it was, every byte of it. */
 uint8_t sendai_board_decide_in_place(SendaiBoard *board, size_t border, bool wall);
 uint8_t sendai_board_stroke_in_place(SendaiBoard *board, const uint16_t *entries, size_t entries_length);
 uint8_t sendai_board_undo_in_place(SendaiBoard *board);
 
 /* The shape check: clear, or a fault whose listed borders can't all hold. Refused: 1, 2, 6 (9*h*w entries). */
 SendaiAnswer sendai_board_ask(SendaiBoard board, uint16_t *buffer, size_t buffer_length);
+
+/* The same of a lent board, which is only read. Refused: 1, 2, 6 (9*h*w entries). */
+SendaiAnswer sendai_board_ask_in_place(const SendaiBoard *board, uint16_t *buffer, size_t buffer_length);
 
 /* Each cell's group and each group's start; the cells of all groups, in turn, go to the buffer's first h*w places. Units are joined by
  * Connected borders, potential units also by undecided ones. Refused: 1, 2, 6 (h*w cells), with a record of zeros. */
@@ -373,9 +380,18 @@ SendaiPuzzleAnswer sendai_puzzle_stroke(SendaiPuzzle puzzle, const uint16_t *ent
 /* The puzzle without its last stroke, all of it. Refused: 1, 2, 5, with the puzzle as it came. */
 SendaiPuzzleAnswer sendai_puzzle_undo(SendaiPuzzle puzzle);
 
+/* As the three calls above, on a lent puzzle, which is changed where it is; returned is the code. Refused likewise: 1, 2, 3, 4; 1, 2, 3, 14, 4
+ * (a given wall too); 1, 2, 5, with the puzzle as it was, every byte of it. */
+uint8_t sendai_puzzle_decide_in_place(SendaiPuzzle *puzzle, size_t border, bool wall);
+uint8_t sendai_puzzle_stroke_in_place(SendaiPuzzle *puzzle, const uint16_t *entries, size_t entries_length);
+uint8_t sendai_puzzle_undo_in_place(SendaiPuzzle *puzzle);
+
 /* The shape check, then the counts of the clued rooms: clear, or the first fault, whose listed borders can't all hold.
  * Refused (kind SENDAI_REFUSED): 1, 2, 6 (9*h*w entries). */
 SendaiOutcome sendai_puzzle_ask(SendaiPuzzle puzzle, uint16_t *buffer, size_t buffer_length);
+
+/* The same of a lent puzzle, which is only read. Refused (kind SENDAI_REFUSED): 1, 2, 6 (9*h*w entries). */
+SendaiOutcome sendai_puzzle_ask_in_place(const SendaiPuzzle *puzzle, uint16_t *buffer, size_t buffer_length);
 
 /* All answers: the right full boards on which all that is decided stands, at most `cap` of them, each once, and whether more exist
  * beyond these: a cap of 0 tells whether there is one, a cap of 1 whether there is just one. A board has a byte a border

@@ -40,7 +40,12 @@ static void boards(void) {
 
     CHECK(sendai_board_decide_in_place(&board, 0, true) == SENDAI_ACCEPTED);
     CHECK(memcmp(&decided.board, &board, sizeof board) == 0);
+    CHECK(sendai_board_decide_in_place(&board, 0, false) == SENDAI_DECIDED);
+    CHECK(sendai_board_decide_in_place(&board, 2, true) == SENDAI_MISSING);
+    CHECK(memcmp(&decided.board, &board, sizeof board) == 0);
     CHECK(sendai_board_undo_in_place(&board) == SENDAI_ACCEPTED && board.len == 0);
+    CHECK(sendai_board_undo_in_place(&board) == SENDAI_EMPTY_LEDGER);
+    CHECK(memcmp(&undone.board, &board, sizeof board) == 0);
     CHECK(sendai_board_check(board) == SENDAI_ACCEPTED);
     board.states[1] = SENDAI_CONNECTED;
     CHECK(sendai_board_check(board) == SENDAI_RECORD);
@@ -175,6 +180,10 @@ static bool same_board(SendaiBoard a, SendaiBoard b) {
     return memcmp(&a, &b, sizeof a) == 0;
 }
 
+static bool same_puzzle(SendaiPuzzle a, SendaiPuzzle b) {
+    return memcmp(&a, &b, sizeof a) == 0;
+}
+
 /* A room has bytes between its numbers that mean nothing. */
 static bool same_room(SendaiRoom a, SendaiRoom b) {
     return a.vertices == b.vertices && a.edges == b.edges && a.count == b.count && memcmp(a.us, b.us, sizeof a.us) == 0 &&
@@ -196,12 +205,12 @@ static bool on_board(SendaiBoard board, const char *digits, int code) {
 static bool on_puzzle(SendaiPuzzle puzzle, const char *digits, int code) {
     Stroke stroke = drawn(digits);
     SendaiPuzzleAnswer told = sendai_puzzle_stroke(puzzle, stroke.entries, stroke.length);
+    SendaiPuzzle lent = puzzle;
+    if (sendai_puzzle_stroke_in_place(&lent, stroke.entries, stroke.length) != code || !same_puzzle(lent, told.puzzle)) return false;
     if (told.code != code) return false;
-    if (code == SENDAI_ACCEPTED && stroke.length != 0) {
-        if (told.puzzle.board.len != puzzle.board.len + stroke.length) return false;
-        told = sendai_puzzle_undo(told.puzzle);
-    }
-    return memcmp(&told.puzzle, &puzzle, sizeof puzzle) == 0;
+    if (code != SENDAI_ACCEPTED || stroke.length == 0) return same_puzzle(told.puzzle, puzzle);
+    return told.puzzle.board.len == puzzle.board.len + stroke.length && sendai_puzzle_undo_in_place(&lent) == SENDAI_ACCEPTED &&
+           same_puzzle(lent, puzzle) && same_puzzle(sendai_puzzle_undo(told.puzzle).puzzle, puzzle);
 }
 
 static bool on_room(SendaiRoom room, const char *digits, int code) {
@@ -272,12 +281,118 @@ static void long_strokes(void) {
     SendaiPuzzleAnswer all = sendai_puzzle_stroke(fresh, entries, SENDAI_MAX_BORDERS);
     CHECK(all.code == SENDAI_ACCEPTED && all.puzzle.board.len == SENDAI_MAX_BORDERS && sendai_puzzle_check(all.puzzle) == SENDAI_ACCEPTED);
     CHECK(all.puzzle.board.ledger[0] == 3967 && all.puzzle.board.ledger[1] == 3964 && all.puzzle.board.ledger[1983] == 0);
-    SendaiPuzzle undone = sendai_puzzle_undo(all.puzzle).puzzle;
-    CHECK(memcmp(&undone, &fresh, sizeof fresh) == 0);
+    CHECK(same_puzzle(sendai_puzzle_undo(all.puzzle).puzzle, fresh));
+    SendaiPuzzle lent = fresh;
+    CHECK(sendai_puzzle_stroke_in_place(&lent, entries, SENDAI_MAX_BORDERS) == SENDAI_ACCEPTED && same_puzzle(lent, all.puzzle));
+    CHECK(sendai_puzzle_undo_in_place(&lent) == SENDAI_ACCEPTED && same_puzzle(lent, fresh));
+    CHECK(sendai_puzzle_stroke_in_place(&lent, entries, SENDAI_MAX_BORDERS + 1) == SENDAI_TWICE && same_puzzle(lent, fresh));
     CHECK(sendai_puzzle_stroke(fresh, entries, SENDAI_MAX_BORDERS + 1).code == SENDAI_TWICE);
     entries[SENDAI_MAX_BORDERS] = 65535;
     CHECK(sendai_puzzle_stroke(fresh, entries, SENDAI_MAX_BORDERS + 1).code == SENDAI_MISSING);
     CHECK(sendai_board_stroke(fresh.board, entries, SENDAI_MAX_BORDERS + 1).code == SENDAI_MISSING);
+}
+
+/* Whether a puzzle answers a decide by this code, by value and in place. Refused, it is the very puzzle. */
+static bool decides(SendaiPuzzle puzzle, size_t border, bool wall, int code) {
+    SendaiPuzzleAnswer told = sendai_puzzle_decide(puzzle, border, wall);
+    SendaiPuzzle lent = puzzle;
+    return sendai_puzzle_decide_in_place(&lent, border, wall) == code && told.code == code && same_puzzle(lent, told.puzzle) &&
+           same_puzzle(lent, puzzle) == (code != SENDAI_ACCEPTED);
+}
+
+/* The same of an undo. */
+static bool undoes(SendaiPuzzle puzzle, int code) {
+    SendaiPuzzleAnswer told = sendai_puzzle_undo(puzzle);
+    SendaiPuzzle lent = puzzle;
+    return sendai_puzzle_undo_in_place(&lent) == code && told.code == code && same_puzzle(lent, told.puzzle) &&
+           same_puzzle(lent, puzzle) == (code != SENDAI_ACCEPTED);
+}
+
+/* What an ask by value writes, beside the list of one on a lent record. */
+static uint16_t by_value[SENDAI_MAX_LIST];
+
+static void mark_lists(void) {
+    memset(list, UNTOUCHED, sizeof list);
+    memset(by_value, UNTOUCHED, sizeof by_value);
+}
+
+/* Whether both lists are these entries, with all other places untouched. */
+static bool both_are(size_t length, const uint16_t *entries, size_t count) {
+    for (size_t i = count; i < SENDAI_MAX_LIST; i++)
+        if (list[i] != UNTOUCHED * 257) return false;
+    return is(length, entries, count) && memcmp(list, by_value, sizeof list) == 0;
+}
+
+/* Whether an ask of a board of one row finds this list, or none, by value and on the board where it is, which is only read. */
+static bool asks_board(SendaiBoard board, const uint16_t *entries, size_t count) {
+    SendaiBoard lent = board;
+    mark_lists();
+    SendaiAnswer told = sendai_board_ask(board, by_value, 9 * board.width), same = sendai_board_ask_in_place(&lent, list, 9 * board.width);
+    return told.code == SENDAI_ACCEPTED && told.fault == (count != 0) && told.length == count && same.code == told.code &&
+           same.fault == told.fault && both_are(same.length, entries, count) && same_board(lent, board);
+}
+
+/* Whether it is refused by this number, with the board and every place of the buffer as it was. */
+static bool asks_no_board(SendaiBoard board, size_t length, int code) {
+    SendaiBoard lent = board;
+    mark_lists();
+    SendaiAnswer told = sendai_board_ask(board, by_value, length), same = sendai_board_ask_in_place(&lent, list, length);
+    return told.code == code && same.code == code && !same.fault && both_are(same.length, list, 0) && same_board(lent, board);
+}
+
+/* The same two of a puzzle: which check found this list, and which number refuses it. */
+static bool asks_puzzle(SendaiPuzzle puzzle, int kind, size_t room, const uint16_t *entries, size_t count) {
+    const size_t length = 9 * puzzle.board.width;
+    SendaiPuzzle lent = puzzle;
+    mark_lists();
+    SendaiOutcome told = sendai_puzzle_ask(puzzle, by_value, length), same = sendai_puzzle_ask_in_place(&lent, list, length);
+    return told.kind == kind && told.room == room && told.length == count && same.kind == kind && same.code == SENDAI_ACCEPTED &&
+           same.room == room && both_are(same.length, entries, count) && same_puzzle(lent, puzzle);
+}
+
+static bool asks_no_puzzle(SendaiPuzzle puzzle, size_t length, int code) {
+    SendaiPuzzle lent = puzzle;
+    mark_lists();
+    SendaiOutcome told = sendai_puzzle_ask(puzzle, by_value, length), same = sendai_puzzle_ask_in_place(&lent, list, length);
+    return told.kind == SENDAI_REFUSED && told.code == code && same.kind == SENDAI_REFUSED && same.code == code && same.room == 0 &&
+           both_are(same.length, list, 0) && same_puzzle(lent, puzzle);
+}
+
+/* Boards and puzzles of one row, lent to their calls. */
+static void lent_records(void) {
+    const uint16_t given[] = {1}, clues[] = {1, SENDAI_NO_CLUE}, shape[] = {2, 2, 1, 1, 1}, room[] = {1};
+    SendaiBoard board = sendai_board_make(1, 3).board;
+    CHECK(asks_board(board, shape, 0));
+    CHECK(sendai_board_decide_in_place(&board, 0, true) == SENDAI_ACCEPTED);
+    CHECK(sendai_board_decide_in_place(&board, 1, false) == SENDAI_ACCEPTED);
+    CHECK(asks_board(board, shape, 5));
+    CHECK(asks_no_board(board, 26, SENDAI_SHORT_BUFFER) && asks_no_board(board, 0, SENDAI_SHORT_BUFFER));
+    board.len = 1;
+    CHECK(asks_no_board(board, 27, SENDAI_RECORD));
+    board.width = 33;
+    CHECK(asks_no_board(board, 27, SENDAI_SIZES));
+
+    SendaiPuzzle fresh = sendai_puzzle_make(1, 4, given, 1, clues, 2).puzzle, puzzle = fresh;
+    CHECK(decides(fresh, 0, true, SENDAI_ACCEPTED) && decides(fresh, 2, false, SENDAI_ACCEPTED));
+    CHECK(decides(fresh, 1, true, SENDAI_DECIDED) && decides(fresh, 3, true, SENDAI_MISSING) && decides(fresh, SIZE_MAX, true, SENDAI_MISSING));
+    CHECK(undoes(fresh, SENDAI_EMPTY_LEDGER));
+    CHECK(asks_puzzle(fresh, SENDAI_CLEAR, 0, room, 0));
+    CHECK(sendai_puzzle_decide_in_place(&puzzle, 0, true) == SENDAI_ACCEPTED && puzzle.board.states[0] == SENDAI_WALL && puzzle.board.len == 1);
+    CHECK(asks_puzzle(puzzle, SENDAI_ROOM_FAULT, 0, room, 1));
+    CHECK(asks_no_puzzle(puzzle, 35, SENDAI_SHORT_BUFFER) && asks_no_puzzle(puzzle, 0, SENDAI_SHORT_BUFFER));
+    CHECK(undoes(puzzle, SENDAI_ACCEPTED) && decides(puzzle, 0, false, SENDAI_DECIDED) && on_puzzle(puzzle, "45", SENDAI_TWICE));
+    puzzle.clues[0] = 3;
+    CHECK(decides(puzzle, 2, true, SENDAI_RECORD) && undoes(puzzle, SENDAI_RECORD) && on_puzzle(puzzle, "4", SENDAI_RECORD));
+    CHECK(asks_no_puzzle(puzzle, 36, SENDAI_RECORD));
+    puzzle.board.height = 0;
+    CHECK(decides(puzzle, 2, true, SENDAI_SIZES) && undoes(puzzle, SENDAI_SIZES) && on_puzzle(puzzle, "4", SENDAI_SIZES));
+    CHECK(asks_no_puzzle(puzzle, 0, SENDAI_SIZES));
+
+    SendaiPuzzle row = plain(1, 3);
+    Stroke two = drawn("12");
+    CHECK(sendai_puzzle_stroke_in_place(&row, two.entries, two.length) == SENDAI_ACCEPTED && row.board.len == 2);
+    CHECK(asks_puzzle(row, SENDAI_SHAPE_FAULT, 0, shape, 5));
+    CHECK(sendai_puzzle_undo_in_place(&row) == SENDAI_ACCEPTED && same_puzzle(row, plain(1, 3)));
 }
 
 static void rooms(void) {
@@ -414,6 +529,7 @@ int main(void) {
     strokes();
     stroke_questions();
     long_strokes();
+    lent_records();
     rooms();
     unions();
     files();

@@ -1,5 +1,5 @@
 /* One row of three cells: a Wall after the first, none after the second. Asks, hands the fault's list over, prints it, undoes, and
- * prints every answer that is left. */
+ * prints every answer that is left. The puzzle is lent to its calls, which change or read it where it is. */
 #include "sendai.h"
 
 #include <stdio.h>
@@ -25,13 +25,11 @@ static void print_answers(SendaiPuzzle puzzle) {
     printf(right.more ? "and more\n" : "and no other\n");
 }
 
-/* The puzzle that an accepted call returns. */
-static SendaiPuzzle accepted(SendaiPuzzleAnswer answer) {
-    if (answer.code != SENDAI_ACCEPTED) {
-        printf("refused %d\n", answer.code);
-        exit(1);
-    }
-    return answer.puzzle;
+/* Ends the program where a call was refused. */
+static void accepted(int code) {
+    if (code == SENDAI_ACCEPTED) return;
+    printf("refused %d\n", code);
+    exit(1);
 }
 
 int main(void) {
@@ -39,11 +37,13 @@ int main(void) {
     const uint16_t clues[1] = {SENDAI_NO_CLUE};
     static uint16_t list[SENDAI_MAX_LIST], handed[SENDAI_MAX_LIST];
 
-    SendaiPuzzle puzzle = accepted(sendai_puzzle_make(1, 3, no_given_walls, 0, clues, 1));
-    puzzle = accepted(sendai_puzzle_decide(puzzle, 0, true));
-    puzzle = accepted(sendai_puzzle_decide(puzzle, 1, false));
+    SendaiPuzzleAnswer made = sendai_puzzle_make(1, 3, no_given_walls, 0, clues, 1);
+    SendaiPuzzle *puzzle = &made.puzzle;
+    accepted(made.code);
+    accepted(sendai_puzzle_decide_in_place(puzzle, 0, true));
+    accepted(sendai_puzzle_decide_in_place(puzzle, 1, false));
 
-    SendaiOutcome outcome = sendai_puzzle_ask(puzzle, list, SENDAI_MAX_LIST);
+    SendaiOutcome outcome = sendai_puzzle_ask_in_place(puzzle, list, SENDAI_MAX_LIST);
     if (outcome.kind != SENDAI_SHAPE_FAULT) return 1;
     print("shape, as listed", list, outcome.length);
 
@@ -53,13 +53,13 @@ int main(void) {
     for (size_t i = 0; i < over.length; i++)
         printf("border %d is %s%s", handed[i] / 2, handed[i] % 2 ? "Wall" : "Connected", i + 1 < over.length ? " and " : ": can't be\n");
 
-    puzzle = accepted(sendai_puzzle_undo(puzzle));
-    printf("after undo: kind %d\n", sendai_puzzle_ask(puzzle, list, SENDAI_MAX_LIST).kind);
-    print_answers(puzzle);
-    printf("border 0 again: refused %d\n", sendai_puzzle_decide(puzzle, 0, false).code);
-    printf("a buffer of 26 places: refused %d\n", sendai_puzzle_ask(puzzle, list, 26).code);
+    accepted(sendai_puzzle_undo_in_place(puzzle));
+    printf("after undo: kind %d\n", sendai_puzzle_ask_in_place(puzzle, list, SENDAI_MAX_LIST).kind);
+    print_answers(*puzzle);
+    printf("border 0 again: refused %d\n", sendai_puzzle_decide_in_place(puzzle, 0, false));
+    printf("a buffer of 26 places: refused %d\n", sendai_puzzle_ask_in_place(puzzle, list, 26).code);
 
-    /* a board can also be changed where it is */
+    /* a board by itself is changed where it is, too */
     SendaiBoard board = sendai_board_make(1, 3).board;
     int codes[3];
     codes[0] = sendai_board_decide_in_place(&board, 1, true);

@@ -1,6 +1,9 @@
 //! A clause learner on top of the checker: counts the right boards of small Sendai puzzles. Its clauses come from handed-over lists
 //! alone; that it loses no board is checked by trying every full board. Run: `cargo run --example clause_learner`.
-use sendai::{hand_over, Puzzle, Refusal, State, MAX_LIST, NO_CLUE};
+//!
+//! The search has one puzzle, and two buffers that it makes once. Each stroke, ask and undo is lent the puzzle: it is changed or read where
+//! it is, and no record is copied from step to step.
+use sendai::{hand_over, Puzzle, Refusal, State, NO_CLUE};
 
 /// "One of these holds": borders, each with whether it is a Wall.
 type Clause = Vec<(usize, bool)>;
@@ -10,6 +13,9 @@ type Step = (usize, bool, Option<usize>);
 
 struct Learner {
     puzzle: Puzzle,
+    /// Lent to each ask and each hand-over.
+    list: Vec<u16>,
+    handed: Vec<u16>,
     clauses: Vec<Clause>,
     /// The strokes in order, as they stand on the puzzle. A chosen border is the first of its stroke.
     trail: Vec<Vec<Step>>,
@@ -17,6 +23,11 @@ struct Learner {
 }
 
 impl Learner {
+    fn new(puzzle: Puzzle) -> Learner {
+        let (list, handed) = (vec![0; puzzle.list_len()], vec![0; puzzle.list_len()]);
+        Learner { puzzle, list, handed, clauses: vec![], trail: vec![], asks: 0 }
+    }
+
     /// How many right boards there are.
     fn count(&mut self) -> Result<usize, Refusal> {
         let (mut found, mut chosen) = (0, None);
@@ -64,10 +75,9 @@ impl Learner {
 
     /// Asks, hands the list over and turns it into a clause: one of the listed borders is otherwise. A given wall never is.
     fn ask(&mut self) -> Result<Option<Clause>, Refusal> {
-        let (mut list, mut handed) = ([0; MAX_LIST], [0; MAX_LIST]);
         self.asks += 1;
-        let Some(fault) = self.puzzle.ask(&mut list)? else { return Ok(None) };
-        let listed = sendai::entries(hand_over(fault.list, &mut handed)?);
+        let Some(fault) = self.puzzle.ask(&mut self.list)? else { return Ok(None) };
+        let listed = sendai::entries(hand_over(fault.list, &mut self.handed)?);
         let given = |border| self.puzzle.given().iter().any(|&wall| usize::from(wall) == border);
         Ok(Some(listed.filter(|&(border, _)| !given(border)).map(|(border, wall)| (border, !wall)).collect()))
     }
@@ -199,7 +209,7 @@ fn main() -> Result<(), Refusal> {
     for (height, width, given, clues) in puzzles {
         let puzzle = Puzzle::make(height, width, given, clues)?;
         let free = puzzle.borders() - given.len();
-        let mut learner = Learner { puzzle, clauses: vec![], trail: vec![], asks: 0 };
+        let mut learner = Learner::new(puzzle);
         let found = learner.count()?;
         assert_eq!(found, laws::count(height, width, given, clues), "the learner lost a board, or took a wrong one");
         // every stroke is undone by now, and the checker's own search finds as many

@@ -129,7 +129,7 @@ impl Board {
     /// The shape check: `None` where it is clear. Refused: `ShortBuffer` ([`list_len`](Board::list_len)).
     pub fn ask<'b>(&self, buffer: &'b mut [u16]) -> Result<Option<Fault<'b>>, Refusal> {
         // SAFETY: the buffer lives through the call.
-        let told = unsafe { sys::sendai_board_ask(self.0, buffer.as_mut_ptr(), buffer.len()) };
+        let told = unsafe { sys::sendai_board_ask_in_place(&self.0, buffer.as_mut_ptr(), buffer.len()) };
         Ok(judged(told, buffer)?.map(|list| Fault { check: Check::Shape, list }))
     }
 

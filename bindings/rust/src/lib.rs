@@ -37,7 +37,8 @@
 //! between (y, x) and (y+1, x) has h·(w−1) + y·w + x.
 //!
 //! Every call answers on all inputs. A bad one is refused by number ([`Refusal`]), and a refusal leaves record and buffer as they
-//! were. A list goes to the front of a buffer that the caller lends; the other places stay. No call allocates.
+//! were. A list goes to the front of a buffer that the caller lends; the other places stay. No call allocates. Boards and puzzles are
+//! lent to the calls that decide, undo and ask: changed or read where they are, without a copy.
 
 mod board;
 mod case;

@@ -29,35 +29,29 @@ impl Puzzle {
         accepted(made.code).map(|()| Puzzle(made.puzzle))
     }
 
-    /// A call's record in the place of the one that went in: after a refusal it is the same.
-    fn put(&mut self, answer: sys::PuzzleAnswer) -> Result<(), Refusal> {
-        self.0 = answer.puzzle;
-        accepted(answer.code)
-    }
-
     /// Decides a border as Wall or Connected: a stroke of one. Refused: `Missing`, `Decided` (a given wall, too); the puzzle is then as
     /// it was.
     pub fn decide(&mut self, border: usize, wall: bool) -> Result<(), Refusal> {
-        self.put(sys::sendai_puzzle_decide(self.0, border, wall))
+        accepted(sys::sendai_puzzle_decide_in_place(&mut self.0, border, wall))
     }
 
     /// Decides several borders, each as Wall (`true`) or Connected, in one stroke: all or none. An empty stroke is accepted and not
     /// kept. Refused: `Missing`, `Twice`, `Decided` (a given wall, too); the puzzle is then as it was.
     pub fn stroke(&mut self, stroke: &[(usize, bool)]) -> Result<(), Refusal> {
         // SAFETY: the entries live through the call.
-        self.put(lend(stroke, |entries, length| unsafe { sys::sendai_puzzle_stroke(self.0, entries, length) }))
+        accepted(lend(stroke, |entries, length| unsafe { sys::sendai_puzzle_stroke_in_place(&mut self.0, entries, length) }))
     }
 
     /// Takes the last stroke back, all of it. Refused: `EmptyLedger`; the puzzle is then as it was.
     pub fn undo(&mut self) -> Result<(), Refusal> {
-        self.put(sys::sendai_puzzle_undo(self.0))
+        accepted(sys::sendai_puzzle_undo_in_place(&mut self.0))
     }
 
     /// The shape check, then the counts of the clued rooms, up to the first fault: `None` where all is clear.
     /// Refused: `ShortBuffer` ([`list_len`](Puzzle::list_len)).
     pub fn ask<'b>(&self, buffer: &'b mut [u16]) -> Result<Option<Fault<'b>>, Refusal> {
         // SAFETY: the buffer lives through the call.
-        let told = unsafe { sys::sendai_puzzle_ask(self.0, buffer.as_mut_ptr(), buffer.len()) };
+        let told = unsafe { sys::sendai_puzzle_ask_in_place(&self.0, buffer.as_mut_ptr(), buffer.len()) };
         accepted(told.code)?;
         let check = match told.kind {
             0 => return Ok(None),

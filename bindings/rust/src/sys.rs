@@ -158,6 +158,7 @@ unsafe extern "C" {
     pub fn sendai_board_stroke_in_place(board: &mut Board, entries: *const u16, length: usize) -> u8;
     pub safe fn sendai_board_undo_in_place(board: &mut Board) -> u8;
     pub fn sendai_board_ask(board: Board, buffer: *mut u16, length: usize) -> Answer;
+    pub fn sendai_board_ask_in_place(board: &Board, buffer: *mut u16, length: usize) -> Answer;
     pub fn sendai_groups(board: Board, is_potential: bool, buffer: *mut u16, length: usize) -> Grouping;
     pub fn sendai_group(
         info: GroupInfo,
@@ -183,7 +184,11 @@ unsafe extern "C" {
     pub safe fn sendai_puzzle_decide(puzzle: Puzzle, border: usize, wall: bool) -> PuzzleAnswer;
     pub fn sendai_puzzle_stroke(puzzle: Puzzle, entries: *const u16, length: usize) -> PuzzleAnswer;
     pub safe fn sendai_puzzle_undo(puzzle: Puzzle) -> PuzzleAnswer;
+    pub safe fn sendai_puzzle_decide_in_place(puzzle: &mut Puzzle, border: usize, wall: bool) -> u8;
+    pub fn sendai_puzzle_stroke_in_place(puzzle: &mut Puzzle, entries: *const u16, length: usize) -> u8;
+    pub safe fn sendai_puzzle_undo_in_place(puzzle: &mut Puzzle) -> u8;
     pub fn sendai_puzzle_ask(puzzle: Puzzle, buffer: *mut u16, length: usize) -> Outcome;
+    pub fn sendai_puzzle_ask_in_place(puzzle: &Puzzle, buffer: *mut u16, length: usize) -> Outcome;
     pub fn sendai_puzzle_right_boards(puzzle: Puzzle, cap: usize, buffer: *mut u8, length: usize) -> Boards;
 
     pub fn sendai_room_make(

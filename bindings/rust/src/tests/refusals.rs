@@ -12,7 +12,7 @@ fn kept<R: Clone + PartialEq + Debug, T: Debug>(number: u8, record: &R, call: im
 }
 
 /// A change that spoils a record, and the number by which every call then refuses it.
-type Damage<R> = (u8, fn(&mut R));
+pub(super) type Damage<R> = (u8, fn(&mut R));
 
 /// Strokes for records that are refused whatever the stroke: empty, good, and bad in each way.
 const STROKES: [&[(usize, bool)]; 5] = [&[], &[(0, true)], &[(0, true), (0, true)], &[(1, true)], &[(usize::MAX, true)]];
@@ -51,6 +51,7 @@ fn boards() {
     kept(3, &good, |b| b.decide(7, true));
     kept(3, &good, |b| b.decide(usize::MAX, true));
     kept(4, &good, |b| b.decide(1, false));
+    kept(14, &good, |b| b.stroke(&[(0, true), (0, false)]));
     kept(5, &board(2, 3, &[]), |b| b.undo());
     assert_eq!(good.decided(7, true), Err(Refusal::Missing));
     assert_eq!(good.decided(1, true), Err(Refusal::Decided));
@@ -76,6 +77,7 @@ fn lists_of_boards() {
     refused(3, 54, |buffer| good.unit_boundary(5, buffer).map(drop));
     refused(3, 54, |buffer| good.potential_unit_boundary(1, buffer).map(drop));
     refused(10, 54, |buffer| good.path(0, 5, buffer).map(drop));
+    refused(6, 53, |buffer| good.ask(buffer).map(drop));
     for (number, bad) in bad_boards() {
         refused(number, 54, |buffer| bad.ask(buffer).map(drop));
         refused(number, 54, |buffer| bad.path(0, 1, buffer).map(drop));
@@ -120,7 +122,9 @@ fn puzzles() {
     let good = Puzzle::make(1, 4, &[1], &[2, NO_CLUE]).unwrap();
     kept(3, &good, |p| p.decide(3, true));
     kept(4, &good, |p| p.decide(1, true));
+    kept(14, &good, |p| p.stroke(&[(0, true), (0, false)]));
     kept(5, &good, |p| p.undo());
+    refused(6, 35, |buffer| good.ask(buffer).map(drop));
     let damages: [Damage<sys::Puzzle>; 7] = [
         (1, |p| p.board.width = 0),
         (2, |p| p.board.states[0] = 3),
@@ -134,6 +138,8 @@ fn puzzles() {
         let mut bad = good.clone();
         damage(&mut bad.0);
         assert_eq!(bad.check().unwrap_err() as u8, number);
+        kept(number, &bad, |p| p.decide(0, true));
+        kept(number, &bad, |p| p.undo());
         assert_eq!(sys::sendai_puzzle_decide(bad.0, 0, true), sys::PuzzleAnswer { code: number, puzzle: bad.0 });
         assert_eq!(sys::sendai_puzzle_undo(bad.0), sys::PuzzleAnswer { code: number, puzzle: bad.0 });
         STROKES.iter().for_each(|stroke| kept(number, &bad, |p| p.stroke(stroke)));
