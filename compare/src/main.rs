@@ -4,12 +4,14 @@
 mod answers;
 mod bench;
 mod boards;
+mod composed;
 mod edges;
 mod files;
 mod findings;
 mod fits;
 mod generator;
 mod layers;
+mod learner;
 mod ledger;
 mod port;
 mod puzzles;
@@ -36,7 +38,7 @@ const SAMPLE: &str = concat!(env!("CARGO_MANIFEST_DIR"), "/../crates/vectors");
 
 fn usage(word: &str) -> ! {
     let layers: Vec<&str> = LAYERS.iter().map(|layer| layer.name).collect();
-    eprintln!("compare: `{word}` is none of vectors, bench, before, findings, seed=N, seconds=N, borders=N, {}", layers.join(", "));
+    eprintln!("compare: `{word}` is none of vectors, bench, trace, before, findings, seed=N, seconds=N, borders=N, {}", layers.join(", "));
     std::process::exit(2);
 }
 
@@ -72,6 +74,7 @@ fn main() -> ExitCode {
     match words.first().map(String::as_str) {
         Some("vectors") => sample::write(Path::new(SAMPLE)),
         Some("bench") => bench::run(),
+        Some("trace") => bench::traces::run(),
         Some("before") => match words.get(1) {
             Some(archive) => bench::before::run(Path::new(archive)),
             None => {

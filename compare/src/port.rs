@@ -2,6 +2,7 @@
 //! The declarations must agree with crates/exports; nothing but these comparisons checks that.
 
 pub mod file;
+mod in_place;
 mod lent;
 mod loaded;
 mod puzzle;
@@ -9,10 +10,11 @@ mod record;
 
 use crate::answers::Groups;
 use crate::ledger::singles;
+pub use in_place::{LentBoard, LentPuzzle};
 pub use lent::{generate_in, hand_over_in, run_in};
 pub use loaded::{Archive, Told};
 pub use puzzle::{Puzzle, PuzzleRecord};
-pub use record::{InPlace, Record};
+pub use record::{Played, Record};
 
 /// The exported functions and records, as crates/exports declares them.
 mod c {
@@ -203,6 +205,7 @@ mod c {
         pub safe fn sendai_board_undo_in_place(board: &mut Board) -> u8;
         pub fn sendai_board_stroke(board: Board, entries: *const u16, length: usize) -> Decided;
         pub fn sendai_board_stroke_in_place(board: &mut Board, entries: *const u16, length: usize) -> u8;
+        pub fn sendai_board_ask_in_place(board: *const Board, buffer: *mut u16, room: usize) -> Answer;
         pub safe fn sendai_union_new(n: usize) -> Made;
         pub safe fn sendai_union_find(union: UnionFind, x: usize) -> Found;
         pub safe fn sendai_union_unite(union: UnionFind, x: usize, y: usize) -> United;
@@ -214,6 +217,10 @@ mod c {
         pub safe fn sendai_puzzle_decide(puzzle: Puzzle, border: usize, wall: bool) -> PuzzleMade;
         pub safe fn sendai_puzzle_undo(puzzle: Puzzle) -> PuzzleMade;
         pub fn sendai_puzzle_stroke(puzzle: Puzzle, entries: *const u16, length: usize) -> PuzzleMade;
+        pub safe fn sendai_puzzle_decide_in_place(puzzle: &mut Puzzle, border: usize, wall: bool) -> u8;
+        pub safe fn sendai_puzzle_undo_in_place(puzzle: &mut Puzzle) -> u8;
+        pub fn sendai_puzzle_stroke_in_place(puzzle: &mut Puzzle, entries: *const u16, length: usize) -> u8;
+        pub fn sendai_puzzle_ask_in_place(puzzle: *const Puzzle, buffer: *mut u16, room: usize) -> Outcome;
         pub fn sendai_puzzle_make(
             height: usize,
             width: usize,
@@ -359,20 +366,6 @@ impl Board {
         self.put(c::sendai_board_undo(self.0))
     }
 
-    /// The board is lent, and changed where it is.
-    pub fn decide_in_place(&mut self, border: usize, wall: bool) -> Result<(), u8> {
-        accepted(c::sendai_board_decide_in_place(&mut self.0, border, wall))
-    }
-
-    pub fn stroke_in_place(&mut self, entries: &[u16]) -> Result<(), u8> {
-        // the entries live through the call
-        accepted(unsafe { c::sendai_board_stroke_in_place(&mut self.0, entries.as_ptr(), entries.len()) })
-    }
-
-    pub fn undo_in_place(&mut self) -> Result<(), u8> {
-        accepted(c::sendai_board_undo_in_place(&mut self.0))
-    }
-
     /// Questions 1 and 2.
     pub fn check(&self) -> Result<(), u8> {
         accepted(c::sendai_board_check(self.0))
@@ -497,7 +490,12 @@ impl Board {
 
     /// The shape check.
     pub fn ask(&self) -> Result<Option<Vec<u16>>, u8> {
-        judged(self.room(), |buffer, room| unsafe { c::sendai_board_ask(self.0, buffer, room) })
+        self.ask_with(self.room())
+    }
+
+    /// The same with a buffer of so many places.
+    pub fn ask_with(&self, places: usize) -> Result<Option<Vec<u16>>, u8> {
+        judged(places, |buffer, places| unsafe { c::sendai_board_ask(self.0, buffer, places) })
     }
 
     pub fn unit_boundary(&self, unit: usize) -> Result<Vec<u16>, u8> {

@@ -86,7 +86,7 @@ pub fn every(height: usize, width: usize) -> Vec<Making> {
 }
 
 /// How many units of a board each room holds.
-fn units_in(board: &Standing, rooms: &[Vec<usize>]) -> Vec<usize> {
+pub fn units_in(board: &Standing, rooms: &[Vec<usize>]) -> Vec<usize> {
     let unit = board.units();
     let held = |room: &Vec<usize>| {
         let mut units: Vec<usize> = room.iter().map(|&cell| unit[cell]).collect();

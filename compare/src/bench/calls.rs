@@ -1,9 +1,10 @@
 //! What is timed: each call on both sides.
 use super::paper::{Pair, Row};
+use super::turns::turn;
 use super::{both, row, stack};
 use crate::boards::{Standing, CONNECTED, UNDECIDED, WALL};
 use crate::ledger::singles;
-use crate::port::{self, PuzzleRecord};
+use crate::port::{self, LentBoard, LentPuzzle, Played, PuzzleRecord};
 use crate::random::Random;
 use crate::reference::{self, Board};
 use std::hint::black_box;
@@ -16,13 +17,24 @@ pub struct Asked {
 
 const KINDS: [&str; 3] = ["clear", "shape", "room"];
 
-pub fn ask(board: &Standing) -> Asked {
+/// How a record is handed over.
+#[derive(Clone, Copy, PartialEq, Eq)]
+pub enum Way {
+    ByValue,
+    Lent,
+}
+
+pub fn ask(board: &Standing, way: Way) -> Asked {
     let (height, width) = (board.height, board.width);
     let mut rust = Board::standing(height, width, &board.states);
     let ours = port::Board::standing(height, width, &board.states);
+    let lent = LentBoard(ours);
     let mut buffer = vec![0; 9 * board.cells()];
     let kind = KINDS[ours.ask_in(&mut buffer) as usize];
-    let times = both(|| rust.ask(), || ours.ask_in(&mut buffer));
+    let times = match way {
+        Way::ByValue => both(|| rust.ask(), || ours.ask_in(&mut buffer)),
+        Way::Lent => both(|| rust.ask(), || lent.ask_in(&mut buffer)),
+    };
     Asked { times, kind }
 }
 
@@ -40,7 +52,11 @@ impl Laid {
         let walls = Standing::by(side, side, |a, b| if apart(a, b) { WALL } else { UNDECIDED });
         let given = (0..walls.states.len()).filter(|&border| walls.states[border] == WALL).collect();
         let board = Standing::by(side, side, |a, b| if apart(a, b) { WALL } else { inside(a, b) });
-        Laid { board, given, clues: vec![clue; side * side / 16] }
+        // the last rooms have what is left of the sides
+        let across = |room: usize| (side - 4 * room).min(4) as u16;
+        let rooms = side.div_ceil(4);
+        let clues = (0..rooms * rooms).map(|room| clue.min(across(room / rooms) * across(room % rooms))).collect();
+        Laid { board, given, clues }
     }
 
     pub fn with_last_clue(mut self, clue: u16) -> Laid {
@@ -83,11 +99,15 @@ impl Laid {
     }
 }
 
-pub fn puzzle_ask(laid: &Laid) -> Asked {
+pub fn puzzle_ask(laid: &Laid, way: Way) -> Asked {
     let (mut rust, ours) = (laid.rust(), laid.port());
+    let lent = LentPuzzle(ours);
     let mut buffer = vec![0; 9 * laid.board.cells()];
     let kind = KINDS[ours.ask_in(&mut buffer) as usize];
-    let times = both(|| rust.ask(), || ours.ask_in(&mut buffer));
+    let times = match way {
+        Way::ByValue => both(|| rust.ask(), || ours.ask_in(&mut buffer)),
+        Way::Lent => both(|| rust.ask(), || lent.kind_in(&mut buffer)),
+    };
     Asked { times, kind }
 }
 
@@ -125,54 +145,6 @@ pub fn on_boards(boards: &[(&str, Standing)]) -> (Vec<String>, Vec<Row<Vec<Pair>
     };
     let rows = boards.iter().map(|(name, board)| row(*name, times(board))).collect();
     (columns.map(String::from).to_vec(), rows)
-}
-
-/// A decide and an undo of a border that is undecided then, by value and in place.
-fn turn(board: &Standing) -> [Pair; 2] {
-    let mut states = board.states.clone();
-    let border = states.iter().position(|&s| s == UNDECIDED).unwrap_or(0);
-    states[border] = UNDECIDED;
-    let mut rust = Board::standing(board.height, board.width, &states);
-    let mut ours = port::Board::standing(board.height, board.width, &states);
-    let by_value = both(
-        || rust.decide_and_undo(black_box(border), true),
-        || {
-            ours.decide(black_box(border), true).expect("decided");
-            ours.undo().expect("undone");
-        },
-    );
-    let in_place = both(
-        || rust.decide_and_undo(black_box(border), true),
-        || {
-            ours.decide_in_place(black_box(border), true).expect("decided");
-            ours.undo_in_place().expect("undone");
-        },
-    );
-    [by_value, in_place]
-}
-
-/// A decide and an undo on each board and on a puzzle, beside the port's ask on it.
-pub fn decide_and_undo(boards: &[(&str, Standing)], asks: &[(String, Pair)]) -> Vec<(String, Pair, f64)> {
-    let on = |(name, board): &(&str, Standing)| {
-        let ask = asks.iter().find(|ask| ask.0 == *name).expect("asked").1.port;
-        let [by_value, in_place] = turn(board);
-        [(name.to_string(), by_value, ask), (format!("{name}, in place"), in_place, ask)]
-    };
-    boards.iter().flat_map(on).chain([on_puzzle(asks)]).collect()
-}
-
-fn on_puzzle(asks: &[(String, Pair)]) -> (String, Pair, f64) {
-    let name = "puzzle, rooms of 4 by 4, open inside";
-    let laid = Laid::squares(32, 8, |_, _| UNDECIDED);
-    let (mut rust, mut ours) = (laid.rust(), laid.port());
-    let times = both(
-        || rust.decide_and_undo(black_box(0), true),
-        || {
-            ours.decide(black_box(0), true).expect("decided");
-            ours.undo().expect("undone");
-        },
-    );
-    (name.to_string(), times, asks.iter().find(|ask| ask.0 == name).expect("asked").1.port)
 }
 
 /// The largest room, 32 by 32 cells, whose edges all have one state, with a count.
@@ -249,10 +221,9 @@ pub fn others() -> Vec<Row<Pair>> {
     vec![row("find at the end of a chain of 1,024, in a copy of the union", find), row("hand-over of 9,216 entries", handed)]
 }
 
-/// The stack of each call: the most over the inputs.
+/// The stack of each call: the most over the inputs. A lent record lies elsewhere.
 pub fn stacks(boards: &[(&str, Standing)], puzzles: &[(&str, Laid)]) -> Vec<(String, usize)> {
-    let mut buffer = vec![0; 65536];
-    let buffer = &mut buffer;
+    let buffer = &mut vec![0; 65536];
     let standing: Vec<port::Board> = boards.iter().map(|(_, b)| port::Board::standing(32, 32, &b.states)).collect();
     let laid: Vec<port::Puzzle> = puzzles.iter().map(|(_, laid)| laid).chain([&Laid::snake(32)]).map(Laid::port).collect();
     let path: Vec<(usize, usize)> = (0..1023).map(|vertex| (vertex, vertex + 1)).collect();
@@ -262,30 +233,23 @@ pub fn stacks(boards: &[(&str, Standing)], puzzles: &[(&str, Laid)]) -> Vec<(Str
     let most = |list: Vec<usize>| list.into_iter().max().expect("inputs");
     let on = |name: &str, used: Vec<usize>| (name.to_string(), most(used));
     let whole: Vec<u16> = (0..=65535).collect();
+    let (mut board, mut puzzle) = (LentBoard(standing[5]), LentPuzzle(laid[0]));
+    let (lent_boards, lent_puzzles) = (standing.iter().copied().map(LentBoard), laid.iter().copied().map(LentPuzzle));
     vec![
         on("groups", standing.iter().map(|b| stack::used(|| b.groups_in(true, buffer))).collect()),
         on("path", standing.iter().map(|b| stack::used(|| b.path_in(0, 0, buffer))).collect()),
         on("boundary", standing.iter().map(|b| stack::used(|| b.boundary_in(false, 0, buffer))).collect()),
-        on("board's decide and undo", vec![stack::used(|| {
-            let mut board = standing[5];
-            board.decide(0, true).expect("decided");
-            board.undo().expect("undone");
-        })]),
-        on("the same in place", vec![stack::used(|| {
-            let mut board = standing[5];
-            board.decide_in_place(0, true).expect("decided");
-            board.undo_in_place().expect("undone");
-        })]),
+        on("board's decide and undo", vec![stack::used(|| turn(&mut standing[5].clone(), 0))]),
+        on("board's decide and undo in place", vec![stack::used(|| turn(&mut board, 0))]),
         on("shape check", standing.iter().map(|b| stack::used(|| b.ask_in(buffer))).collect()),
+        on("shape check of a lent board", lent_boards.map(|b| stack::used(|| b.ask_in(buffer))).collect()),
         on("room check", cities.iter().map(|c| stack::used(|| c.ask_in(buffer))).collect()),
         on("find", vec![stack::used(|| union.find(0))]),
         on("puzzle's making", vec![stack::used(|| port::Puzzle::make(32, 32, &[], &[9]).is_ok())]),
-        on("puzzle's decide and undo", vec![stack::used(|| {
-            let mut puzzle = laid[0];
-            puzzle.decide(0, true).expect("decided");
-            puzzle.undo().expect("undone");
-        })]),
+        on("puzzle's decide and undo", vec![stack::used(|| turn(&mut laid[0].clone(), 0))]),
+        on("puzzle's decide and undo in place", vec![stack::used(|| turn(&mut puzzle, 0))]),
         on("puzzle's ask", laid.iter().map(|p| stack::used(|| p.ask_in(buffer))).collect()),
+        on("ask of a lent puzzle", lent_puzzles.map(|p| stack::used(|| p.kind_in(buffer))).collect()),
         on("hand-over", vec![stack::used(|| port::hand_over_in(&whole, buffer))]),
     ]
 }

@@ -3,7 +3,7 @@ use super::paper::{micros, number, Pair};
 use super::{both, stack};
 use crate::boards::{Standing, CONNECTED, UNDECIDED, WALL};
 use crate::ledger::{border, is_wall};
-use crate::port::{self, InPlace, Record};
+use crate::port::{self, LentBoard, LentPuzzle, Record};
 use crate::random::Random;
 use crate::reference::NO_CLUE;
 use std::hint::black_box;
@@ -56,7 +56,7 @@ fn started(side: usize) -> (Standing, Vec<u16>) {
     (board, entries)
 }
 
-/// Boards, by value and in place, and puzzles of both sides.
+/// Boards and puzzles of both sides, by value and in place.
 pub fn all() -> Vec<Stroked> {
     let of_side = |side: usize| {
         let (standing, entries) = started(side);
@@ -64,8 +64,9 @@ pub fn all() -> Vec<Stroked> {
         let puzzle = super::calls::Laid { board: standing, given: vec![], clues: vec![NO_CLUE] }.port();
         [
             timed(format!("board, {side} by {side}"), board, &entries),
-            timed(format!("board in place, {side} by {side}"), InPlace(board), &entries),
+            timed(format!("board in place, {side} by {side}"), LentBoard(board), &entries),
             timed(format!("puzzle, {side} by {side}"), puzzle, &entries),
+            timed(format!("puzzle in place, {side} by {side}"), LentPuzzle(puzzle), &entries),
         ]
     };
     SIDES.into_iter().flat_map(of_side).collect()
@@ -80,14 +81,15 @@ fn used<R: Record + Send>(mut record: R) -> usize {
     })
 }
 
-pub fn stacks() -> [(String, usize); 3] {
+pub fn stacks() -> [(String, usize); 4] {
     let board = port::Board::make(32, 32).expect("made");
     let puzzle = port::Puzzle::make(32, 32, &[], &[NO_CLUE]).expect("made");
     let named = |name: &str, used| (name.to_string(), used);
     [
         named("board's stroke of all borders, and its undo", used(board)),
-        named("that stroke in place", used(InPlace(board))),
+        named("that stroke of a board in place", used(LentBoard(board))),
         named("puzzle's stroke of all borders, and its undo", used(puzzle)),
+        named("that stroke of a puzzle in place", used(LentPuzzle(puzzle))),
     ]
 }
 

@@ -1,9 +1,11 @@
 //! Lists of decides, strokes and undos, by value and in place: after each, the answer, the states and the decisions of `BoardManager`, cut
-//! into strokes by the model, beside the port's; asks on small boards after each, on others at the end.
+//! into strokes by the model, beside the port's; asks on small boards after each, on others at the end. Damaged records by SPEC's questions.
+use super::puzzle::after;
 use super::{stroke_of_one, until, Limits};
-use crate::boards::border_count;
+use crate::boards::{self, border_count};
 use crate::ledger::{Ledger, Told};
-use crate::port::{self, InPlace, Record};
+use crate::port::{self, LentBoard, Record};
+use crate::puzzles::{self, Making};
 use crate::random::Random;
 use crate::reference::Board;
 use crate::runs::{self, Call, Turn};
@@ -17,7 +19,7 @@ fn compare(tally: &mut Tally, height: usize, width: usize, turns: &[Turn]) {
     tally.case();
     let mut rust = Told::new(Board::new(height, width), &[]);
     let mut ours = port::Board::make(height, width).expect("a size within the limits");
-    let mut lent = InPlace(ours);
+    let mut lent = LentBoard(ours);
     for (at, turn) in turns.iter().enumerate() {
         let on = || format!("{height} by {width}, turn {at} of {turns:?}");
         let before = ours;
@@ -32,8 +34,46 @@ fn compare(tally: &mut Tally, height: usize, width: usize, turns: &[Turn]) {
         tally.same(&(true, true), &(ours == whole, lent.0 == whole), on);
         tally.same(&Ok(()), &ours.check(), on);
         if height * width <= SMALL || at + 1 == turns.len() {
-            tally.same(&Ok(rust.rust.ask()), &ours.ask(), on);
+            let theirs = Ok(rust.rust.ask());
+            tally.same(&theirs, &ours.ask(), on);
+            tally.same(&theirs, &lent.ask_with(9 * height * width), on);
         }
+    }
+    let (places, on) = (9 * height * width, || format!("{height} by {width}, {turns:?}"));
+    for short in [places - 1, 0] {
+        tally.same(&(Err(6), Err(6)), &(ours.ask_with(short), lent.ask_with(short)), on);
+    }
+    tally.same(&ours.ask_with(places + 7), &lent.ask_with(places + 7), on);
+}
+
+/// A record that may be damaged. By value each call is refused by question 1 or 2, or done as the model does it; lent it is answered alike, and
+/// the same record is left.
+fn damaged(tally: &mut Tally, random: &mut Random) {
+    tally.case();
+    let standing = boards::random(random, 1, 8);
+    let drawn = puzzles::record(random, &standing, &Making::empty(standing.height, standing.width));
+    let record = puzzles::damaged(random, drawn).in_one_room();
+    let (ours, code) = (port::Puzzle(record).board(), puzzles::refusal(&record));
+    tally.same(&code, &ours.check().err().unwrap_or(0), || format!("{record:?}"));
+    let (board, borders) = (&record.board, border_count(standing.height, standing.width));
+    let held = || Ledger::of(&board.states[..border_count(board.height, board.width)], &board.ledger[..board.len]);
+    let sound = (code == 0).then(held);
+    let stroke = runs::stroke(random, sound.as_ref().unwrap_or(&Ledger::fresh(borders, &[])));
+    let decide = Turn::Single(Call::Decide { border: random.below(borders + 2), wall: true });
+    let strokes = [vec![], stroke, vec![1, 1], vec![u16::MAX]].map(Turn::Stroke);
+    for turn in strokes.iter().chain([&decide, &Turn::Single(Call::Undo)]) {
+        let on = || format!("{record:?}, {turn:?}");
+        let (mut model, mut by_value, mut lent) = (sound.clone(), ours, LentBoard(ours));
+        let expected = model.as_mut().map_or(Err(code), |model| model.turn(turn));
+        tally.same(&(expected, expected), &(by_value.turn(turn), lent.turn(turn)), on);
+        let left = model.map_or(ours, |model| port::Puzzle(after(record, &model)).board());
+        tally.same(&(true, true), &(by_value == left, lent.0 == left), on);
+    }
+    for places in [0, 9216] {
+        let (by_value, lent) = (ours.ask_with(places), LentBoard(ours).ask_with(places));
+        let expected = if code == 0 && places == 0 { 6 } else { code };
+        tally.same(&expected, &by_value.as_ref().err().copied().unwrap_or(0), || format!("{record:?}"));
+        tally.same(&by_value, &lent, || format!("{record:?}, lent"));
     }
 }
 
@@ -76,6 +116,7 @@ pub fn run(limits: &Limits) -> Tally {
         let turns = runs::turns(random, Ledger::fresh(borders, &[]), length, undos);
         compare(&mut tally, size.0, size.1, &turns);
     });
+    until(limits.time / 4, || damaged(&mut tally, random));
     for (height, width) in [(0, 0), (0, 1), (1, 0), (33, 1), (1, 33), (usize::MAX, 1), (32, usize::MAX)] {
         let ours = port::Board::make(height, width).err();
         tally.same(&Some(1), &ours, || format!("{height} by {width}"));

@@ -1,10 +1,10 @@
 //! The puzzle: making, decide, undo and ask beside the checks that `solve_sendai` lays out; strokes by the model, damaged records by SPEC's
-//! questions.
+//! questions. Each turn and each ask is also put to the puzzle as it is lent.
 use super::{stroke_of_one, until, Limits};
 use crate::answers::Answer;
 use crate::boards::{self, border_count, Standing, WALL};
 use crate::ledger::{Ledger, Told};
-use crate::port::{self, PuzzleRecord, Record};
+use crate::port::{self, LentPuzzle, Played, PuzzleRecord, Record};
 use crate::puzzles::{self, Making};
 use crate::random::Random;
 use crate::reference::Puzzle;
@@ -67,7 +67,23 @@ impl Compared {
         let (theirs, answer) = (both.rust.turn(turn), both.ours.turn(turn));
         self.tally.same(&theirs, &answer, &on);
         self.tally.same(&both.expected(), &both.ours.0, &on);
+        self.lent_turn(before, turn, (answer, both.ours), &on);
         stroke_of_one(&mut self.tally, before, turn, (answer, both.ours), on);
+    }
+
+    /// A turn of a lent puzzle answers as that by value, and leaves the same record.
+    fn lent_turn(&mut self, before: port::Puzzle, turn: &Turn, told: (Result<(), u8>, port::Puzzle), on: impl Fn() -> String) {
+        let mut lent = LentPuzzle(before);
+        let answer = lent.turn(turn);
+        self.tally.same(&told.0, &answer, || format!("lent, {}", on()));
+        self.tally.same(&told.1 .0, &lent.0 .0, || format!("lent, {}", on()));
+    }
+
+    /// The port's ask, which a lent puzzle answers alike, with the same list.
+    fn asked(&mut self, ours: port::Puzzle, places: usize, on: impl Fn() -> String) -> Result<Answer, u8> {
+        let answer = ours.ask(places);
+        self.tally.same(&answer, &LentPuzzle(ours).answer(places), || format!("lent, {}", on()));
+        answer
     }
 
     fn ask(&mut self, both: &mut Both, places: usize, on: impl Fn() -> String) {
@@ -77,7 +93,8 @@ impl Compared {
             Answer::Shape(_) => 1,
             Answer::Room(..) => 2,
         }] += 1;
-        self.tally.same(&Ok(theirs), &both.ours.ask(places), on);
+        let answer = self.asked(both.ours, places, &on);
+        self.tally.same(&Ok(theirs), &answer, on);
     }
 
     /// Asks with a buffer that is just long enough, one that is longer, one that is a place short, and none; and the record's check.
@@ -86,7 +103,8 @@ impl Compared {
         self.ask(both, places, &on);
         self.ask(both, places + 7, &on);
         for short in [places - 1, 0] {
-            self.tally.same(&Err(6), &both.ours.ask(short), &on);
+            let answer = self.asked(both.ours, short, &on);
+            self.tally.same(&Err(6), &answer, &on);
         }
         self.tally.same(&Ok(()), &both.ours.check(), &on);
     }
@@ -141,11 +159,15 @@ impl Compared {
         for turn in strokes.iter().chain([&decide, &Turn::Single(Call::Undo)]) {
             let mut after = ours;
             let on = || format!("{record:?}, {turn:?}");
-            self.tally.same(&Err(code), &after.turn(turn), on);
+            let answer = after.turn(turn);
+            self.tally.same(&Err(code), &answer, on);
             self.tally.same(&record, &after.0, on);
+            self.lent_turn(ours, turn, (answer, after), on);
         }
         for places in [0, 9216] {
-            self.tally.same(&Err(code), &ours.ask(places), || format!("{record:?}"));
+            let on = || format!("{record:?}");
+            let answer = self.asked(ours, places, on);
+            self.tally.same(&Err(code), &answer, on);
         }
     }
 
@@ -167,14 +189,16 @@ impl Compared {
         for turn in strokes.iter().chain([&decide, &Turn::Single(Call::Undo)]) {
             let (mut model, mut ours) = (ledger.clone(), port::Puzzle(record));
             let on = || format!("{record:?}, {turn:?}");
-            self.tally.same(&model.turn(turn), &ours.turn(turn), on);
+            let answer = ours.turn(turn);
+            self.tally.same(&model.turn(turn), &answer, on);
             self.tally.same(&after(record, &model), &ours.0, on);
+            self.lent_turn(port::Puzzle(record), turn, (answer, ours), on);
         }
     }
 }
 
 /// A record that a turn left: what was named and is no more is 0, and all behind it is as it was.
-fn after(mut record: PuzzleRecord, ledger: &Ledger) -> PuzzleRecord {
+pub(super) fn after(mut record: PuzzleRecord, ledger: &Ledger) -> PuzzleRecord {
     let (states, names) = (ledger.states(), ledger.names());
     record.board.states[..states.len()].copy_from_slice(states);
     record.board.ledger[..record.board.len].fill(0);

@@ -1,8 +1,8 @@
-//! Strokes on boards, by value and in place, on puzzles and on room graphs: the refusals that tell the order of the questions; every small
+//! Strokes on boards and puzzles, by value and in place, and on room graphs: the refusals that tell the order of the questions; every small
 //! record beside question 2; and that asks don't tell how the standing borders were cut into strokes, nor is a fault lost by it.
 use super::{until, Limits};
 use crate::ledger::{self, Fault, Ledger, Reference, Told};
-use crate::port::{self, InPlace, PuzzleRecord, Record};
+use crate::port::{self, LentBoard, LentPuzzle, PuzzleRecord, Record};
 use crate::puzzles::{self, Making};
 use crate::random::Random;
 use crate::reference::{self, NO_CLUE};
@@ -80,7 +80,8 @@ fn records<R: Record>(tally: &mut Tally, count: &mut Count, borders: usize, give
         let sound = ledger::sound(states, given, names, *len);
         count.records += 1;
         count.sound += u64::from(sound);
-        tally.same(&if sound { Ok(()) } else { Err(2) }, &record.check(), on);
+        let held = if sound { Ok(()) } else { Err(2) };
+        tally.same(&(held, held), &(record.check(), record.fault().map(drop)), on);
         let ledger = sound.then(|| Ledger::of(states, &names[..*len]));
         for turn in runs::strokes(borders, 2).into_iter().chain(runs::singles(runs::alphabet(borders))) {
             let (mut model, mut ours) = (ledger.clone(), record);
@@ -92,6 +93,14 @@ fn records<R: Record>(tally: &mut Tally, count: &mut Count, borders: usize, give
         if let Some(ledger) = ledger {
             reached(tally, record, given, &ledger, &laid, on);
         }
+    }
+}
+
+/// Every small record is asked alike by value and lent.
+fn asked_alike<R: Record, L: Record>(tally: &mut Tally, borders: usize, by_value: impl Fn(&Fronts) -> R, lent: impl Fn(R) -> L) {
+    for fronts in every_record(borders) {
+        let record = by_value(&fronts);
+        tally.same(&record.fault(), &lent(record).fault(), || format!("{fronts:?}, lent"));
     }
 }
 
@@ -131,7 +140,8 @@ fn every_small(tally: &mut Tally) -> Count {
         let size = (1, borders + 1);
         let board = |(states, names, len): &Fronts| port::Board::of(size, states, names, *len);
         records(tally, &mut count, borders, &[], board);
-        records(tally, &mut count, borders, &[], |fronts| InPlace(board(fronts)));
+        records(tally, &mut count, borders, &[], |fronts| LentBoard(board(fronts)));
+        asked_alike(tally, borders, board, LentBoard);
         let graph = port::City::make(2, &[(0, 1), (1, 1)][..borders], 1).expect("made");
         records(tally, &mut count, borders, &[], |(states, names, len)| graph.with(states, names, *len));
         for set in 0..1 << borders {
@@ -143,6 +153,8 @@ fn every_small(tally: &mut Tally) -> Count {
                 port::Puzzle(record)
             };
             records(tally, &mut count, borders, &given, puzzle);
+            records(tally, &mut count, borders, &given, |fronts| LentPuzzle(puzzle(fronts)));
+            asked_alike(tally, borders, puzzle, LentPuzzle);
         }
     }
     count
@@ -155,14 +167,26 @@ struct Cuttings {
     again: u64,
 }
 
-/// A fresh record on both sides.
-struct Fresh<P, R> {
+/// A fresh record on both sides, and the port's as it is lent, if it can be.
+struct Fresh<P, L, R> {
     port: P,
+    lent: Option<L>,
     rust: R,
     given: Vec<u16>,
 }
 
-impl<P: Record, R: Fn() -> Q, Q: Reference> Fresh<P, R> {
+/// The port's fault after these strokes. Undos take them back to the fresh record, and then there is none left.
+fn cut<P: Record>(tally: &mut Tally, fresh: P, strokes: &[Vec<u16>], fault: &Fault, on: impl Fn() -> String) {
+    let mut record = fresh;
+    let drawn = strokes.iter().try_for_each(|stroke| record.stroke(stroke));
+    tally.same(&Ok(()), &drawn, || format!("{}, {strokes:?}", on()));
+    tally.same(&Ok(fault), &record.fault().as_ref().map_err(|&code| code), || format!("{}, {strokes:?}", on()));
+    let kept = strokes.iter().filter(|stroke| !stroke.is_empty());
+    let undone = kept.map(|_| record.undo()).collect::<Result<(), u8>>();
+    tally.same(&(Ok(()), true, Err(5)), &(undone, record == fresh, record.undo()), on);
+}
+
+impl<P: Record, L: Record, R: Fn() -> Q, Q: Reference> Fresh<P, L, R> {
     /// The Rust's fault with these entries decided one by one.
     fn fault(&self, entries: &[u16]) -> Fault {
         let mut told = Told::new((self.rust)(), &self.given);
@@ -170,15 +194,12 @@ impl<P: Record, R: Fn() -> Q, Q: Reference> Fresh<P, R> {
         told.rust.fault()
     }
 
-    /// The port's fault after these strokes. Undos take them back to the fresh record, and then there is none left.
+    /// By value and lent.
     fn cut(&self, tally: &mut Tally, strokes: &[Vec<u16>], fault: &Fault, on: impl Fn() -> String) {
-        let mut record = self.port;
-        let drawn = strokes.iter().try_for_each(|stroke| record.stroke(stroke));
-        tally.same(&Ok(()), &drawn, || format!("{}, {strokes:?}", on()));
-        tally.same(&Ok(fault), &record.fault().as_ref().map_err(|&code| code), || format!("{}, {strokes:?}", on()));
-        let kept = strokes.iter().filter(|stroke| !stroke.is_empty());
-        let undone = kept.map(|_| record.undo()).collect::<Result<(), u8>>();
-        tally.same(&(Ok(()), true, Err(5)), &(undone, record == self.port, record.undo()), on);
+        cut(tally, self.port, strokes, fault, &on);
+        if let Some(lent) = self.lent {
+            cut(tally, lent, strokes, fault, || format!("lent, {}", on()));
+        }
     }
 
     /// The entries in one stroke, one by one, and in drawn cuttings are answered as the Rust answers them; so are the borders that a fault
@@ -212,12 +233,12 @@ fn cuttings(tally: &mut Tally, random: &mut Random, count: &mut [Cuttings; 3], m
     let rust = || reference::Board::new(*height, *width);
     let port = port::Board::make(*height, *width).expect("made");
     let entries = puzzles::entries(&board, &Making::empty(*height, *width));
-    Fresh { port, rust, given: vec![] }.compare(tally, random, &entries, &mut count[0], on);
+    Fresh { port, lent: Some(LentBoard(port)), rust, given: vec![] }.compare(tally, random, &entries, &mut count[0], on);
 
     let rust = || reference::Puzzle::new(*height, *width, &making.walls(), clues, true).expect("made");
     let port = port::Puzzle::make(*height, *width, given, clues).expect("made");
     let entries = puzzles::entries(&board, &making);
-    Fresh { port, rust, given: given.clone() }.compare(tally, random, &entries, &mut count[1], on);
+    Fresh { port, lent: Some(LentPuzzle(port)), rust, given: given.clone() }.compare(tally, random, &entries, &mut count[1], on);
 
     let cells = random.within(1, 12);
     let edges: Vec<(usize, usize)> = (0..random.below(16)).map(|_| (random.below(cells), random.below(cells))).collect();
@@ -227,15 +248,17 @@ fn cuttings(tally: &mut Tally, random: &mut Random, count: &mut [Cuttings; 3], m
     let on = || format!("{cells} vertices, {edges:?}, count {parts}, {entries:?}");
     let rust = || reference::City::new(cells, &edges, parts).expect("made");
     let port = port::City::make(cells, &edges, parts).expect("made");
-    Fresh { port, rust, given: vec![] }.compare(tally, random, &entries, &mut count[2], on);
+    Fresh { port, lent: None::<port::City>, rust, given: vec![] }.compare(tally, random, &entries, &mut count[2], on);
 }
 
 pub fn run(limits: &Limits) -> Tally {
     let mut tally = Tally::new("strokes");
     let board = port::Board::make(1, 2).expect("made");
     tells(&mut tally, board, "board");
-    tells(&mut tally, InPlace(board), "board in place");
-    tells(&mut tally, port::Puzzle::make(1, 2, &[], &[NO_CLUE]).expect("made"), "puzzle");
+    tells(&mut tally, LentBoard(board), "board in place");
+    let puzzle = port::Puzzle::make(1, 2, &[], &[NO_CLUE]).expect("made");
+    tells(&mut tally, puzzle, "puzzle");
+    tells(&mut tally, LentPuzzle(puzzle), "puzzle in place");
     tells(&mut tally, port::City::make(2, &[(0, 1)], 1).expect("made"), "room graph");
     let Count { records, sound } = every_small(&mut tally);
     println!("strokes: {records} small records, {sound} of them hold together");

@@ -1,8 +1,9 @@
 //! The puzzle's calls.
 use super::file::{Lent, BEHIND};
-use super::{accepted, c, UNTOUCHED};
+use super::{accepted, c, Board, UNTOUCHED};
 use crate::answers::{Answer, Boards};
 use crate::boards::border_count;
+use crate::reference::NO_CLUE;
 use std::fmt::{Debug, Formatter, Result as Formatted};
 
 pub use c::Puzzle as PuzzleRecord;
@@ -20,6 +21,13 @@ impl PuzzleRecord {
         record.given_len = given.len();
         record.clues[..clues.len()].copy_from_slice(clues);
         record.clues_len = clues.len();
+        record
+    }
+
+    /// This board with no given wall, and one room without a clue.
+    pub fn in_one_room(self) -> PuzzleRecord {
+        let mut record = PuzzleRecord { board: self.board, ..PuzzleRecord::zero() };
+        (record.clues[0], record.clues_len) = (NO_CLUE, 1);
         record
     }
 
@@ -42,6 +50,21 @@ impl Debug for PuzzleRecord {
         write!(f, "{} by {}, states {states:?}, {} of ledger {ledger:?}, ", b.height, b.width, b.len)?;
         let (given, clues) = (front(&self.given), front(&self.clues));
         write!(f, "{} given of {given:?}, {} clues of {clues:?}", self.given_len, self.clues_len)
+    }
+}
+
+/// The answer of an ask that is lent a buffer of so many places; those behind the list must be untouched.
+pub(super) fn answered(places: usize, ask: impl FnOnce(*mut u16, usize) -> c::Outcome) -> Result<Answer, u8> {
+    let mut buffer = vec![UNTOUCHED; places];
+    let told = ask(buffer.as_mut_ptr(), places);
+    assert!(buffer[told.length..].iter().all(|&place| place == UNTOUCHED), "places behind the list were written");
+    buffer.truncate(told.length);
+    match (told.kind, told.code, told.room, told.length) {
+        (0, 0, 0, 0) => Ok(Answer::Clear),
+        (1, 0, 0, _) => Ok(Answer::Shape(buffer)),
+        (2, 0, room, _) => Ok(Answer::Room(room, buffer)),
+        (3, code @ 1.., 0, 0) => Err(code),
+        numbers => panic!("{numbers:?} are no answer"),
     }
 }
 
@@ -81,21 +104,17 @@ impl Puzzle {
         accepted(c::sendai_puzzle_check(self.0))
     }
 
+    /// The board of the record, as it stands there.
+    pub fn board(&self) -> Board {
+        Board(self.0.board)
+    }
+
     /// With a buffer of so many places; those behind the list must be untouched.
     pub fn ask(&self, places: usize) -> Result<Answer, u8> {
-        let mut buffer = vec![UNTOUCHED; places];
         // the buffer lives through the call
-        let told = unsafe { c::sendai_puzzle_ask(self.0, buffer.as_mut_ptr(), places) };
-        assert!(buffer[told.length..].iter().all(|&place| place == UNTOUCHED), "places behind the list were written");
-        buffer.truncate(told.length);
-        match (told.kind, told.code, told.room, told.length) {
-            (0, 0, 0, 0) => Ok(Answer::Clear),
-            (1, 0, 0, _) => Ok(Answer::Shape(buffer)),
-            (2, 0, room, _) => Ok(Answer::Room(room, buffer)),
-            (3, code @ 1.., 0, 0) => Err(code),
-            numbers => panic!("{numbers:?} are no answer"),
-        }
+        answered(places, |buffer, places| unsafe { c::sendai_puzzle_ask(self.0, buffer, places) })
     }
+
     /// At most `cap` right boards into so many bytes; those behind the boards, and some behind the buffer, must be untouched.
     pub fn right_boards(&self, cap: usize, room: usize) -> Result<Boards, u8> {
         let mut lent = Lent::new(room + BEHIND);

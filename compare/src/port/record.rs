@@ -1,5 +1,6 @@
-//! Records that have a ledger: boards, by value and where they are, puzzles and room graphs.
+//! Records that have a ledger: boards, puzzles and room graphs, by value here and where they are in `in_place.rs`.
 use super::{Board, City, Puzzle};
+use crate::answers::Answer;
 use crate::ledger::{fault_of, Fault};
 use crate::runs::{Call, Turn};
 
@@ -17,28 +18,6 @@ pub trait Record: Copy + PartialEq {
             Turn::Single(Call::Undo) => self.undo(),
             Turn::Stroke(entries) => self.stroke(entries),
         }
-    }
-}
-
-/// A board that is lent, and changed where it is.
-#[derive(Clone, Copy, PartialEq)]
-pub struct InPlace(pub Board);
-
-impl InPlace {
-    fn decide(&mut self, border: usize, wall: bool) -> Result<(), u8> {
-        self.0.decide_in_place(border, wall)
-    }
-
-    fn stroke(&mut self, entries: &[u16]) -> Result<(), u8> {
-        self.0.stroke_in_place(entries)
-    }
-
-    fn undo(&mut self) -> Result<(), u8> {
-        self.0.undo_in_place()
-    }
-
-    fn check(&self) -> Result<(), u8> {
-        self.0.check()
     }
 }
 
@@ -65,13 +44,30 @@ macro_rules! records {
 }
 
 /// The fault of a check that has one kind alone.
-fn shape(list: Result<Option<Vec<u16>>, u8>) -> Result<Fault, u8> {
+pub(super) fn shape(list: Result<Option<Vec<u16>>, u8>) -> Result<Fault, u8> {
     list.map(|list| list.map(|list| (0, list)))
 }
 
 records! {
     Board, |board: &Board| shape(board.ask());
-    InPlace, |board: &InPlace| shape(board.0.ask());
     City, |city: &City| shape(city.ask());
     Puzzle, |puzzle: &Puzzle| puzzle.ask(9216).map(fault_of);
+}
+
+/// A puzzle's record, however it is handed over.
+pub trait Played: Record {
+    /// With a buffer of so many places; those behind the list must be untouched.
+    fn answer(&self, places: usize) -> Result<Answer, u8>;
+    /// The answer's kind, its list in the one buffer.
+    fn kind_in(&self, buffer: &mut [u16]) -> u8;
+}
+
+impl Played for Puzzle {
+    fn answer(&self, places: usize) -> Result<Answer, u8> {
+        self.ask(places)
+    }
+
+    fn kind_in(&self, buffer: &mut [u16]) -> u8 {
+        self.ask_in(buffer)
+    }
 }

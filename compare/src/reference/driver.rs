@@ -353,6 +353,23 @@ impl Puzzle {
         self.shape.undo();
     }
 
+    /// A decide and an undo, without the net and that board, for the benchmark: such a puzzle has no other calls but these and asks.
+    pub fn notify(&mut self, border: usize, wall: bool) {
+        self.shape.notify(border, wall);
+        for &(room, edge) in &self.uses[border] {
+            self.rooms[room].check.notify(edge, wall);
+        }
+        self.ledger.push(border);
+    }
+
+    pub fn take_back(&mut self) {
+        let border = self.ledger.pop().expect("decided");
+        self.shape.undo();
+        for &(room, _) in &self.uses[border] {
+            self.rooms[room].check.undo();
+        }
+    }
+
     pub fn states(&self) -> Vec<u8> {
         self.board.states()
     }
