@@ -1,16 +1,17 @@
 // What calls answer: a list or a refusal; clear, a fault or a refusal; and, inside a check, nothing or a fault. One form for other languages.
+#![tactic(auto)]
 ghost use Rattle.std.specs.Prelude.{◌≡◌};
 ghost use Rattle.answers.specs.Answers.{plain_listed, plain_answer};
 
 // How many places of the buffer hold the list, or the number of the question that refuses the call.
-#[derive(Drop)]
+#[derive(Clone, Copy)]
 pub enum Listed {
     List(usize),
     Refused(u8),
 }
 
 // Clear, a fault whose list fills so many places of the buffer, or the number of the question that refuses the call.
-#[derive(Drop)]
+#[derive(Clone, Copy)]
 pub enum Answer {
     Clear,
     Fault(usize),
@@ -18,7 +19,7 @@ pub enum Answer {
 }
 
 // What a stage of a check finds: nothing, or a fault whose list fills so many places of the buffer.
-#[derive(Drop)]
+#[derive(Clone, Copy)]
 pub enum Found {
     Nothing,
     Fault(usize),
@@ -26,7 +27,7 @@ pub enum Found {
 
 // An answer as numbers: code 0, or the refusal's number; whether a fault was found; how many places of the buffer hold a list.
 #[repr(C)]
-#[derive(Drop)]
+#[derive(Clone, Copy)]
 pub struct Plain {
     pub code: u8,
     pub fault: bool,

@@ -6,7 +6,7 @@ use enumerate::Boards;
 
 // How many boards were written and whether there are more; or a refusal's code with all else 0.
 #[repr(C)]
-#[derive(Drop)]
+#[derive(Clone, Copy)]
 pub struct Listing {
     pub code: u8,
     pub more: bool,

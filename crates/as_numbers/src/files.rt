@@ -7,7 +7,7 @@ use case_file::{Call, File, Step};
 
 // Code 0 and where the parts of a sound file stand, each list's first byte behind its count; or code 11 and else 0.
 #[repr(C)]
-#[derive(Drop)]
+#[derive(Clone, Copy)]
 pub struct Parts {
     pub code: u8,
     pub height: usize,
@@ -23,7 +23,7 @@ pub struct Parts {
 // Code 0, a call's kind (0 undo, 1 Connected, 2 Wall, 3 ask), a decide's border and the byte behind the call; or code 11 and
 // else 0.
 #[repr(C)]
-#[derive(Drop)]
+#[derive(Clone, Copy)]
 pub struct CallFields {
     pub code: u8,
     pub kind: u8,

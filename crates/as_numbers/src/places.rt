@@ -6,7 +6,7 @@ use grid::{Beyond, Direction};
 
 // What lies beyond a cell: code 0 with the neighbour and the border, or with `ends` where the board ends; else refused.
 #[repr(C)]
-#[derive(Drop)]
+#[derive(Clone, Copy)]
 pub struct Place {
     pub code: u8,
     pub ends: bool,

@@ -7,7 +7,7 @@ use puzzle::{Answer, Check};
 // What an ask answered: kind 0 clear, 1 a fault of the shape check, 2 a fault of a room's count, 3 refused. A fault has its list's
 // length, a room's fault the room's number, a refusal its code; all else is 0.
 #[repr(C)]
-#[derive(Drop)]
+#[derive(Clone, Copy)]
 pub struct Outcome {
     pub kind: u8,
     pub code: u8,

@@ -1,4 +1,5 @@
 // The board (`BoardManager`): a size around a book. Making, stroke, decide and undo on a record by value, and whether a record holds together.
+#![tactic(auto)]
 ghost use Rattle.std.specs.Prelude.{◌≡◌, length};
 ghost use Rattle.limits.specs.Limits.{most_borders};
 ghost use Rattle.ledger.specs.Ledger.{decisions};
@@ -10,7 +11,7 @@ use ledger::Book;
 
 // A size, and the states and ledger of its borders.
 #[repr(C)]
-#[derive(Drop)]
+#[derive(Clone, Copy)]
 pub struct Board {
     pub grid: Grid,
     pub book: Book,
@@ -18,7 +19,7 @@ pub struct Board {
 
 // A board with the number of the question that refuses: 0 where the call was accepted.
 #[repr(C)]
-#[derive(Drop)]
+#[derive(Clone, Copy)]
 pub struct Decided {
     pub code: u8,
     pub board: Board,

@@ -1,5 +1,6 @@
 // Case files (SPEC 5.1): `sendai.bin`, read where it lies. `decode` finds where its parts stand or says that the file is unsound;
 // `numbers` and `call_at` then read the given walls, the clues and the calls.
+#![tactic(auto)]
 ghost use Rattle.std.specs.Prelude.{◌≡◌, ◌+◌, ◌≤◌, ◌<◌, length, drop, get_or};
 ghost use Rattle.answers.specs.Answers.{listed_of, written};
 ghost use Rattle.case_file.specs.Sound.{decode_of, rest_of, numbers_of, call_list_of, call_of};
@@ -8,7 +9,7 @@ ghost use Rattle.case_file.specs.Layout.{word_at, numbers_at, counted_at, step_a
 use answers::Listed;
 
 // A call of the file: its border and whether it is a Wall, for a decide.
-#[derive(Drop)]
+#[derive(Clone, Copy)]
 pub enum Call {
     Undo,
     Decide(usize, bool),
@@ -16,21 +17,21 @@ pub enum Call {
 }
 
 // A call and the byte behind it, or none that is sound.
-#[derive(Drop)]
+#[derive(Clone, Copy)]
 pub enum Step {
     Call(Call, usize),
     Unsound,
 }
 
 // A list in the file: its first byte, behind the count, and how many items it has.
-#[derive(Drop)]
+#[derive(Clone, Copy)]
 pub struct Span {
     pub at: usize,
     pub count: usize,
 }
 
 // Where a sound file's parts stand.
-#[derive(Drop)]
+#[derive(Clone, Copy)]
 pub struct Layout {
     pub height: usize,
     pub width: usize,
@@ -39,14 +40,14 @@ pub struct Layout {
     pub calls: Span,
 }
 
-#[derive(Drop)]
+#[derive(Clone, Copy)]
 pub enum File {
     Sound(Layout),
     Unsound,
 }
 
 // A list that the file has room for, with the byte behind it, or none.
-#[derive(Drop)]
+#[derive(Clone, Copy)]
 enum Counted {
     Fits(Span, usize),
     Cut,

@@ -1,4 +1,5 @@
 // Case runs: a case file's puzzle, its calls on that puzzle, and the lines that they print, as bytes in a lent buffer.
+#![tactic(auto)]
 ghost use Rattle.std.specs.Prelude.{◌≡◌, [], ◌≤◌, length, drop};
 ghost use Rattle.std.proofs.Math.Option.{none};
 ghost use Rattle.std.proofs.lemmas.List.Edits.{sets};
@@ -16,7 +17,7 @@ use puzzle::{Answer, Check, Puzzle};
 
 // A file's puzzle, its first call's byte, and how many calls it has; or zeros, and the number that refuses the file (11) or its puzzle.
 #[repr(C)]
-#[derive(Drop)]
+#[derive(Clone, Copy)]
 pub struct Opened {
     pub code: u8,
     pub puzzle: Puzzle,
@@ -25,7 +26,7 @@ pub struct Opened {
 }
 
 // What a call left: the puzzle, and how many bytes its line has.
-#[derive(Drop)]
+#[derive(Clone, Copy)]
 pub struct Turn {
     pub puzzle: Puzzle,
     pub len: usize,
@@ -34,7 +35,7 @@ pub struct Turn {
 // What a list of calls left: the puzzle, the byte behind the last call, how many calls were done, and how many bytes their lines have;
 // code 6 where the buffer is too short for them.
 #[repr(C)]
-#[derive(Drop)]
+#[derive(Clone, Copy)]
 pub struct Ran {
     pub code: u8,
     pub puzzle: Puzzle,

@@ -1,5 +1,6 @@
 // The room count (`CityCountConstraint`): a room graph with its count and a ledger over its edges. Making, stroke, decide, undo and ask on a
 // record by value; the check itself works on lent slices.
+#![tactic(auto)]
 ghost use Rattle.std.specs.Prelude.{◌≡◌, ◌≤◌, length, eqb};
 ghost use Rattle.std.proofs.lemmas.List.Edits.{sets};
 ghost use Rattle.limits.specs.Limits.{most_cells, most_borders};
@@ -17,7 +18,7 @@ use ledger::Book;
 
 // Edge i is between the vertices us[i] and vs[i]; the first `edges` places count. The book is over the edges.
 #[repr(C)]
-#[derive(Drop)]
+#[derive(Clone, Copy)]
 pub struct CityCountConstraint {
     pub vertices: usize,
     pub edges: usize,
@@ -29,7 +30,7 @@ pub struct CityCountConstraint {
 
 // A room graph with the number of the question that refuses: 0 where the making or call was accepted.
 #[repr(C)]
-#[derive(Drop)]
+#[derive(Clone, Copy)]
 pub struct Decided {
     pub code: u8,
     pub room: CityCountConstraint,

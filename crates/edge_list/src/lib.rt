@@ -1,4 +1,5 @@
 // A room graph made of a lent list of edge records, over the making from two slices of numbers.
+#![tactic(auto)]
 ghost use Rattle.std.specs.Prelude.{◌≡◌, ◌≤◌, take};
 ghost use Rattle.city_count.specs.Room.{make_of};
 ghost use Rattle.edge_list.specs.EdgeList.{held_of, firsts, seconds};
@@ -7,7 +8,7 @@ use city_count::Decided;
 
 // An edge between two vertices.
 #[repr(C)]
-#[derive(Drop)]
+#[derive(Clone, Copy)]
 pub struct Edge {
     pub u: u16,
     pub v: u16,

@@ -1,5 +1,6 @@
 // All right boards that extend a started puzzle, by a search that chooses the next border and tries its two values. A branch ends only where
 // an ask finds a fault.
+#![tactic(auto)]
 ghost use Rattle.std.specs.Prelude.{◌≡◌, ◌+◌, ◌*◌, ◌≤◌, length, take};
 ghost use Rattle.lists.specs.Lists.{count};
 ghost use Rattle.enumerate.specs.Boards.{places_code, listing, boards_of};
@@ -12,14 +13,14 @@ use puzzle::{Answer, Puzzle};
 const UNDECIDED: usize = 24;
 
 // What is answered: how many boards were written and whether there are more, or refused with the question's number.
-#[derive(Drop)]
+#[derive(Clone, Copy)]
 pub enum Boards {
     Listed(usize, bool),
     Refused(u8),
 }
 
 // How many boards may be written and are, and whether there is one more.
-#[derive(Drop)]
+#[derive(Clone, Copy)]
 struct Tally {
     cap: usize,
     count: usize,
@@ -27,14 +28,14 @@ struct Tally {
 }
 
 // A board's size, and the border whose values are tried.
-#[derive(Drop)]
+#[derive(Clone, Copy)]
 struct Trial {
     grid: Grid,
     border: usize,
 }
 
 // What a search starts with: a board's size, how many of the places given are given walls and clues, and how many boards may be written.
-#[derive(Drop)]
+#[derive(Clone, Copy)]
 struct Start {
     grid: Grid,
     given: usize,

@@ -1,5 +1,6 @@
 // Examples: what the program prints for the case files of data/, beside the file's name. Those whose names tell a seed, a size and a count of
 // calls are what the generator draws from these.
+#![tactic(auto)]
 use libc::STDOUT_FILENO;
 
 // Answers whether all is out.

@@ -1,6 +1,7 @@
 // The public calls for programs in Rust and C, each a thin wrapper with its call's contract. A record goes in and comes back
 // by value, laid out as in C; a slice is a pointer and a length, a lent board or puzzle a pointer. An enum does not cross: it
 // is handed over as numbers.
+#![tactic(auto)]
 mod boards;
 mod boundaries;
 mod cases;

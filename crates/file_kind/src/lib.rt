@@ -1,4 +1,5 @@
 // What kind of file stands at a path. It is asked before a file is opened: the open of a named pipe waits for the pipe's other end.
+#![tactic(auto)]
 ghost use Rattle.libc.specs.Io.{Ended};
 
 use libc::PATH_MAX;
@@ -6,7 +7,7 @@ use libc::types::{stat, timespec};
 
 const LAST: usize = PATH_MAX - 1;
 
-#[derive(Drop)]
+#[derive(Clone, Copy)]
 pub enum Kind {
     Regular,
     Folder,

@@ -1,4 +1,5 @@
 // What is wrong with a case file: the first part, from the front, that is not as SPEC 5.1 to 5.3 have it, and at which byte.
+#![tactic(auto)]
 ghost use Rattle.std.specs.Prelude.{◌≡◌};
 ghost use Rattle.case_file.specs.Sound.{decode_of};
 ghost use Rattle.flaws.specs.Flaws.{flaw_of, part_of, lists_of, calls_of, call_of, behind_of, count_of, is_sound, sound_of};
@@ -6,7 +7,7 @@ ghost use Rattle.flaws.specs.Flaws.{flaw_of, part_of, lists_of, calls_of, call_o
 use case_file::{File, Span, Step};
 
 // A number is the byte at which the part stands; the count of given walls stands at byte 5 of every file.
-#[derive(Drop)]
+#[derive(Clone, Copy)]
 pub enum Flaw {
     // None: the file is sound.
     Nothing,

@@ -1,5 +1,6 @@
 // Case files drawn from a seed, so that a run can be made again: calls that a generator of 32 bits picks, on a puzzle without given walls
 // and with one room without a clue.
+#![tactic(auto)]
 ghost use Rattle.std.specs.Prelude.{◌≡◌, ◌+◌, ◌≤◌, ◌<◌, length};
 ghost use Rattle.std.proofs.lemmas.List.Edits.{sets};
 ghost use Rattle.lists.specs.Lists.{gather};
@@ -18,7 +19,7 @@ const HEAD: usize = 13;
 const CALLS: usize = 59990;
 
 // A call that was drawn, and the state after it.
-#[derive(Drop)]
+#[derive(Clone, Copy)]
 struct Drawn {
     call: Call,
     state: u32,

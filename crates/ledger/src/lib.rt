@@ -1,5 +1,6 @@
 // The standing ledger, for boards, puzzles and room graphs alike: what a record keeps of its strokes, whether that holds together (question 2), which
 // number refuses a stroke or an undo, and how a stroke is placed and taken back. Arrays are lent one at a time and changed where they stand.
+#![tactic(auto)]
 ghost use Rattle.std.specs.Prelude.{◌≡◌, true, ◌+◌, ◌-◌, ◌*◌, ◌/◌, ◌%◌, ◌≤◌, ◌<◌, length, take, drop, replicate, eqb};
 ghost use Rattle.std.proofs.lemmas.List.Edits.{sets};
 ghost use Rattle.limits.specs.Limits.{most_borders};
@@ -11,7 +12,7 @@ ghost use Rattle.ledger.specs.Marks.{fits_of, Marked, LentBook, fit_all, given_i
 // What a record keeps of its ledger: a state for each border, and the first `len` names of decided borders in order. A name is twice its border,
 // and one more where a stroke starts with it.
 #[repr(C)]
-#[derive(Drop)]
+#[derive(Clone, Copy)]
 pub struct Book {
     pub states: [u8; limits::BORDERS],
     pub names: [u16; limits::BORDERS],

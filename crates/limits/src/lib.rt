@@ -1,4 +1,5 @@
 // The numbers that bound every record: how many cells, borders and entries there can be, and the number that stands for no clue.
+#![tactic(auto)]
 
 // Cells of a board of 32 by 32, and vertices of a room graph or a union.
 pub const CELLS: usize = 1024;

@@ -1,4 +1,5 @@
 // Lines: what the program prints for each call, ended by a line feed, as bytes in a lent buffer.
+#![tactic(auto)]
 ghost use Rattle.std.specs.Prelude.{◌≡◌, ◌+◌, ◌*◌, ◌≤◌, ◌<◌, length};
 ghost use Rattle.std.proofs.lemmas.List.Edits.{sets};
 ghost use Rattle.answers.specs.Answers.{listed_of, written};
@@ -8,7 +9,7 @@ ghost use Rattle.lines.specs.Line.{spaced_of, shape_of, room_of, refused_of, lin
 use answers::Listed;
 
 // What a call had for an answer. A fault's entries come beside it.
-#[derive(Drop)]
+#[derive(Clone, Copy)]
 pub enum Line {
     Decided,
     Undone,

@@ -1,11 +1,12 @@
 // A stroke and an undo on a book's arrays where they stand: what the calls on lent boards and puzzles share, once questions 1 and 2 are answered.
+#![tactic(auto)]
 ghost use Rattle.std.specs.Prelude.{◌≡◌};
 ghost use Rattle.ledger.specs.Ledger.{decisions, stroke_code, undo_code};
 ghost use Rattle.ledger.specs.Books.{book, state_at, placed, taken};
 ghost use Rattle.moves.specs.Moves.{Held, HeldBook, Moves};
 
 // What such a call answers: the number of the question that refuses it, or 0, and how many names the ledger has then.
-#[derive(Drop)]
+#[derive(Clone, Copy)]
 pub struct Moved {
     pub code: u8,
     pub len: usize,

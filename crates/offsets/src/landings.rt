@@ -13,7 +13,7 @@ use grid::{Beyond, Direction, Grid};
 use lists::wide;
 
 // The entry of a landing that fails.
-#[derive(Drop)]
+#[derive(Clone, Copy)]
 pub enum Fail {
     Nowhere,
     At(u16),

@@ -7,14 +7,14 @@ ghost use Rattle.offsets.specs.Places.{ahead_of, coordinate_of, border_of, borde
 
 use grid::{Beyond, Direction, Grid};
 
-#[derive(Drop)]
+#[derive(Clone, Copy)]
 pub struct Place {
     pub y: i32,
     pub x: i32,
 }
 
 // Where a border lands: on a border of the board, or outside it.
-#[derive(Drop)]
+#[derive(Clone, Copy)]
 pub enum Landing {
     Border(usize),
     Outside,

@@ -8,7 +8,7 @@ use grid::Grid;
 use lists::wide;
 
 // A unit's number, and the rows and columns from which and to which its first cell goes.
-#[derive(Drop)]
+#[derive(Clone, Copy)]
 pub struct Shift {
     pub unit: u16,
     pub from_row: usize,
@@ -17,7 +17,7 @@ pub struct Shift {
     pub to_col: usize,
 }
 
-#[derive(Drop)]
+#[derive(Clone, Copy)]
 pub enum Fall {
     Off,
     On(usize),

@@ -1,4 +1,5 @@
 // Path lists (`reason_for_path`): the borders by which a first-in first-out search joins two cells.
+#![tactic(auto)]
 ghost use Rattle.std.specs.Prelude.{◌≡◌, List, ℕ, ◌*◌, ◌≤◌, length};
 ghost use Rattle.std.proofs.lemmas.List.Edits.{sets};
 ghost use Rattle.path.specs.Path.{look as look_of, look_all, search as search_of, path_of, path_list};
@@ -15,7 +16,7 @@ use limits::CELLS;
 const NEW: usize = CELLS;
 
 // A cell of a board of this size.
-#[derive(Drop)]
+#[derive(Clone, Copy)]
 struct Place {
     grid: Grid,
     cell: usize,

@@ -1,4 +1,5 @@
 // The program: reads a case file, runs its calls and prints a line for each as it goes. It ends at the first line that can't be written.
+#![tactic(auto)]
 ghost use Rattle.program.specs.Printing.{Prints};
 
 use case_run::Opened;
@@ -7,7 +8,7 @@ use lines::Line;
 use puzzle::Puzzle;
 
 // The puzzle after the calls whose lines are out, how many these are, and whether they are all.
-#[derive(Drop)]
+#[derive(Clone, Copy)]
 struct Printed {
     puzzle: Puzzle,
     done: usize,

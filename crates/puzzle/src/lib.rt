@@ -1,4 +1,5 @@
 // The puzzle: a board with given walls and a clue for each room, which joins the shape check to a count for each clued room.
+#![tactic(auto)]
 ghost use Rattle.std.specs.Prelude.{◌≡◌, ◌≤◌, length, take};
 ghost use Rattle.limits.specs.Limits.{most_borders, most_cells};
 ghost use Rattle.grid.specs.Grid.{border_count};
@@ -19,7 +20,7 @@ use room_checks::Counted;
 // The board has the given walls as Wall; its ledger names none of them. The first `given_len` places of `given` are the given walls,
 // the first `clues_len` of `clues` the clues.
 #[repr(C)]
-#[derive(Drop)]
+#[derive(Clone, Copy)]
 pub struct Puzzle {
     pub board: Board,
     pub given: [u16; limits::BORDERS],
@@ -30,21 +31,21 @@ pub struct Puzzle {
 
 // A puzzle with a question's number: 0 where the making or call was accepted.
 #[repr(C)]
-#[derive(Drop)]
+#[derive(Clone, Copy)]
 pub struct Made {
     pub code: u8,
     pub puzzle: Puzzle,
 }
 
 // Which check found a fault: the shape check, or the count of a room with its number.
-#[derive(Drop)]
+#[derive(Clone, Copy)]
 pub enum Check {
     Shape,
     Room(usize),
 }
 
 // What an ask answers: clear, a fault with the check that found it and its list's length, or refused with the question's number.
-#[derive(Drop)]
+#[derive(Clone, Copy)]
 pub enum Answer {
     Clear,
     Fault(Check, usize),
@@ -52,7 +53,7 @@ pub enum Answer {
 }
 
 // A puzzle's size, and how much of its arrays counts.
-#[derive(Drop)]
+#[derive(Clone, Copy)]
 pub struct Counts {
     pub grid: Grid,
     pub len: usize,

@@ -1,4 +1,5 @@
 // Why the program stops: one line each on standard error. What can't be written there is left out, and changes nothing else.
+#![tactic(auto)]
 ghost use Rattle.io.specs.Counts.{IsPrefixLen};
 
 use case_file::Span;

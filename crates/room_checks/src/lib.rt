@@ -1,4 +1,5 @@
 // The counts of a puzzle's clued rooms, in their order: the first that fails, and its list.
+#![tactic(auto)]
 ghost use Rattle.std.specs.Prelude.{◌≡◌, ◌<◌, length, get_or};
 ghost use Rattle.borders.specs.Border.{state_of};
 ghost use Rattle.groups.specs.Lent.{InTurn};
@@ -12,14 +13,14 @@ use lists::wide;
 use rooms::Miscount;
 
 // What the counts of the rooms find: nothing, or the room whose count fails, and whether its list has Walls (true) or Connected borders.
-#[derive(Drop)]
+#[derive(Clone, Copy)]
 enum Checked {
     Nothing,
     At(usize, bool),
 }
 
 // What the counts answer: clear, or the room whose count fails and its list's length.
-#[derive(Drop)]
+#[derive(Clone, Copy)]
 pub enum Counted {
     Clear,
     Fault(usize, usize),

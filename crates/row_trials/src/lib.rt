@@ -1,5 +1,6 @@
 // Whether a unit fits somewhere, decided a row of offsets at a time: bit x of a word speaks of the offset that puts the unit's first cell on
 // column x of a row.
+#![tactic(auto)]
 ghost use Rattle.std.specs.Prelude.{◌≡◌, ◌+◌, ◌≤◌, length, take};
 ghost use Rattle.grid.specs.Grid.{row as row_of};
 ghost use Rattle.shape.specs.Shape.{head_or0};
@@ -15,7 +16,7 @@ use offsets::table;
 
 // A unit's own potential unit, the offsets at which all its cells stay in their rows, how many rows it spans after the first, and how many
 // codes it has for its cells and for its borders.
-#[derive(Drop)]
+#[derive(Clone, Copy)]
 pub struct Coded {
     pub own: usize,
     pub on: u64,

@@ -1,5 +1,6 @@
 // Ported from `UnionFind`: vertices that are joined part by part. Each vertex names a parent, a root names itself, and two
 // vertices are in one part when their chains of parents end at one root.
+#![tactic(auto)]
 ghost use Rattle.std.specs.Prelude.{◌≡◌, ◌≤◌, ◌<◌};
 ghost use Rattle.std.proofs.lemmas.List.Edits.{sets};
 ghost use Rattle.limits.specs.Limits.{most_cells};
@@ -13,21 +14,21 @@ use lists::wide;
 
 // The first `n` places of `parent` are the vertices; what stands behind them is no part of the record.
 #[repr(C)]
-#[derive(Drop)]
+#[derive(Clone, Copy)]
 pub struct UnionFind {
     pub parent: [u16; CELLS],
     pub n: usize,
 }
 
 #[repr(C)]
-#[derive(Drop)]
+#[derive(Clone, Copy)]
 pub struct Made {
     pub code: u8,
     pub union: UnionFind,
 }
 
 #[repr(C)]
-#[derive(Drop)]
+#[derive(Clone, Copy)]
 pub struct Found {
     pub code: u8,
     pub root: usize,
@@ -35,7 +36,7 @@ pub struct Found {
 }
 
 #[repr(C)]
-#[derive(Drop)]
+#[derive(Clone, Copy)]
 pub struct United {
     pub code: u8,
     pub united: bool,

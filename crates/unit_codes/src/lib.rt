@@ -1,5 +1,6 @@
 // A unit as lists of codes, of its cells and of its borders that must land well: each reads a row's word so that one bit of it speaks of
 // one offset.
+#![tactic(auto)]
 ghost use Rattle.std.specs.Prelude.{◌≡◌, ◌+◌, ◌-◌, ◌*◌, ◌≤◌, ◌<◌, length};
 ghost use Rattle.grid.specs.Grid.{border_count};
 ghost use Rattle.boundary.specs.Appended.{Appended};
@@ -12,7 +13,7 @@ use lists::wide;
 use offsets::table;
 
 // A cell of the unit with this first cell, whose inner borders are looked at, or else its Walls and edges.
-#[derive(Drop)]
+#[derive(Clone, Copy)]
 struct Member {
     grid: Grid,
     first: usize,

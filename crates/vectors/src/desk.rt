@@ -9,7 +9,7 @@ use grid::Grid;
 use puzzle::Puzzle;
 use union_find::UnionFind;
 
-#[derive(Drop)]
+#[derive(Clone, Copy)]
 pub struct Desk {
     grid: Grid,
     seed: u32,

@@ -1,4 +1,5 @@
 // Runs the calls of a script and says each one's answer in a line. The file `stdout` has the answers of the Rust to the same calls.
+#![tactic(auto)]
 mod boards;
 mod cases;
 mod desk;

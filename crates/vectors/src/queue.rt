@@ -1,7 +1,7 @@
 // Numbers that wait for a call that takes a list.
 ghost use Rattle.io.specs.Counts.{IsPrefixLen};
 
-#[derive(Drop)]
+#[derive(Clone, Copy)]
 pub struct Queue {
     pub items: [u16; limits::BORDERS],
     pub len: usize,
