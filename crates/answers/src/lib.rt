@@ -1,5 +1,6 @@
 // What calls answer: a list or a refusal; clear, a fault or a refusal; and, inside a check, nothing or a fault. One form for other languages.
 #![tactic(auto)]
+
 ghost use Rattle.std.specs.Prelude.{◌≡◌};
 ghost use Rattle.answers.specs.Answers.{plain_listed, plain_answer};
 

@@ -1,6 +1,7 @@
 // Case files (SPEC 5.1): `sendai.bin`, read where it lies. `decode` finds where its parts stand or says that the file is unsound;
 // `numbers` and `call_at` then read the given walls, the clues and the calls.
 #![tactic(auto)]
+
 ghost use Rattle.std.specs.Prelude.{◌≡◌, ◌+◌, ◌≤◌, ◌<◌, length, drop, get_or};
 ghost use Rattle.answers.specs.Answers.{listed_of, written};
 ghost use Rattle.case_file.specs.Sound.{decode_of, rest_of, numbers_of, call_list_of, call_of};

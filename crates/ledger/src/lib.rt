@@ -1,6 +1,7 @@
 // The standing ledger, for boards, puzzles and room graphs alike: what a record keeps of its strokes, whether that holds together (question 2), which
 // number refuses a stroke or an undo, and how a stroke is placed and taken back. Arrays are lent one at a time and changed where they stand.
 #![tactic(auto)]
+
 ghost use Rattle.std.specs.Prelude.{◌≡◌, true, ◌+◌, ◌-◌, ◌*◌, ◌/◌, ◌%◌, ◌≤◌, ◌<◌, length, take, drop, replicate, eqb};
 ghost use Rattle.std.proofs.lemmas.List.Edits.{sets};
 ghost use Rattle.limits.specs.Limits.{most_borders};

@@ -1,6 +1,7 @@
 // Words of bits, a row of the board in each: bit 32 + x says something of column x, so that a word moved by any number of columns is
 // one shift.
 #![tactic(auto)]
+
 ghost use Rattle.std.specs.Prelude.{◌≡◌, ℕ, ◌+◌, ◌%◌, ◌≤◌, ◌<◌, eqb, length, take};
 ghost use Rattle.lists.specs.Choice.{both, either};
 ghost use Rattle.lists.specs.Lists.{all, any};
