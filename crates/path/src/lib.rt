@@ -1,5 +1,6 @@
 // Path lists (`reason_for_path`): the borders by which a first-in first-out search joins two cells.
 #![tactic(auto)]
+
 ghost use Rattle.std.specs.Prelude.{◌≡◌, List, ℕ, ◌*◌, ◌≤◌, length};
 ghost use Rattle.std.proofs.lemmas.List.Edits.{sets};
 ghost use Rattle.path.specs.Path.{look as look_of, look_all, search as search_of, path_of, path_list};
