@@ -9,25 +9,25 @@ use Rattle.case_file.proofs.NumberLaws.{copying_next, copied, number_in, number_
 use Rattle.case_file.proofs.numbers.Goals as goal
 
 pub returns-then-buffer-n : goal.returns-then-buffer-n
-returns-then-buffer-n c = rw (lt-leb (length (numbers_at c.args.file.now c.args.list.at c.args.list.count)) (length c.args.buffer.now) (omega (arith, c.if-buffer-n.true, c.reach-n.ensures))) (refl, refl)
+returns-then-buffer-n c = rw (lt-leb (length (numbers_at c.args.file.now c.args.list.at c.args.list.count)) (length c.args.buffer.now) (omega (arith, c.if-buffer-n.true, c.reach-n.ensures))) record { value = refl; buffer_after = refl }
 
 pub loop-k-init : goal.loop-k-init
 loop-k-init c = record { within = omega arith; long = refl; left = refl }
 
 pub overflow_mul-k : goal.overflow_mul-k
-overflow_mul-k c = omega (arith, (let the-inside : let s = (c.before.before.before) in s.args.list.at + 2 * c.loop-k.k + 1 < length s.args.file.now = let a = c.args in number_in a.file.now a.list.at a.list.count c.loop-k.k (let the-below : c.loop-k.k < length (numbers_at c.args.file.now c.args.list.at c.args.list.count) = omega (arith, c.loop-k-test.true, c.reach-n.ensures) in the-below) in the-inside))
+overflow_mul-k c = omega (arith, (let the-inside : c.args.list.at + 2 * c.loop-k.k + 1 < length c.args.file.now = let a = c.args in number_in a.file.now a.list.at a.list.count c.loop-k.k (let the-below : c.loop-k.k < length (numbers_at c.args.file.now c.args.list.at c.args.list.count) = omega (arith, c.loop-k-test.true, c.reach-n.ensures) in the-below) in the-inside))
 
 pub overflow_add-at : goal.overflow_add-at
-overflow_add-at c = omega (arith, (let the-inside : let s = (c.before.before.before) in s.args.list.at + 2 * c.loop-k.k + 1 < length s.args.file.now = let a = c.args in number_in a.file.now a.list.at a.list.count c.loop-k.k (let the-below : c.loop-k.k < length (numbers_at c.args.file.now c.args.list.at c.args.list.count) = omega (arith, c.loop-k-test.true, c.reach-n.ensures) in the-below) in the-inside))
+overflow_add-at c = omega (arith, (let the-inside : c.args.list.at + 2 * c.loop-k.k + 1 < length c.args.file.now = let a = c.args in number_in a.file.now a.list.at a.list.count c.loop-k.k (let the-below : c.loop-k.k < length (numbers_at c.args.file.now c.args.list.at c.args.list.count) = omega (arith, c.loop-k-test.true, c.reach-n.ensures) in the-below) in the-inside))
 
 pub word-requires : goal.word-requires
-word-requires c = (let the-inside : let s = (c.before.before.before) in s.args.list.at + 2 * c.loop-k.k + 1 < length s.args.file.now = let a = c.args in number_in a.file.now a.list.at a.list.count c.loop-k.k (let the-below : c.loop-k.k < length (numbers_at c.args.file.now c.args.list.at c.args.list.count) = omega (arith, c.loop-k-test.true, c.reach-n.ensures) in the-below) in the-inside)
+word-requires c = (let the-inside : c.args.list.at + 2 * c.loop-k.k + 1 < length c.args.file.now = let a = c.args in number_in a.file.now a.list.at a.list.count c.loop-k.k (let the-below : c.loop-k.k < length (numbers_at c.args.file.now c.args.list.at c.args.list.count) = omega (arith, c.loop-k-test.true, c.reach-n.ensures) in the-below) in the-inside)
 
 pub overflow_cast-buffer : goal.overflow_cast-buffer
 overflow_cast-buffer c = omega (arith, c.word.ensures.1)
 
 pub offset_bounds-buffer-k : goal.offset_bounds-buffer-k
-offset_bounds-buffer-k c = omega (arith, (let the-inside : let s = (c.before.before.before) in s.args.list.at + 2 * c.loop-k.k + 1 < length s.args.file.now = let a = c.args in number_in a.file.now a.list.at a.list.count c.loop-k.k (let the-below : c.loop-k.k < length (numbers_at c.args.file.now c.args.list.at c.args.list.count) = omega (arith, c.loop-k-test.true, c.reach-n.ensures) in the-below) in the-inside))
+offset_bounds-buffer-k c = omega (arith, (let the-inside : c.args.list.at + 2 * c.loop-k.k + 1 < length c.args.file.now = let a = c.args in number_in a.file.now a.list.at a.list.count c.loop-k.k (let the-below : c.loop-k.k < length (numbers_at c.args.file.now c.args.list.at c.args.list.count) = omega (arith, c.loop-k-test.true, c.reach-n.ensures) in the-below) in the-inside))
 
 pub bounds-buffer-k : goal.bounds-buffer-k
 bounds-buffer-k c = omega (arith, (let the-below : c.loop-k.k < length (numbers_at c.args.file.now c.args.list.at c.args.list.count) = omega (arith, c.loop-k-test.true, c.reach-n.ensures) in the-below), c.if-buffer-n.false, c.reach-n.ensures, c.loop-k.invariant.long)
