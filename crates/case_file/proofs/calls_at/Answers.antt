@@ -21,8 +21,7 @@ returns-in_default c =
 
 pub loop-k-preserved : goal.loop-k-preserved
 loop-k-preserved c =
-    let g = c.behind-1.given in
-    walking_next c.loop-k.invariant c.loop-k-test.true g.0.0 g.0.1.0 (sym g.1 ∙ c.call_at.ensures)
+    walking_next c.loop-k.invariant c.loop-k-test.true c.in-Call.field-0 c.in-Call.behind (sym c.in-Call.is ∙ c.call_at.ensures)
 
 pub returns : goal.returns
 returns c =

@@ -1,6 +1,7 @@
 -- `case_file::numbers` meets its contract: the invariant `Copying` says what is left, one law a turn and one at the end. Assumes nothing.
-use Prim.Native.Nat.{◌+◌, ◌*◌, ◌<◌}
-use mathlib.Core.Path.{refl, sym, ◌∙◌}
+use Prim.Native.Nat.{ℕ, ◌+◌, ◌*◌, ◌<◌}
+use mathlib.Core.Path.{◌≡◌, refl, sym, ◌∙◌}
+use mathlib.Core.List.{List}
 use native.Mathlib.Omega.{arith}
 use borrow.Author.Tests.{lt-leb}
 use lib.ListN.{length}
@@ -8,38 +9,53 @@ use Rattle.case_file.specs.Layout.{numbers_at}
 use Rattle.case_file.proofs.NumberLaws.{copying_next, copied, number_in, number_at}
 use Rattle.case_file.proofs.numbers.Goals as goal
 
+-- the number of a turn is one of the list, and the file has its two bytes
+below : {n k count : ℕ} → k < n → n ≡ count → k < count
+below h e = omega arith
+
+inside : (file : List ℕ) (at count k : ℕ) {n : ℕ} → k < n → n ≡ length (numbers_at file at count) → at + 2 * k + 1 < length file
+inside file at count k h e = number_in file at count k (below h e)
+
 pub returns-then-buffer-n : goal.returns-then-buffer-n
-returns-then-buffer-n c = rw (lt-leb (length (numbers_at c.args.file.now c.args.list.at c.args.list.count)) (length c.args.buffer.now) (omega (arith, c.if-buffer-n.true, c.reach-n.ensures))) (refl, refl)
+returns-then-buffer-n c =
+    rw
+    (lt-leb (length (numbers_at c.args.file.now c.args.list.at c.args.list.count)) (length c.args.buffer.now) (omega (arith, c.if-buffer-n.true, c.reach-n.ensures)))
+    (record { value = refl; buffer_after = refl })
 
 pub loop-k-init : goal.loop-k-init
 loop-k-init c = record { within = omega arith; long = refl; left = refl }
 
 pub overflow_mul-k : goal.overflow_mul-k
-overflow_mul-k c = omega (arith, (let the-inside : let s = (c.before.before.before) in s.args.list.at + 2 * c.loop-k.k + 1 < length s.args.file.now = let a = c.args in number_in a.file.now a.list.at a.list.count c.loop-k.k (let the-below : c.loop-k.k < length (numbers_at c.args.file.now c.args.list.at c.args.list.count) = omega (arith, c.loop-k-test.true, c.reach-n.ensures) in the-below) in the-inside))
+overflow_mul-k c =
+    omega (arith, inside c.args.file.now c.args.list.at c.args.list.count c.loop-k.k c.loop-k-test.true c.reach-n.ensures)
 
 pub overflow_add-at : goal.overflow_add-at
-overflow_add-at c = omega (arith, (let the-inside : let s = (c.before.before.before) in s.args.list.at + 2 * c.loop-k.k + 1 < length s.args.file.now = let a = c.args in number_in a.file.now a.list.at a.list.count c.loop-k.k (let the-below : c.loop-k.k < length (numbers_at c.args.file.now c.args.list.at c.args.list.count) = omega (arith, c.loop-k-test.true, c.reach-n.ensures) in the-below) in the-inside))
+overflow_add-at c =
+    omega (arith, inside c.args.file.now c.args.list.at c.args.list.count c.loop-k.k c.loop-k-test.true c.reach-n.ensures)
 
 pub word-requires : goal.word-requires
-word-requires c = (let the-inside : let s = (c.before.before.before) in s.args.list.at + 2 * c.loop-k.k + 1 < length s.args.file.now = let a = c.args in number_in a.file.now a.list.at a.list.count c.loop-k.k (let the-below : c.loop-k.k < length (numbers_at c.args.file.now c.args.list.at c.args.list.count) = omega (arith, c.loop-k-test.true, c.reach-n.ensures) in the-below) in the-inside)
+word-requires c = inside c.args.file.now c.args.list.at c.args.list.count c.loop-k.k c.loop-k-test.true c.reach-n.ensures
 
 pub overflow_cast-buffer : goal.overflow_cast-buffer
 overflow_cast-buffer c = omega (arith, c.word.ensures.1)
 
 pub offset_bounds-buffer-k : goal.offset_bounds-buffer-k
-offset_bounds-buffer-k c = omega (arith, (let the-inside : let s = (c.before.before.before) in s.args.list.at + 2 * c.loop-k.k + 1 < length s.args.file.now = let a = c.args in number_in a.file.now a.list.at a.list.count c.loop-k.k (let the-below : c.loop-k.k < length (numbers_at c.args.file.now c.args.list.at c.args.list.count) = omega (arith, c.loop-k-test.true, c.reach-n.ensures) in the-below) in the-inside))
+offset_bounds-buffer-k c =
+    omega (arith, inside c.args.file.now c.args.list.at c.args.list.count c.loop-k.k c.loop-k-test.true c.reach-n.ensures)
 
 pub bounds-buffer-k : goal.bounds-buffer-k
-bounds-buffer-k c = omega (arith, (let the-below : c.loop-k.k < length (numbers_at c.args.file.now c.args.list.at c.args.list.count) = omega (arith, c.loop-k-test.true, c.reach-n.ensures) in the-below), c.if-buffer-n.false, c.reach-n.ensures, c.loop-k.invariant.long)
+bounds-buffer-k c = omega (arith, c.loop-k-test.true, c.if-buffer-n.false, c.reach-n.ensures, c.loop-k.invariant.long)
 
 pub loop-k-preserved : goal.loop-k-preserved
 loop-k-preserved c =
     let a = c.args in
-    copying_next c.loop-k.invariant c.word.result (let the-below : c.loop-k.k < length (numbers_at c.args.file.now c.args.list.at c.args.list.count) = omega (arith, c.loop-k-test.true, c.reach-n.ensures) in the-below)
-    (c.word.ensures.0 ∙ sym (number_at a.file.now a.list.at a.list.count c.loop-k.k (let the-below : c.loop-k.k < length (numbers_at c.args.file.now c.args.list.at c.args.list.count) = omega (arith, c.loop-k-test.true, c.reach-n.ensures) in the-below)))
+    copying_next c.loop-k.invariant c.word.result (below c.loop-k-test.true c.reach-n.ensures)
+    (c.word.ensures.0 ∙ sym (number_at a.file.now a.list.at a.list.count c.loop-k.k (below c.loop-k-test.true c.reach-n.ensures)))
 
 pub shape_of-buffer : goal.shape_of-buffer
 shape_of-buffer c = c.loop-k.invariant.long
 
 pub returns : goal.returns
-returns c = let w = copied c.loop-k.invariant c.reach-n.ensures c.loop-k-test.false c.if-buffer-n.false in record { value = w.0; buffer_after = w.1 }
+returns c =
+    let w = copied c.loop-k.invariant c.reach-n.ensures c.loop-k-test.false c.if-buffer-n.false in
+    record { value = w.0; buffer_after = w.1 }
