@@ -1,5 +1,6 @@
 // The board (`BoardManager`): a size around a book. Making, stroke, decide and undo on a record by value, and whether a record holds together.
 #![tactic(auto)]
+
 ghost use Rattle.std.specs.Prelude.{◌≡◌, length};
 ghost use Rattle.limits.specs.Limits.{most_borders};
 ghost use Rattle.ledger.specs.Ledger.{decisions};

@@ -1,6 +1,7 @@
 // Row words of a board's borders: where Walls stand, and where Connected borders, so that the borders of a unit are tried on a row of
 // offsets at once.
 #![tactic(auto)]
+
 ghost use Rattle.std.specs.Prelude.{◌+◌, ◌-◌, ◌*◌, ◌≤◌, length};
 ghost use Rattle.border_words.specs.Sides.{BorderWords};
 ghost use Rattle.border_words.specs.Filled.{Borders, Run, Filling, Filled, Unfilled};

@@ -1,5 +1,6 @@
 // The states of a board's borders, and the entries that list them.
 #![tactic(auto)]
+
 ghost use Rattle.std.specs.Prelude.{◌≡◌, ◌<◌};
 ghost use Rattle.borders.specs.Entry.{entry_of};
 

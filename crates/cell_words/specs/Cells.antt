@@ -32,7 +32,7 @@ pub record Marking (g : Grid) (table marks : List ℕ) (y : ℕ) : Type 0 where
   pub limits : Limits g
   pub table_of : Table g table
   pub marks_long : (c : ℕ) → Cell g c → potential_in table c < length marks
-  pub row_in_lem : y < g.height
+  pub row_in : y < g.height
 
 -- exactly the potential units adjacent to p are marked
 pub record Stamping (g : Grid) (states table marks : List ℕ) (p : ℕ) : Type 0 where

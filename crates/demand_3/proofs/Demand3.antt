@@ -110,7 +110,7 @@ module _ (h w : ℕ) (given clues : List ℕ) (made : (make_of h w given clues).
                 absurd (omega (arith, there, state_outside h w given clues accepted (ledger_after h w given calls) (reached_calls calls).stood.sound (l / 2) k)))
                 (λ (k : l / 2 < border_count (grid h w)). k)
                 (le_or_lt (border_count (grid h w)) (l / 2));
-            not_given_lem = (o.listed l m).1;
+            not_given = (o.listed l m).1;
           }
 
       -- the parts would be accepted as one stroke

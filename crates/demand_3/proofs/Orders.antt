@@ -36,7 +36,7 @@ entry_state l =
 -- the entry's border exists and is not given
 pub record Free (n : ℕ) (given : ℕ → Bool) (l : ℕ) : Type 0 where
   pub inside : l / 2 < n
-  pub not_given_lem : given (l / 2) ≡ false
+  pub not_given : given (l / 2) ≡ false
 
 -- no two entries have one border
 abbrev pub Apart : List ℕ → Type 0

@@ -47,7 +47,7 @@ pub record OnConnected (Nb : Relation) (s S : States) (f : ℕ) (T : ℕ → ℕ
   pub puts_a : T a x
   pub shut : (b e : ℕ) → T b y → Nb a b e → s e ≡ 2
   pub lands : Nb x y e'
-  pub is_connected_lem : S e' ≡ 1
+  pub is_connected : S e' ≡ 1
 
 abbrev pub Fails : Relation → States → States → ℕ → (ℕ → ℕ → Type 0) → Type 0
 Fails Nb s S f T = OnWall Nb s S f T ⊎ OnConnected Nb s S f T

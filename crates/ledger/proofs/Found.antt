@@ -167,7 +167,7 @@ module _ (n : ℕ) (given : ℕ → Bool) (b : Book) (q : book_holds n given b �
       record {
         names =
             record {
-              in_turn_lem = start_le b.names b.len;
+              in_turn = start_le b.names b.len;
               long = omega (arith, len_le, p.few, p.names_are);
               places = λ i h.
                   let e : get_or (names_in b) i 0 < n = (question n given b q).inside (get_or (names_in b) i 0) (get_d_in 0 (names_in b) i (let k : i < length (names_in b) = omega (arith, size) in k)) in

@@ -56,7 +56,7 @@ pub record Unmarked (n : ℕ) (m : List ℕ) : Type 0 where
 
 -- the names from `from` up to `len` are there, and each names a border that has a place
 pub record Named (l : List ℕ) (from len : ℕ) : Type 0 where
-  pub in_turn_lem : from ≤ len
+  pub in_turn : from ≤ len
   pub long : len ≤ length l
   pub places : (i : ℕ) → i < len → half (get_or l i 0) < most_borders
 

@@ -1,5 +1,6 @@
 // A stroke and an undo on a book's arrays where they stand: what the calls on lent boards and puzzles share, once questions 1 and 2 are answered.
 #![tactic(auto)]
+
 ghost use Rattle.std.specs.Prelude.{◌≡◌};
 ghost use Rattle.ledger.specs.Ledger.{decisions, stroke_code, undo_code};
 ghost use Rattle.ledger.specs.Books.{book, state_at, placed, taken};

@@ -81,13 +81,13 @@ fell_off (some y) q = absurd (let z : ◌≡◌ {A = ℕ} 0 1 = cc in omega arit
 
 -- the row and the column on which a cell falls are the board's, and moved as the first cell is
 pub record Fell (g : Grid) (s : Shift) (y x c : ℕ) : Type 0 where
-  pub row_to_lem : ℕ
-  pub col_to_lem : ℕ
-  pub row_in_lem : row_to_lem < g.height
-  pub col_in_lem : col_to_lem < g.width
-  pub row_moves : y + s.to_row ≡ row_to_lem + s.from_row
-  pub col_moves : x + s.to_col ≡ col_to_lem + s.from_col
-  pub number : c ≡ row_to_lem * g.width + col_to_lem
+  pub row_to : ℕ
+  pub col_to : ℕ
+  pub row_in : row_to < g.height
+  pub col_in : col_to < g.width
+  pub row_moves : y + s.to_row ≡ row_to + s.from_row
+  pub col_moves : x + s.to_col ≡ col_to + s.from_col
+  pub number : c ≡ row_to * g.width + col_to
 
 module _ (g : Grid) (s : Shift) (y x c : ℕ) where
   pub fell : moved g s y x ≡ some c → Fell g s y x c
@@ -98,7 +98,7 @@ module _ (g : Grid) (s : Shift) (y x c : ℕ) where
       let m = through_some (along g.width s.from_col s.to_col x) (λ a. some (k.0 * g.width + a)) c k.2 in
       let r = along_lt g.height s.from_row s.to_row y k.0 k.1 in
       let t = along_lt g.width s.from_col s.to_col x m.0 m.1 in
-      record { row_to_lem = k.0; col_to_lem = m.0; row_in_lem = r.0; col_in_lem = t.0; row_moves = r.1; col_moves = t.1; number = sym (some-injective _ _ m.2) }
+      record { row_to = k.0; col_to = m.0; row_in = r.0; col_in = t.0; row_moves = r.1; col_moves = t.1; number = sym (some-injective _ _ m.2) }
 
   pub fell_cell : Fell g s y x c → Cell g c
   fell_cell f =

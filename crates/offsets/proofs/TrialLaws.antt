@@ -118,7 +118,7 @@ module _ {g : Grid} {states table marks cs : List ℕ} {t : ℕ} (r : Trial g st
       }
 
   reaching : Reaching g table marks cs s
-  reaching = record { small = small; table_of = p.table_of; on_board_lem = on_board_lem; marks_long = p.marks_long }
+  reaching = record { small = small; table_of = p.table_of; on_board = on_board_lem; marks_long = p.marks_long }
 
   u_cells : u.cells ≡ cs
   unfolding unit_of
@@ -172,7 +172,7 @@ module _ {g : Grid} {states table marks cs : List ℕ} {t : ℕ} (r : Trial g st
         small = small;
         table_of = p.table_of;
         states_long = p.states_long;
-        on_board_lem = on_board_lem;
+        on_board = on_board_lem;
         falls = λ c i. let o = holds_true (moved g s (row g c) (col g c)) (λ x. not (eqb (get_or ids x 0) unit)) (all_true (falls_off g s ids) cs k.0 c i) in (o.0, o.1);
       }
 

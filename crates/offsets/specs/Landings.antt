@@ -72,5 +72,5 @@ pub record Falling (g : Grid) (states table cs : List ℕ) (s : Shift) : Type 0 
   pub small : Small g s 0 0
   pub table_of : Table g table
   pub states_long : border_count g ≤ length states
-  pub on_board_lem : (c : ℕ) → In c cs → Cell g c
+  pub on_board : (c : ℕ) → In c cs → Cell g c
   pub falls : (c : ℕ) → In c cs → (z : ℕ) × (moved g s (row g c) (col g c) ≡ some z)

@@ -34,7 +34,7 @@ pub record Small (g : Grid) (s : Shift) (y x : ℕ) : Type 0 where
 pub record Reaching (g : Grid) (table marks cs : List ℕ) (s : Shift) : Type 0 where
   pub small : Small g s 0 0
   pub table_of : Table g table
-  pub on_board_lem : (c : ℕ) → In c cs → Cell g c
+  pub on_board : (c : ℕ) → In c cs → Cell g c
   pub marks_long : (c : ℕ) → Cell g c → potential_in table c < length marks
 
 -- c falls on the board and off the unit

@@ -29,7 +29,7 @@ use Rattle.puzzle.specs.Puzzle.{grid_of, book_of, borders_of, given_of, clues_of
 pub record Ready (p : Puzzle) : Type 0 where
   pub limits : Limits (grid_of p)
   pub given_fits : p.given_len ≤ most_borders
-  pub clues_fit_lem : p.clues_len ≤ most_cells
+  pub clues_fit : p.clues_len ≤ most_cells
   pub lists : lists_code (grid_of p) (given_of p) (clues_of p) ≡ 0
   pub holds : book_holds (borders_of p) (is_given (given_of p)) (book_of p) ≡ true
 
@@ -69,7 +69,7 @@ module _ (p : Puzzle) where
           let x = both_true _ _ q in
           let y = both_true _ _ x.0 in
           let z = both_true _ _ y.0 in
-          record { limits = l; given_fits = leb-true _ _ z.0; clues_fit_lem = leb-true _ _ z.1; lists = eqb-true _ _ y.1; holds = x.1 }
+          record { limits = l; given_fits = leb-true _ _ z.0; clues_fit = leb-true _ _ z.1; lists = eqb-true _ _ y.1; holds = x.1 }
 
       go : (a : Bool) → sizes_ok (grid_of p) ≡ a → (b : Bool) → together p ≡ b → ◌≡◌ {A = ℕ} (pick a (pick b 0 2) 1) 0 → Ready p
       go true s true q z = facts (limits (grid_of p) s) q

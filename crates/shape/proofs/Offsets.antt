@@ -39,7 +39,7 @@ use Rattle.shape.proofs.Moves.{Moves}
 -- u is the unit of its first cell
 pub record IsUnit (g : Grid) (ids pids : List ℕ) (u : UnitInfo) : Type 0 where
   pub in_unit : (c : ℕ) → In c u.cells → Cell g c × (get_or ids c 0 ≡ u.number)
-  pub unit_in_lem : (c : ℕ) → Cell g c → get_or ids c 0 ≡ u.number → In c u.cells
+  pub unit_in : (c : ℕ) → Cell g c → get_or ids c 0 ≡ u.number → In c u.cells
   pub cell : Cell g u.first
   pub id : get_or ids u.first 0 ≡ u.number
   pub own : u.own ≡ get_or pids u.first 0
@@ -335,7 +335,7 @@ module _ (g : Grid) (states ids pids : List ℕ) (m n : ℕ)
                   (λ (z : eqb (state_at g states d c) 2 ≡ true). eqb-true (state_at g states d c) 2 z)
                   (either_true (not (goes_on g d c)) (eqb (state_at g states d c) 2) x.2);
               lands = (d, step');
-              is_connected_lem = stands_connected S (border g d x.0) (rw x.4 at stood);
+              is_connected = stands_connected S (border g d x.0) (rw x.4 at stood);
             }
 
         landing_fails : landing g states ids u put ≡ some l → Fails Nb s S u.first T

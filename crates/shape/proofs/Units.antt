@@ -87,7 +87,7 @@ module _ (g : Grid) (states ids pids : List ℕ) (m n : ℕ)
       let c = lu.used k l in
       let cs = cells_of g ids k in
       let f = in_cells g ids k (head_or0 cs) (head_in cs c.0 (cells_in_lem g ids k c.0 c.1 c.2)) in
-      record { in_unit = in_cells g ids k; unit_in_lem = cells_in_lem g ids k; cell = f.0; id = f.1; own = refl }
+      record { in_unit = in_cells g ids k; unit_in = cells_in_lem g ids k; cell = f.0; id = f.1; own = refl }
 
   adjacent_cell : (f q : ℕ) → Cell g f → Adjacent Nb s f q → Cell g q
   adjacent_cell f q l (inl j) = chain_cell g (λ e. state_of states e ≢ 2) l j

@@ -6,7 +6,7 @@ use Rattle.ledger.proofs.StrokeLoops.{clear_turn, clear_end}
 use Rattle.ledger.proofs.clear_states.Goals as goal
 
 pub loop-i-init : goal.loop-i-init
-loop-i-init c = (omega arith, c.requires.1.in_turn_lem, c.requires.0, refl)
+loop-i-init c = (omega arith, c.requires.1.in_turn, c.requires.0, refl)
 
 pub offset_bounds-names-i : goal.offset_bounds-names-i
 offset_bounds-names-i c = omega (arith, c.requires.1.long)

@@ -22,7 +22,9 @@ returns-then-marks-e-ne0 c =
     marks_fail c.args.n c.args.entries.now c.args.marks.now c.requires.entries_value c.requires.unmarked.marks_long c.requires.unmarked.marks_free c.loop-i.marks c.loop-i.i c.loop-i.invariant.2 c.loop-i-test.true (rw c.border_of-e.ensures at c.if-marks-e-ne0.true)
 
 pub bounds-marks-e-in-loop-i : goal.bounds-marks-e-in-loop-i
-bounds-marks-e-in-loop-i c = bounds-marks-e c.before
+bounds-marks-e-in-loop-i c =
+    let e : c.border_of-e.result < c.args.n = rw c.border_of-e.ensures (entry_below c.args.entries.now c.loop-i.i c.args.n c.requires.entries_value c.loop-i-test.true) in
+    omega (arith, e, c.requires.unmarked.marks_long, c.loop-i.invariant.1)
 
 pub loop-i-preserved : goal.loop-i-preserved
 loop-i-preserved c =

@@ -24,7 +24,10 @@ bounds-marks-e c =
     omega (arith, c.loop-i.invariant.same, c.requires.n_in_bounds.0)
 
 pub bounds-marks-e-in-loop-i : goal.bounds-marks-e-in-loop-i
-bounds-marks-e-in-loop-i c = bounds-marks-e c.before
+bounds-marks-e-in-loop-i c =
+    let b = sym c.inside.ensures ∙ c.if-not-inside.false in
+    let e : c.border_of-e.result < c.args.n = name_below c.args.names.now c.args.len c.requires.len_in_bounds c.args.n c.loop-i.i c.border_of-e.result c.loop-i-test.true c.border_of-e.ensures b in
+    omega (arith, c.loop-i.invariant.same, c.requires.n_in_bounds.0)
 
 pub loop-i-preserved : goal.loop-i-preserved
 loop-i-preserved c =

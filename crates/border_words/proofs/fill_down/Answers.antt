@@ -1,0 +1,29 @@
+-- `border_words::fill_down` meets its contract: the loop's invariant is that the words of the rows so far are made. Assumes nothing.
+use native.Mathlib.Omega.{arith}
+use Rattle.grid.proofs.Geometry.{below_le}
+use Rattle.border_words.proofs.FillLaws.{fill_start, fill_turn, fill_end, down_run}
+use Rattle.border_words.proofs.fill_down.Goals as goal
+
+pub overflow_mul-below : goal.overflow_mul-below
+overflow_mul-below c = omega (arith, below_le _ c.requires.filling.limits)
+
+pub loop-y-init : goal.loop-y-init
+loop-y-init c = fill_start _ _ _ _
+
+pub overflow_mul-y : goal.overflow_mul-y
+overflow_mul-y c = omega (arith, (down_run c.requires.filling _ c.loop-y-test.true).small)
+
+pub overflow_add-below : goal.overflow_add-below
+overflow_add-below c = omega (arith, (down_run c.requires.filling _ c.loop-y-test.true).small)
+
+pub side_word-requires : goal.side_word-requires
+side_word-requires c = down_run c.requires.filling _ c.loop-y-test.true
+
+pub loop-y-preserved : goal.loop-y-preserved
+loop-y-preserved c = fill_turn _ _ _ _ (omega arith) (omega arith) c.loop-y.invariant c.side_word.ensures
+
+pub shape_of-words : goal.shape_of-words
+shape_of-words c = c.loop-y.invariant.filled.long
+
+pub returns : goal.returns
+returns c = fill_end _ _ _ _ (omega arith) c.loop-y.invariant
