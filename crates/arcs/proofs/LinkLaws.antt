@@ -80,7 +80,7 @@ module _ (A : List Edge) (n k : ℕ) (head next to : List ℕ) (w : Linked A n k
   leads c j h o =
       let q = old c j h o in
       let e : get_or to' j 0 ≡ get_or to j 0 = get_or-set_other to k j v 0 (omega (arith, before c j h q)) in
-      inr (rw e (w.sound c j h q))
+      inr (subst (λ (x : ℕ). Has A c x) (sym e) (w.sound c j h q))
 
   new_sound : (c j : ℕ) → c < n → OnList next' (get_or head' c 0) j → Has (edge u v ∷ A) c (get_or to' j 0)
   new_sound c j h o =
@@ -92,7 +92,7 @@ module _ (A : List Edge) (n k : ℕ) (head next to : List ℕ) (w : Linked A n k
       inl (rw (i, to_here, q)))
       (λ (y : (l : ℕ) × (get_or head' c 0 ≡ suc l) × OnList next' (get_or next' l 0) j).
       let i : y.0 ≡ k = omega (arith, y.1, ap (λ x. get_or head' x 0) q, head_here) in
-      rw q (leads u j hu (rw (i, next_here) at y.2)))
+      subst (λ (x : ℕ). Has (edge u v ∷ A) x (get_or to' j 0)) (sym q) (leads u j hu (rw (i, next_here) at y.2)))
       (on_cases next' (get_or head' c 0) j o))
       (λ (z : c ≢ u). leads c j h (rw (head_other c z) at o))
       (eq_or_ne c u)

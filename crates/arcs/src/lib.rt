@@ -1,5 +1,6 @@
 // The lists of arcs of a graph, one list a vertex, and the walk over them: a walk calls itself, and a sweep counts the walks, one a part.
 #![tactic(auto)]
+
 ghost use Rattle.std.specs.Prelude.{◌≡◌, ◌+◌, ◌<◌, get_or, set};
 ghost use Rattle.limits.specs.Limits.{most_cells};
 ghost use Rattle.arcs.specs.Walk.{Walk, Walked, Sweep, Counted};

@@ -7,7 +7,6 @@ use mathlib.Core.List.{List, [], ◌∷◌}
 use mathlib.Core.Option.{Option, none, some}
 use native.Mathlib.Omega.{arith}
 use borrow.Author.Tests.{eq-eqb, ne_eqb, le-leb, lt-leb, leb-true}
-use denote.Enum.Declared.{tag_of}
 use lib.Dec.{leb}
 use lib.ListN.{length}
 use lib.Seq.{sets}
@@ -18,7 +17,6 @@ use Rattle.answers.specs.declared.Found.{Found}
 use Rattle.answers.specs.declared.Found.TheVariants as case_found
 use Rattle.answers.specs.declared.Answer.TheVariants as case_answer
 use Rattle.answers.specs.Answers.{answer_of, written, found, found_of, Told}
-use Rattle.answers.specs.contracts.Found.{the_type}
 use Rattle.ledger.specs.declared.Book.{Book}
 use Rattle.ledger.specs.Ledger.{decisions, stroke_code, first_code}
 use Rattle.ledger.specs.Books.{zeros, none_given, state_at, book_holds}
@@ -152,12 +150,12 @@ module _ (r : CityCountConstraint) (code : ℕ) (q : code ≡ room_code r) where
           says none e = absurd (let z : ◌≡◌ {A = ℕ} 0 1 = cc in omega arith)
           says (some l) e = let q : n ≡ length l = cc in ap case_answer.Fault q
 
-      pub ask_clear : tag_of the_type f ≡ 0 → (case_answer.Clear ≡ answer_of (ask_of r (length buffer))) × (buffer' ≡ written (ask_of r (length buffer)) buffer)
+      pub ask_clear : ((n : ℕ) → f ≡ case_found.Fault n → ⊥) → (case_answer.Clear ≡ answer_of (ask_of r (length buffer))) × (buffer' ≡ written (ask_of r (length buffer)) buffer)
       ask_clear e = (rw asked (says (fault_of r) f e t.answer), stored)
         where
-          says : (o : Option (List ℕ)) (f : Found) → tag_of the_type f ≡ 0 → f ≡ found_of o → case_answer.Clear ≡ answer_of (found o)
+          says : (o : Option (List ℕ)) (f : Found) → ((n : ℕ) → f ≡ case_found.Fault n → ⊥) → f ≡ found_of o → case_answer.Clear ≡ answer_of (found o)
           says none f e k = refl
-          says (some l) f e k = absurd (let z : ◌≡◌ {A = ℕ} 1 0 = rw k at e in omega arith)
+          says (some l) f e k = absurd (e (length l) k)
 
 -- an ask of a record that holds together, with a long enough buffer
 pub ask_accepted : (r : CityCountConstraint) (places : ℕ) → room_code r ≡ 0 → r.edges ≤ places → ask_of r places ≡ found (fault_of r)

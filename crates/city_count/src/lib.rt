@@ -1,6 +1,7 @@
 // The room count (`CityCountConstraint`): a room graph with its count and a ledger over its edges. Making, stroke, decide, undo and ask on a
 // record by value; the check itself works on lent slices.
 #![tactic(auto)]
+
 ghost use Rattle.std.specs.Prelude.{◌≡◌, ◌≤◌, length, eqb};
 ghost use Rattle.std.proofs.lemmas.List.Edits.{sets};
 ghost use Rattle.limits.specs.Limits.{most_cells, most_borders};

@@ -1,5 +1,6 @@
 // A room graph made of a lent list of edge records, over the making from two slices of numbers.
 #![tactic(auto)]
+
 ghost use Rattle.std.specs.Prelude.{◌≡◌, ◌≤◌, take};
 ghost use Rattle.city_count.specs.Room.{make_of};
 ghost use Rattle.edge_list.specs.EdgeList.{held_of, firsts, seconds};

@@ -2,6 +2,7 @@
 // by a union, and how many there are when only Walls part vertices, counted by a walk that calls itself. Bounds tell where the union or the
 // walk can be left out.
 #![tactic(auto)]
+
 ghost use Rattle.std.specs.Prelude.{◌≡◌, ◌-◌, ◌≤◌, ◌<◌, ltb, length};
 ghost use Rattle.limits.specs.Limits.{most_cells, most_borders};
 ghost use Rattle.lists.specs.Choice.{both, pick};

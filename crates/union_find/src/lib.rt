@@ -1,6 +1,7 @@
 // Ported from `UnionFind`: vertices that are joined part by part. Each vertex names a parent, a root names itself, and two
 // vertices are in one part when their chains of parents end at one root.
 #![tactic(auto)]
+
 ghost use Rattle.std.specs.Prelude.{◌≡◌, ◌≤◌, ◌<◌};
 ghost use Rattle.std.proofs.lemmas.List.Edits.{sets};
 ghost use Rattle.limits.specs.Limits.{most_cells};
