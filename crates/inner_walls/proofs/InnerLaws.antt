@@ -1,12 +1,11 @@
 -- One Wall of the stage of inner Walls, by what the code tests. Assumes nothing.
 use Prim.Native.Nat.{ℕ, suc, ◌+◌, ◌*◌, ◌<◌}
 use mathlib.Core.Path.{◌≡◌, sym}
-use mathlib.Core.Logic.{◌⊎◌, ◌≢◌}
+use mathlib.Core.Logic.{◌≢◌}
 use mathlib.Core.List.{List, [], ◌∷◌, ◌++◌}
 use mathlib.Core.Option.{some}
 use native.Mathlib.Omega.{arith}
 use borrow.Author.Tests.{eq-eqb, ne_eqb}
-use denote.Enum.Declared.{tag_of}
 use lib.ListN.{get_or, length, set, length-append}
 use lib.Seq.{sets}
 use Rattle.limits.specs.Limits.{most_borders}
@@ -17,7 +16,6 @@ use Rattle.grid.specs.declared.Beyond.TheVariants.{At}
 use Rattle.grid.specs.declared.Grid.{Grid}
 use Rattle.grid.specs.Grid.{Cell, cells, step_of}
 use Rattle.grid.specs.Steps.{Step}
-use Rattle.grid.specs.contracts.Beyond.{the_type}
 use Rattle.grid.proofs.Geometry.{goes_step, border_lt, border_count_le}
 use Rattle.borders.specs.Entry.{wall_entry}
 use Rattle.borders.specs.Border.{state_at, stands}
@@ -37,7 +35,7 @@ sets_last [] b at x = let q : at + 0 ≡ at = omega arith in rw q
 sets_last (y ∷ xs) b at x = let q : at + suc (length xs) ≡ suc at + length xs = omega arith in rw q (sets_last xs (set b at y) (suc at) x)
 
 module _ {g : Grid} {states ids b : List ℕ} (a : Asked g states ids b) {c : ℕ} (cell : Cell g c) (d : Direction) {r : Beyond} (is : r ≡ step_of g d c) where
-  pub at_end : (tag_of the_type r ≡ 1) ⊎ (tag_of the_type r ≡ 2) → Told (inner_at g states ids c d) b b Nothing
+  pub at_end : ((x e : ℕ) → r ≡ At x e → ⊥) → Told (inner_at g states ids c d) b b Nothing
   unfolding inner_at give stands
   at_end k = told_nothing (rw (end_told g d c is k))
 

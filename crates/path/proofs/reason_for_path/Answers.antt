@@ -46,5 +46,4 @@ list-requires c =
 
 pub returns : goal.returns
 returns c =
-    let a = c.args in
-    rw (answered a.b a.start a.target _ c.check_parts-code.result c.check_parts-code.ensures c.if-code-ne0.false c.if-cells-start.false c.if-cells-target.false c.if-buffer-cells.false) c.list.ensures
+    let a = c.args in record { value = rw (answered a.b a.start a.target _ c.check_parts-code.result c.check_parts-code.ensures c.if-code-ne0.false c.if-cells-start.false c.if-cells-target.false c.if-buffer-cells.false) c.list.ensures.value; buffer_after = rw (answered a.b a.start a.target _ c.check_parts-code.result c.check_parts-code.ensures c.if-code-ne0.false c.if-cells-start.false c.if-cells-target.false c.if-buffer-cells.false) c.list.ensures.buffer_after }
