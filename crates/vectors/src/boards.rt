@@ -4,40 +4,41 @@ use crate::script::Command;
 use crate::{queue, say};
 use answers::Plain;
 use board::{Board, Decided};
+use std::io::Stdout;
 
 // Says the number of a call, and keeps its board.
-fn kept(d: Decided) -> Board {
-    say::code(d.code);
+fn kept(out: Stdout, d: Decided) -> Board {
+    say::code(out, d.code);
     d.board
 }
 
 // A stroke of the entries that wait.
-pub fn stroke(b: Board, q: Queue) -> Board {
+pub fn stroke(out: Stdout, b: Board, q: Queue) -> Board {
     let entries = q.items;
     let n = queue::within(&entries, q.len);
-    kept(board::stroke(b, &entries[..n]))
+    kept(out, board::stroke(b, &entries[..n]))
 }
 
 // The groups of n cells: each cell's group, the cells in turn and the starts.
-fn say_groups(b: Board, is_potential: bool, n: usize) {
+fn say_groups(out: Stdout, b: Board, is_potential: bool, n: usize) {
     let mut cells = [0u16; limits::CELLS];
     let g = groups::compute_connected_components(b, is_potential, &mut cells);
     let i = g.info;
-    say::number(g.code as usize);
-    say::numbers(&i.ids, n);
-    say::text(b";");
-    say::numbers(&cells, n);
-    say::text(b";");
-    say::numbers(&i.starts, i.count);
-    say::text(b"\n");
+    say::number(out, g.code as usize);
+    say::numbers(out, &i.ids, n);
+    say::text(out, b";");
+    say::numbers(out, &cells, n);
+    say::text(out, b";");
+    say::numbers(out, &i.starts, i.count);
+    say::text(out, b"\n");
 }
 
 // The cells that are handed out for a group.
-fn say_group(b: Board, is_potential: bool, group: usize) {
+fn say_group(out: Stdout, b: Board, is_potential: bool, group: usize) {
     let mut cells = [0u16; limits::CELLS];
     let g = groups::compute_connected_components(b, is_potential, &mut cells);
     let part = groups::group(g.info, &cells, group);
-    say::listing(part.len(), part, part.len());
+    say::listing(out, part.len(), part, part.len());
 }
 
 // A list of a board, or its fault.
@@ -51,28 +52,28 @@ fn list(b: Board, c: Command, buffer: &mut [u16]) -> Plain {
     }
 }
 
-fn ask(b: Board, c: Command) {
+fn ask(out: Stdout, b: Board, c: Command) {
     let call = c.call;
     match call {
-        b'r' => say::record(&b.book.states, c.x, &b.book.names, b.book.len),
-        b'g' => say_groups(b, c.y == 1, c.x),
-        b'h' => say_group(b, c.y == 1, c.x),
+        b'r' => say::record(out, &b.book.states, c.x, &b.book.names, b.book.len),
+        b'g' => say_groups(out, b, c.y == 1, c.x),
+        b'h' => say_group(out, b, c.y == 1, c.x),
         _ => {
             let mut buffer = [0u16; limits::ENTRIES];
             let a = list(b, c, &mut buffer);
-            say::plain(a, &buffer);
+            say::plain(out, a, &buffer);
         }
     }
 }
 
-pub fn call(b: Board, c: Command) -> Board {
+pub fn call(out: Stdout, b: Board, c: Command) -> Board {
     let call = c.call;
     match call {
-        b'm' => kept(board::make(c.x, c.y)),
-        b'd' => kept(board::decide(b, c.x, c.y == 2)),
-        b'u' => kept(board::undo(b)),
+        b'm' => kept(out, board::make(c.x, c.y)),
+        b'd' => kept(out, board::decide(b, c.x, c.y == 2)),
+        b'u' => kept(out, board::undo(b)),
         _ => {
-            ask(b, c);
+            ask(out, b, c);
             b
         }
     }

@@ -2,6 +2,7 @@
 use crate::{queue, say};
 use answers::Plain;
 use grid::Grid;
+use std::io::Stdout;
 
 // A seed by its upper and its lower 16 bits.
 pub fn seed(high: usize, low: usize) -> u32 {
@@ -15,8 +16,8 @@ fn generate_lent(seed: u32, g: Grid, count: usize, bytes: usize, buffer: &mut [u
 }
 
 // The buffer takes files of some hundred calls.
-pub fn say_file(seed: u32, g: Grid, count: usize, bytes: usize) {
+pub fn say_file(out: Stdout, seed: u32, g: Grid, count: usize, bytes: usize) {
     let mut buffer = [0u8; limits::BORDERS];
     let a = generate_lent(seed, g, count, bytes, &mut buffer);
-    say::file(a, &buffer);
+    say::file(out, a, &buffer);
 }

@@ -7,6 +7,7 @@ use board::Board;
 use city_count::CityCountConstraint;
 use grid::Grid;
 use puzzle::Puzzle;
+use std::io::Stdout;
 use union_find::UnionFind;
 
 #[derive(Clone, Copy)]
@@ -49,7 +50,7 @@ pub fn fresh() -> Desk {
 }
 
 // A size is taken as it comes; its neighbours are asked.
-pub fn on_grid(d: Desk, c: Command) -> Desk {
+pub fn on_grid(out: Stdout, d: Desk, c: Command) -> Desk {
     let mut next = d;
     if c.call == b'm' {
         let g = Grid {
@@ -57,62 +58,62 @@ pub fn on_grid(d: Desk, c: Command) -> Desk {
             width: c.y,
         };
         next.grid = g;
-        say::code(0);
+        say::code(out, 0);
         return next;
     }
-    grids::say_neighbour(d.grid, c.x, c.y);
+    grids::say_neighbour(out, d.grid, c.x, c.y);
     next
 }
 
 // A seed is put down, or a case file drawn from it on the size.
-pub fn on_case(d: Desk, c: Command) -> Desk {
+pub fn on_case(out: Stdout, d: Desk, c: Command) -> Desk {
     let mut next = d;
     if c.call == b's' {
         next.seed = cases::seed(c.x, c.y);
-        say::code(0);
+        say::code(out, 0);
         return next;
     }
-    cases::say_file(d.seed, d.grid, c.x, c.y);
+    cases::say_file(out, d.seed, d.grid, c.x, c.y);
     next
 }
 
-pub fn on_board(d: Desk, c: Command) -> Desk {
+pub fn on_board(out: Stdout, d: Desk, c: Command) -> Desk {
     let mut next = d;
     let board = if c.call == b's' {
-        boards::stroke(d.board, d.first)
+        boards::stroke(out, d.board, d.first)
     } else {
-        boards::call(d.board, c)
+        boards::call(out, d.board, c)
     };
     next.board = board;
     next
 }
 
-pub fn on_union(d: Desk, c: Command) -> Desk {
+pub fn on_union(out: Stdout, d: Desk, c: Command) -> Desk {
     let mut next = d;
-    let union = unions::call(d.union, c);
+    let union = unions::call(out, d.union, c);
     next.union = union;
     next
 }
 
-pub fn on_room(d: Desk, c: Command) -> Desk {
+pub fn on_room(out: Stdout, d: Desk, c: Command) -> Desk {
     let mut next = d;
     let call = c.call;
     let room = match call {
-        b'm' => room_graphs::make(c.x, c.y, d.first, d.second),
-        b's' => room_graphs::stroke(d.room, d.first),
-        _ => room_graphs::call(d.room, c),
+        b'm' => room_graphs::make(out, c.x, c.y, d.first, d.second),
+        b's' => room_graphs::stroke(out, d.room, d.first),
+        _ => room_graphs::call(out, d.room, c),
     };
     next.room = room;
     next
 }
 
-pub fn on_puzzle(d: Desk, c: Command) -> Desk {
+pub fn on_puzzle(out: Stdout, d: Desk, c: Command) -> Desk {
     let mut next = d;
     let call = c.call;
     let puzzle = match call {
-        b'm' => puzzles::make(c.x, c.y, d.first, d.second),
-        b's' => puzzles::stroke(d.puzzle, d.first),
-        _ => puzzles::call(d.puzzle, c),
+        b'm' => puzzles::make(out, c.x, c.y, d.first, d.second),
+        b's' => puzzles::stroke(out, d.puzzle, d.first),
+        _ => puzzles::call(out, d.puzzle, c),
     };
     next.puzzle = puzzle;
     next
@@ -126,31 +127,31 @@ fn hand_over_lent(q: Queue, places: usize, buffer: &mut [u16]) -> Plain {
     answers::of_listed(hand_over::hand_over(&items[..n], &mut buffer[..m]))
 }
 
-fn hand_over_list(q: Queue, places: usize) {
+fn hand_over_list(out: Stdout, q: Queue, places: usize) {
     let mut buffer = [0u16; limits::BORDERS];
     let a = hand_over_lent(q, places, &mut buffer);
-    say::plain(a, &buffer);
+    say::plain(out, a, &buffer);
 }
 
 // Both lists are emptied, or get one number more, or the first is handed over.
-pub fn on_lists(d: Desk, c: Command) -> Desk {
+pub fn on_lists(out: Stdout, d: Desk, c: Command) -> Desk {
     let mut next = d;
     let call = c.call;
     match call {
         b'e' => {
             next.first = queue::empty();
             next.second = queue::empty();
-            say::code(0);
+            say::code(out, 0);
         }
         b'f' => {
             next.first = queue::put(d.first, c.x);
-            say::code(0);
+            say::code(out, 0);
         }
         b's' => {
             next.second = queue::put(d.second, c.x);
-            say::code(0);
+            say::code(out, 0);
         }
-        _ => hand_over_list(d.first, c.x),
+        _ => hand_over_list(out, d.first, c.x),
     }
     next
 }

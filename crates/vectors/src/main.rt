@@ -1,5 +1,6 @@
 // Runs the calls of a script and says each one's answer in a line. The file `stdout` has the answers of the Rust to the same calls.
 #![tactic(auto)]
+
 mod boards;
 mod cases;
 mod desk;
@@ -13,47 +14,50 @@ mod unions;
 
 use desk::Desk;
 use script::Command;
+use std::io::Stdout;
 
 // One call, by the record's letter.
-fn step(d: Desk, c: Command) -> Desk {
+fn step(out: Stdout, d: Desk, c: Command) -> Desk {
     let record = c.record;
     match record {
-        b'g' => desk::on_grid(d, c),
-        b'c' => desk::on_case(d, c),
-        b'l' => desk::on_lists(d, c),
-        b'b' => desk::on_board(d, c),
-        b'u' => desk::on_union(d, c),
-        b'r' => desk::on_room(d, c),
-        b'p' => desk::on_puzzle(d, c),
+        b'g' => desk::on_grid(out, d, c),
+        b'c' => desk::on_case(out, d, c),
+        b'l' => desk::on_lists(out, d, c),
+        b'b' => desk::on_board(out, d, c),
+        b'u' => desk::on_union(out, d, c),
+        b'r' => desk::on_room(out, d, c),
+        b'p' => desk::on_puzzle(out, d, c),
         _ => {
-            say::text(b"no such record\n");
+            say::text(out, b"no such record\n");
             d
         }
     }
 }
 
 // Whether the script ends here: at its last line, which says so, or before it.
-fn ended(c: Command) -> bool {
+fn ended(out: Stdout, c: Command) -> bool {
     if c.record == b'.' {
-        say::text(b"end\n");
+        say::text(out, b"end\n");
         return true;
     }
     if c.record == 0 {
-        say::text(b"the script is cut short\n");
+        say::text(out, b"the script is cut short\n");
         return true;
     }
     false
 }
 
-fn main() {
+fn main(rt: HostRuntime) {
+    let input = rt.stdin();
+    let out = rt.stdout();
     let mut d = desk::fresh();
     let mut turns: usize = 0;
     while turns < 100000 {
-        let c = script::next();
-        if ended(c) {
+        let c = script::next(input);
+        if ended(out, c) {
             return;
         }
-        d = step(d, c);
+        d = step(out, d, c);
         turns += 1;
     }
 }

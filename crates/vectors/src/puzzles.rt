@@ -6,40 +6,41 @@ use answers::Plain;
 use enumerate::Boards;
 use grid::Grid;
 use puzzle::{Answer, Check, Made, Puzzle};
+use std::io::Stdout;
 
-fn kept(m: Made) -> Puzzle {
-    say::code(m.code);
+fn kept(out: Stdout, m: Made) -> Puzzle {
+    say::code(out, m.code);
     m.puzzle
 }
 
-pub fn make(height: usize, width: usize, first: Queue, second: Queue) -> Puzzle {
+pub fn make(out: Stdout, height: usize, width: usize, first: Queue, second: Queue) -> Puzzle {
     let given = first.items;
     let clues = second.items;
     let m = queue::within(&given, first.len);
     let n = queue::within(&clues, second.len);
-    kept(puzzle::make(height, width, &given[..m], &clues[..n]))
+    kept(out, puzzle::make(height, width, &given[..m], &clues[..n]))
 }
 
 // A stroke of the entries that wait.
-pub fn stroke(p: Puzzle, q: Queue) -> Puzzle {
+pub fn stroke(out: Stdout, p: Puzzle, q: Queue) -> Puzzle {
     let entries = q.items;
     let n = queue::within(&entries, q.len);
-    kept(puzzle::stroke(p, &entries[..n]))
+    kept(out, puzzle::stroke(p, &entries[..n]))
 }
 
 // Which check found a fault.
-fn say_check(check: Check) {
+fn say_check(out: Stdout, check: Check) {
     match check {
-        Check::Shape => say::text(b"shape "),
+        Check::Shape => say::text(out, b"shape "),
         Check::Room(room) => {
-            say::text(b"room ");
-            say::number(room);
-            say::text(b" ");
+            say::text(out, b"room ");
+            say::number(out, room);
+            say::text(out, b" ");
         }
     }
 }
 
-fn of_answer(answer: Answer) -> Plain {
+fn of_answer(out: Stdout, answer: Answer) -> Plain {
     match answer {
         Answer::Clear => Plain {
             code: 0,
@@ -47,7 +48,7 @@ fn of_answer(answer: Answer) -> Plain {
             length: 0,
         },
         Answer::Fault(check, length) => {
-            say_check(check);
+            say_check(out, check);
             Plain {
                 code: 0,
                 fault: true,
@@ -63,20 +64,20 @@ fn of_answer(answer: Answer) -> Plain {
 }
 
 // An ask that is lent so many places.
-fn ask_lent(p: Puzzle, places: usize, buffer: &mut [u16]) -> Plain {
+fn ask_lent(out: Stdout, p: Puzzle, places: usize, buffer: &mut [u16]) -> Plain {
     let n = queue::within(buffer, places);
-    of_answer(puzzle::ask(p, &mut buffer[..n]))
+    of_answer(out, puzzle::ask(p, &mut buffer[..n]))
 }
 
-fn ask(p: Puzzle, places: usize) {
+fn ask(out: Stdout, p: Puzzle, places: usize) {
     let mut buffer = [0u16; limits::ENTRIES];
-    let a = ask_lent(p, places, &mut buffer);
-    say::plain(a, &buffer);
+    let a = ask_lent(out, p, places, &mut buffer);
+    say::plain(out, a, &buffer);
 }
 
-fn say_record(p: Puzzle, n: usize) {
+fn say_record(out: Stdout, p: Puzzle, n: usize) {
     let b = p.board;
-    say::record(&b.book.states, n, &b.book.names, b.book.len);
+    say::record(out, &b.book.states, n, &b.book.names, b.book.len);
 }
 
 // How many digits a board has. A size beyond the limits has none, and its puzzle is refused anyway.
@@ -87,12 +88,12 @@ fn borders(g: Grid) -> usize {
     grid::border_count(g)
 }
 
-fn say_listed(count: usize, more: bool, boards: &[u8], g: Grid) {
-    say::number(0);
-    say::spaced(count);
-    say::spaced(if more { 1 } else { 0 });
-    say::words(boards, count, borders(g));
-    say::text(b"\n");
+fn say_listed(out: Stdout, count: usize, more: bool, boards: &[u8], g: Grid) {
+    say::number(out, 0);
+    say::spaced(out, count);
+    say::spaced(out, if more { 1 } else { 0 });
+    say::words(out, boards, count, borders(g));
+    say::text(out, b"\n");
 }
 
 // The right boards, lent so many bytes.
@@ -102,29 +103,29 @@ fn boards_lent(p: Puzzle, cap: usize, bytes: usize, buffer: &mut [u8]) -> Boards
 }
 
 // The buffer takes a board of the largest size, or many small ones.
-fn say_boards(p: Puzzle, cap: usize, bytes: usize) {
+fn say_boards(out: Stdout, p: Puzzle, cap: usize, bytes: usize) {
     let mut buffer = [0u8; limits::BORDERS];
     match boards_lent(p, cap, bytes, &mut buffer) {
-        Boards::Listed(count, more) => say_listed(count, more, &buffer, p.board.grid),
-        Boards::Refused(code) => say::code(code),
+        Boards::Listed(count, more) => say_listed(out, count, more, &buffer, p.board.grid),
+        Boards::Refused(code) => say::code(out, code),
     }
 }
 
-pub fn call(p: Puzzle, c: Command) -> Puzzle {
+pub fn call(out: Stdout, p: Puzzle, c: Command) -> Puzzle {
     let call = c.call;
     match call {
-        b'd' => kept(puzzle::decide(p, c.x, c.y == 2)),
-        b'u' => kept(puzzle::undo(p)),
+        b'd' => kept(out, puzzle::decide(p, c.x, c.y == 2)),
+        b'u' => kept(out, puzzle::undo(p)),
         b'r' => {
-            say_record(p, c.x);
+            say_record(out, p, c.x);
             p
         }
         b'b' => {
-            say_boards(p, c.x, c.y);
+            say_boards(out, p, c.x, c.y);
             p
         }
         _ => {
-            ask(p, c.x);
+            ask(out, p, c.x);
             p
         }
     }

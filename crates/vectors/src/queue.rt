@@ -1,5 +1,5 @@
 // Numbers that wait for a call that takes a list.
-ghost use Rattle.io.specs.Counts.{IsPrefixLen};
+ghost use Rattle.std.specs.Prelude.{◌≡◌, ◌≤◌, length, take};
 
 #[derive(Clone, Copy)]
 pub struct Queue {
@@ -38,7 +38,7 @@ pub fn put(q: Queue, x: usize) -> Queue {
 
 // How many of n numbers the list has.
 pub fn within(list: &[u16], n: usize) -> usize
-    ensures { IsPrefixLen result list.now }
+    ensures { (result ≤ length list.now) × (result ≡ length (take result list.now)) }
 {
     if list.len() < n {
         return list.len();
@@ -48,7 +48,7 @@ pub fn within(list: &[u16], n: usize) -> usize
 
 // How many of n bytes the list has.
 pub fn bytes_within(list: &[u8], n: usize) -> usize
-    ensures { IsPrefixLen result list.now }
+    ensures { (result ≤ length list.now) × (result ≡ length (take result list.now)) }
 {
     if list.len() < n {
         return list.len();

@@ -1,28 +1,28 @@
 // Answers as text: a number first, and what the call lists behind it.
 use answers::Plain;
-use libc::STDOUT_FILENO;
+use std::io::Stdout;
 
-pub fn text(text: &[u8]) {
-    io::write_all(STDOUT_FILENO, text);
+pub fn text(out: Stdout, text: &[u8]) {
+    let _ = out.write_all(text);
 }
 
-pub fn number(n: usize) {
-    io::print_decimal(STDOUT_FILENO, n as u64);
+pub fn number(out: Stdout, n: usize) {
+    let _ = out.print(n);
 }
 
-pub fn spaced(n: usize) {
-    text(b" ");
-    number(n);
+pub fn spaced(out: Stdout, n: usize) {
+    text(out, b" ");
+    number(out, n);
 }
 
 // The first n numbers of a list, each after a space.
-pub fn numbers(list: &[u16], n: usize) {
+pub fn numbers(out: Stdout, list: &[u16], n: usize) {
     let mut i = 0;
     while i < n {
         if list.len() <= i {
             return;
         }
-        spaced(lists::wide(list[i]));
+        spaced(out, lists::wide(list[i]));
         i += 1;
     }
 }
@@ -32,27 +32,27 @@ fn wide(x: u8) -> usize {
 }
 
 // The first n bytes of a list, each after a space.
-fn bytes(list: &[u8], n: usize) {
+fn bytes(out: Stdout, list: &[u8], n: usize) {
     let mut i = 0;
     while i < n {
         if list.len() <= i {
             return;
         }
-        spaced(wide(list[i]));
+        spaced(out, wide(list[i]));
         i += 1;
     }
 }
 
 // The n bytes of a list from `from` on, as one word of digits after a space. Answers where the word ends.
-fn word(list: &[u8], from: usize, n: usize) -> usize {
-    text(b" ");
+fn word(out: Stdout, list: &[u8], from: usize, n: usize) -> usize {
+    text(out, b" ");
     let mut at = from;
     let mut left = n;
     while 0 < left {
         if list.len() <= at {
             return at;
         }
-        number(wide(list[at]));
+        number(out, wide(list[at]));
         at += 1;
         left -= 1;
     }
@@ -60,63 +60,63 @@ fn word(list: &[u8], from: usize, n: usize) -> usize {
 }
 
 // The first words of a list, each of n digits.
-pub fn words(list: &[u8], count: usize, n: usize) {
+pub fn words(out: Stdout, list: &[u8], count: usize, n: usize) {
     let mut at = 0;
     let mut left = count;
     while 0 < left {
-        at = word(list, at, n);
+        at = word(out, list, at, n);
         left -= 1;
     }
 }
 
 // A line with a number, and nothing behind it where nothing is listed.
-pub fn listing(first: usize, list: &[u16], n: usize) {
-    number(first);
-    numbers(list, n);
-    text(b"\n");
+pub fn listing(out: Stdout, first: usize, list: &[u16], n: usize) {
+    number(out, first);
+    numbers(out, list, n);
+    text(out, b"\n");
 }
 
-pub fn code(code: u8) {
-    number(code as usize);
-    text(b"\n");
+pub fn code(out: Stdout, code: u8) {
+    number(out, code as usize);
+    text(out, b"\n");
 }
 
 // A number and one value behind it, or two.
-pub fn pair(code: u8, n: usize) {
-    number(code as usize);
-    spaced(n);
-    text(b"\n");
+pub fn pair(out: Stdout, code: u8, n: usize) {
+    number(out, code as usize);
+    spaced(out, n);
+    text(out, b"\n");
 }
 
-pub fn triple(code: u8, n: usize, m: usize) {
-    number(code as usize);
-    spaced(n);
-    spaced(m);
-    text(b"\n");
+pub fn triple(out: Stdout, code: u8, n: usize, m: usize) {
+    number(out, code as usize);
+    spaced(out, n);
+    spaced(out, m);
+    text(out, b"\n");
 }
 
 // What a call that writes a list answered, and the list.
-pub fn plain(a: Plain, list: &[u16]) {
-    number(a.code as usize);
+pub fn plain(out: Stdout, a: Plain, list: &[u16]) {
+    number(out, a.code as usize);
     if a.fault {
-        text(b" fault");
+        text(out, b" fault");
     }
-    numbers(list, a.length);
-    text(b"\n");
+    numbers(out, list, a.length);
+    text(out, b"\n");
 }
 
 // What a call that writes a file answered, and its bytes.
-pub fn file(a: Plain, list: &[u8]) {
-    number(a.code as usize);
-    bytes(list, a.length);
-    text(b"\n");
+pub fn file(out: Stdout, a: Plain, list: &[u8]) {
+    number(out, a.code as usize);
+    bytes(out, list, a.length);
+    text(out, b"\n");
 }
 
 // A record: how many borders are decided, their numbers in turn, and the first n states.
-pub fn record<'a>(states: &'a [u8], n: usize, names: &'a [u16], len: usize) {
-    number(len);
-    numbers(names, len);
-    text(b";");
-    bytes(states, n);
-    text(b"\n");
+pub fn record<'a>(out: Stdout, states: &'a [u8], n: usize, names: &'a [u16], len: usize) {
+    number(out, len);
+    numbers(out, names, len);
+    text(out, b";");
+    bytes(out, states, n);
+    text(out, b"\n");
 }

@@ -1,7 +1,7 @@
 // The script on standard input: a call a line, `bd 00017 00002`: the record, the call, and two numbers of five digits.
 ghost use Rattle.std.specs.Prelude.{◌<◌};
 
-use libc::STDIN_FILENO;
+use std::io::{Read, Stdin};
 
 #[derive(Clone, Copy)]
 pub struct Command {
@@ -51,10 +51,9 @@ fn parsed(line: &[u8]) -> Command {
 }
 
 // The next call. Where the script has no whole line left its record is 0.
-pub fn next() -> Command {
+pub fn next(input: Stdin) -> Command {
     let mut line = [0u8; 15];
-    let n = io::read_full(STDIN_FILENO, &mut line);
-    if n < 15 {
+    if (&input).read_exact(&mut line).is_err() {
         return Command {
             record: 0,
             call: 0,
