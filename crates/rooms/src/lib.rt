@@ -1,6 +1,7 @@
 // The rooms of a puzzle: the cells that are joined when only given walls part cells, and the count of each room over the graph of its cells.
 // A count first finds which side of it fails, if any; another function writes the list.
 #![tactic(auto)]
+
 ghost use Rattle.std.specs.Prelude.{◌≡◌, ◌*◌, ◌%◌, ◌≤◌, eqb, length};
 ghost use Rattle.std.proofs.lemmas.List.Edits.{sets};
 ghost use Rattle.lists.specs.Choice.{pick};
