@@ -11,7 +11,7 @@ use Rattle.lists.proofs.Cases.{eq_or_ne}
 use Rattle.parts.specs.Parts.{Edge, edge, Has, Within}
 use Rattle.parts.specs.Flood.{Link}
 use Rattle.parts.proofs.PartLaws.{edge_ends, ends_edge}
-use Rattle.parts.proofs.PartLists.{within_ends, within}
+use Rattle.parts.proofs.PartLists.{within_ends}
 use Rattle.arcs.specs.Walk.{OnList, here, later, Arcs}
 use Rattle.arcs.proofs.WalkLaws.{on_cases}
 

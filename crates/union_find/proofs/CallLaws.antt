@@ -7,7 +7,7 @@ use borrow.Author.Tests.{lt-ltb, le-ltb, le-leb, lt-leb, ne_eqb, eqb-false, not-
 use lib.Dec.{eqb}
 use Rattle.lists.specs.Choice.{pick}
 use Rattle.lists.proofs.Cases.{le_or_lt}
-use Rattle.union_find.specs.Chains.{shortened, united, hung}
+use Rattle.union_find.specs.Chains.{shortened, hung}
 use Rattle.union_find.specs.UnionFind.{union_of, holds_of, find_of, unite_of}
 use Rattle.union_find.specs.Calls.{root_in}
 use Rattle.union_find.specs.declared.UnionFind.{UnionFind}

@@ -1,6 +1,6 @@
 -- `arcs::walk` meets its contract: one law for each way through a turn. Assumes nothing.
-use Rattle.std.proofs.Common.{◌<◌, arith}
-use Rattle.arcs.proofs.WalkLaws.{try_start, walk_on, some_left, arc_low, arc_on, walk_next, try_pass, try_walk, walk_done}
+use Rattle.std.proofs.Common.{arith}
+use Rattle.arcs.proofs.WalkLaws.{try_start, some_left, arc_low, arc_on, walk_next, try_pass, try_walk, walk_done}
 use Rattle.arcs.proofs.+walk.Goals.{then-seen-v-eq0, else-seen-v-eq0}
 use Rattle.arcs.proofs.+walk.Goals as goal
 

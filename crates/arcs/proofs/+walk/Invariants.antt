@@ -1,6 +1,5 @@
 -- `arcs::walk` meets its contract: `Trying` of the part of u's list that was tried. The measure of the calls is the depth that is
 -- left, that of the loop the arc's number. Assumes nothing.
-use Rattle.std.proofs.Common.{set}
 use Rattle.arcs.proofs.WalkLaws.{Trying}
 use Rattle.arcs.proofs.+walk.Given as goal
 

@@ -1,7 +1,6 @@
 -- `union_find::find_in` meets its contract: one law of `climb` and one of `shortened` for each return. The measure is the depth. Assumes nothing.
 use Rattle.std.proofs.Common.{◌<◌, ◌-◌, sym, ◌∙◌, arith}
 use Rattle.limits.specs.Limits.{most_cells}
-use Rattle.union_find.specs.Chains.{up}
 use Rattle.union_find.proofs.ChainLaws.{climb_none, shortened_none, climb_root, shortened_root, climb_up, shortened_up, stays_here, stays_up}
 use Rattle.union_find.proofs.+find_in.Goals as goal
 
