@@ -1,6 +1,7 @@
 // Row words of cells: those of a unit's own cells, and those of the cells in the potential units adjacent to its own, made from the marks
 // when a row is first needed and kept while the next units have the same potential unit.
 #![tactic(auto)]
+
 ghost use Rattle.std.specs.Prelude.{not, ◌+◌, ◌*◌, ◌≤◌, ◌<◌, eqb, get_or};
 ghost use Rattle.shape.specs.Shape.{head_or0};
 ghost use Rattle.offsets.specs.Table.{unit_in, potential_in, units_in, potentials_in};

@@ -1,5 +1,6 @@
 // The first stage of the shape check: a Wall inside a unit.
 #![tactic(auto)]
+
 ghost use Rattle.std.specs.Prelude.{◌<◌};
 ghost use Rattle.lists.specs.Lists.{first};
 ghost use Rattle.grid.specs.Orders.{forward};

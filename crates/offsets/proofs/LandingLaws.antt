@@ -61,11 +61,11 @@ module _ (g : Grid) (d : Direction) (c : ℕ) where
       go true p q = record { goes = p; next_is = cc; border_is = cc }
       go false p q = absurd (let z : ◌≡◌ {A = ℕ} 0 1 = cc in omega arith)
 
-  pub step_end : (b : Beyond) → (tag_of the_type b ≡ 1) ⊎ (tag_of the_type b ≡ 2) → b ≡ step_of g d c → goes_on g d c ≡ false
+  pub step_end : (b : Beyond) → ((x e : ℕ) → b ≡ At x e → ⊥) → b ≡ step_of g d c → goes_on g d c ≡ false
   step_end b k = go (goes_on g d c) refl b k
     where
-      go : (t : Bool) → goes_on g d c ≡ t → (b : Beyond) → (tag_of the_type b ≡ 1) ⊎ (tag_of the_type b ≡ 2) → b ≡ pick t (At (next g d c) (border g d c)) End → goes_on g d c ≡ false
-      go true p (At n e) k q = absurd (⊎_elim (λ r. omega arith) (λ r. omega arith) k)
+      go : (t : Bool) → goes_on g d c ≡ t → (b : Beyond) → ((x e : ℕ) → b ≡ At x e → ⊥) → b ≡ pick t (At (next g d c) (border g d c)) End → goes_on g d c ≡ false
+      go true p (At n e) k q = absurd (k n e refl)
       go true p End k q = absurd (let z : ◌≡◌ {A = ℕ} 0 1 = cc in omega arith)
       go true p (Refused n) k q = absurd (let z : ◌≡◌ {A = ℕ} 0 1 = cc in omega arith)
       go false p b k q = p

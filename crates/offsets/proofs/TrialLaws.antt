@@ -109,9 +109,9 @@ module _ {g : Grid} {states table marks cs : List ℕ} {t : ℕ} (r : Trial g st
   small =
       record {
         limits = p.limits;
-        from-row = omega (arith, row_lt g f first_cell, p.limits.height_fits);
+        from_row = omega (arith, row_lt g f first_cell, p.limits.height_fits);
         from_col = omega (arith, col_lt g f first_cell, p.limits.width_fits);
-        to-row = omega (arith, row_lt g t r.to_cell, p.limits.height_fits);
+        to_row = omega (arith, row_lt g t r.to_cell, p.limits.height_fits);
         to_col = omega (arith, col_lt g t r.to_cell, p.limits.width_fits);
         row_small = omega arith;
         col_small = omega arith;

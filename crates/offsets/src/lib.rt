@@ -1,5 +1,6 @@
 // One unit at one offset of the shape check: passed over, good, or failed at a landing.
 #![tactic(auto)]
+
 ghost use Rattle.std.specs.Prelude.{◌≡◌};
 ghost use Rattle.grid.specs.Grid.{Cell};
 ghost use Rattle.shape.specs.Shape.{head_or0, is_good};

@@ -1,6 +1,7 @@
 // A unit as lists of codes, of its cells and of its borders that must land well: each reads a row's word so that one bit of it speaks of
 // one offset.
 #![tactic(auto)]
+
 ghost use Rattle.std.specs.Prelude.{◌≡◌, ◌+◌, ◌-◌, ◌*◌, ◌≤◌, ◌<◌, length};
 ghost use Rattle.grid.specs.Grid.{border_count};
 ghost use Rattle.boundary.specs.Appended.{Appended};
