@@ -1,5 +1,6 @@
 // What a puzzle's making asks of its lists, the given walls and the clues: questions 3, 7, 8 and 9.
 #![tactic(auto)]
+
 ghost use Rattle.std.specs.Prelude.{◌≡◌, ◌≤◌, eqb, ltb, leb, length};
 ghost use Rattle.limits.specs.Limits.{no_clue};
 ghost use Rattle.lists.specs.Choice.{either};

@@ -1,12 +1,11 @@
 -- One look from a cell of a room: a law for each way out, the places that are read, and what the answer tells. Assumes nothing.
 use Prim.Native.Nat.{ℕ, ◌<◌}
 use mathlib.Core.Path.{◌≡◌, refl, sym, ◌∙◌}
-use mathlib.Core.Logic.{◌⊎◌, ◌≢◌, ⊎_elim}
+use mathlib.Core.Logic.{◌≢◌}
 use mathlib.Core.Bool.{Bool, true, false}
 use mathlib.Core.List.{List}
 use native.Mathlib.Omega.{arith}
 use borrow.Author.Tests.{eq-eqb, ne_eqb}
-use denote.Enum.Declared.{tag_of}
 use lib.ListN.{length, get_or}
 use Rattle.lists.specs.Choice.{pick}
 use Rattle.grid.specs.declared.Direction.{Direction}
@@ -15,7 +14,6 @@ use Rattle.grid.specs.declared.Beyond.TheVariants.{At, End}
 use Rattle.grid.specs.declared.Grid.{Grid}
 use Rattle.grid.specs.Grid.{cells, goes_on, next, border, step_of}
 use Rattle.grid.specs.Steps.{Step}
-use Rattle.grid.specs.contracts.Beyond.{the_type}
 use Rattle.grid.proofs.Geometry.{goes_step, border_lt}
 use Rattle.grid.proofs.Told.{at_told}
 use Rattle.rooms.specs.RoomGraph.{in_room}
@@ -25,8 +23,8 @@ picked : (t : Bool) (n b x e : ℕ) → pick t (At n b) End ≡ At x e → (t �
 picked true n b x e q = (refl, cc, cc)
 picked false n b x e q = absurd (let z : ◌≡◌ {A = ℕ} 0 1 = cc in omega arith)
 
-not_picked : (t : Bool) (n b : ℕ) → (tag_of the_type (pick t (At n b) End) ≡ 1) ⊎ (tag_of the_type (pick t (At n b) End) ≡ 2) → t ≡ false
-not_picked true n b k = absurd (⊎_elim (λ e. omega arith) (λ e. omega arith) k)
+not_picked : (t : Bool) (n b : ℕ) → ((x e : ℕ) → pick t (At n b) End ≡ At x e → ⊥) → t ≡ false
+not_picked true n b k = absurd (k n b refl)
 not_picked false n b k = refl
 
 -- the edge there, or none
@@ -40,8 +38,8 @@ module _ (g : Grid) (marks vertex : List ℕ) (c : ℕ) (d : Direction) where
   pub edge_told : {b : Beyond} {n e : ℕ} → b ≡ edge_of g marks vertex c d → b ≡ At n e → (in_room g (marked_in marks) (marked_in vertex) c d ≡ true) × (n ≡ next g d c) × (e ≡ border g d c)
   edge_told {n = n} {e = e} p q = picked there (next g d c) (border g d c) n e (sym p ∙ q)
 
-  pub none_told : {b : Beyond} → b ≡ edge_of g marks vertex c d → (tag_of the_type b ≡ 1) ⊎ (tag_of the_type b ≡ 2) → in_room g (marked_in marks) (marked_in vertex) c d ≡ false
-  none_told p k = not_picked there (next g d c) (border g d c) (rw p at k)
+  pub none_told : {b : Beyond} → b ≡ edge_of g marks vertex c d → ((x e : ℕ) → b ≡ At x e → ⊥) → in_room g (marked_in marks) (marked_in vertex) c d ≡ false
+  none_told p k = not_picked there (next g d c) (border g d c) (λ x e q. k x e (p ∙ q))
 
   pub at_end : goes_on g d c ≡ false → End ≡ edge_of g marks vertex c d
   unfolding in_room

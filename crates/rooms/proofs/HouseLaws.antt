@@ -1,11 +1,9 @@
 -- A room's cells, with marks and states for the board's borders: what is read is there, and what a look over the vertices tells. Assumes nothing.
 use Prim.Native.Nat.{ℕ, ◌+◌, ◌*◌, ◌/◌, ◌≤◌, ◌<◌}
 use mathlib.Core.Path.{◌≡◌, ap, sym, ◌∙◌}
-use mathlib.Core.Logic.{◌⊎◌}
 use mathlib.Core.Bool.{true, false, not}
 use mathlib.Core.List.{List}
 use native.Mathlib.Omega.{arith}
-use denote.Enum.Declared.{tag_of}
 use lib.ListN.{length, get_or}
 use Rattle.limits.specs.Limits.{most_cells}
 use Rattle.lists.specs.Choice.{both}
@@ -17,7 +15,6 @@ use Rattle.grid.specs.declared.Beyond.{Beyond}
 use Rattle.grid.specs.declared.Beyond.TheVariants.{At}
 use Rattle.grid.specs.declared.Grid.{Grid}
 use Rattle.grid.specs.Grid.{cells, Cell, goes_on, next, border, border_count}
-use Rattle.grid.specs.contracts.Beyond.{the_type}
 use Rattle.grid.proofs.Geometry.{goes_step, border_lt, cells_le}
 use Rattle.boundary.proofs.BoundaryLaws.{cells_most}
 use Rattle.groups.proofs.GroupLaws.{in_cells}
@@ -89,7 +86,7 @@ module _ (g : Grid) (marks states cs : List ℕ) (w : Housed g marks states cs) 
       over : b ≡ edge_of g marks verts (get_or cs (i / 2) 0) (way_of i)
       over = p ∙ ap (λ x. edge_of g marks x c d) v ∙ ap (λ x. edge_of g marks verts x d) k ∙ ap (edge_of g marks verts (get_or cs (i / 2) 0)) q
 
-      pub none_seen : (tag_of the_type b ≡ 1) ⊎ (tag_of the_type b ≡ 2) → in_room g (marked_in marks) (is_in cs) (get_or cs (i / 2) 0) (way_of i) ≡ false
+      pub none_seen : ((x e : ℕ) → b ≡ At x e → ⊥) → in_room g (marked_in marks) (is_in cs) (get_or cs (i / 2) 0) (way_of i) ≡ false
       none_seen t = sym (room_same (get_or cs (i / 2) 0) (way_of i)) ∙ none_told g marks verts (get_or cs (i / 2) 0) (way_of i) over t
 
       pub seen : {n e : ℕ} → b ≡ At n e → Seen g marks cs vertex i c n e

@@ -1,6 +1,7 @@
 // Whether a unit fits somewhere, decided a row of offsets at a time: bit x of a word speaks of the offset that puts the unit's first cell on
 // column x of a row.
 #![tactic(auto)]
+
 ghost use Rattle.std.specs.Prelude.{◌≡◌, ◌+◌, ◌≤◌, length, take};
 ghost use Rattle.grid.specs.Grid.{row as row_of};
 ghost use Rattle.shape.specs.Shape.{head_or0};

@@ -1,12 +1,11 @@
 -- `rooms::edges` meets its contract: one law of `EdgesLaws` a turn. Assumes nothing.
-use Prim.Native.Nat.{◌<◌}
 use mathlib.Core.Path.{ap}
-use mathlib.Core.Logic.{⊎_elim}
 use native.Mathlib.Omega.{arith}
-use lib.ListN.{length, get_or}
+use lib.ListN.{get_or}
 use Rattle.rooms.specs.Lent.{nowhere}
 use Rattle.rooms.proofs.EdgesLaws.{writing_none, writing_skip, writing_one, writing_all}
-use Rattle.rooms.proofs.HouseLaws.{few, cells_below, looking, Seen, seen, none_seen}
+use Rattle.rooms.proofs.HouseLaws.{few, cells_below, looking, seen, none_seen}
+use Rattle.rooms.proofs.edges.Goals.{in-At, in_default}
 use Rattle.rooms.proofs.edges.Goals as goal
 
 pub number-requires : goal.number-requires
@@ -24,95 +23,73 @@ edge-beyond-requires c =
     looking _ _ _ _ c.requires.housed c.loop-i.i c.loop-i-test.true _ c.number.ensures _ c.wide-cell.ensures
 
 pub offset_bounds-vertex-cell : goal.offset_bounds-vertex-cell
+unfolding nowhere
 offset_bounds-vertex-cell c =
-    let seen-edge : (Seen c.args.g c.args.marks.now c.args.cells.now c.number.last.1.0 c.loop-i.i c.wide-cell.result c.in-At.next c.in-At.border) = seen _ _ _ _ c.requires.housed c.loop-i.i c.loop-i-test.true _ c.number.ensures _ c.wide-cell.ensures _ c.way.ensures c.edge-beyond.ensures c.in-At.is in
-    omega (arith, seen-edge.cell_lt)
+    omega (arith, (seen _ _ _ _ c.requires.housed c.loop-i.i c.loop-i-test.true _ c.number.ensures _ c.wide-cell.ensures _ c.way.ensures c.edge-beyond.ensures c.in-At.is).cell_lt)
 
 pub bounds-vertex-cell : goal.bounds-vertex-cell
+unfolding nowhere
 bounds-vertex-cell c =
-    let seen-edge : (Seen c.args.g c.args.marks.now c.args.cells.now c.number.last.1.0 c.loop-i.i c.wide-cell.result c.in-At.next c.in-At.border) = seen _ _ _ _ c.requires.housed c.loop-i.i c.loop-i-test.true _ c.number.ensures _ c.wide-cell.ensures _ c.way.ensures c.edge-beyond.ensures c.in-At.is in
-    seen-edge.cell_lt
+    (seen _ _ _ _ c.requires.housed c.loop-i.i c.loop-i-test.true _ c.number.ensures _ c.wide-cell.ensures _ c.way.ensures c.edge-beyond.ensures c.in-At.is).cell_lt
 
 pub overflow_sub-us : goal.overflow_sub-us
+unfolding nowhere
 overflow_sub-us c =
-    let seen-edge : (Seen c.args.g c.args.marks.now c.args.cells.now c.number.last.1.0 c.loop-i.i c.wide-cell.result c.in-At.next c.in-At.border) = seen _ _ _ _ c.requires.housed c.loop-i.i c.loop-i-test.true _ c.number.ensures _ c.wide-cell.ensures _ c.way.ensures c.edge-beyond.ensures c.in-At.is in
-    omega (arith, seen-edge.from_is)
+    omega (arith, (seen _ _ _ _ c.requires.housed c.loop-i.i c.loop-i-test.true _ c.number.ensures _ c.wide-cell.ensures _ c.way.ensures c.edge-beyond.ensures c.in-At.is).from_is)
 
 pub offset_bounds-us-m : goal.offset_bounds-us-m
 offset_bounds-us-m c = omega (arith, few _ _ _ _ c.requires.housed, c.loop-i.invariant.few)
 
 pub bounds-us-m : goal.bounds-us-m
 bounds-us-m c =
-    let space : ((c.loop-i.m < length c.loop-i.us) × (c.loop-i.m < length c.loop-i.vs) × (c.loop-i.m < length c.loop-i.here)) = let w = c.loop-i.invariant in
-    let h = few _ _ _ _ c.requires.housed in
-    let l = c.loop-i-test.true in (
-      omega (arith, w.few, w.us_are.long, c.requires.space.us_long),
-      omega (arith, w.few, w.vs_are.long, c.requires.space.vs_long),
-      omega (arith, w.few, w.here_are.long, c.requires.space.here_long),
-    ) in
-    space.0
+    omega (arith, few _ _ _ _ c.requires.housed, c.loop-i-test.true, c.loop-i.invariant.few, c.loop-i.invariant.us_are.long, c.requires.space.us_long)
 
 pub offset_bounds-vertex-next : goal.offset_bounds-vertex-next
+unfolding nowhere
 offset_bounds-vertex-next c =
-    let seen-edge : (Seen c.args.g c.args.marks.now c.args.cells.now c.number.last.1.0 c.loop-i.i c.wide-cell.result c.in-At.next c.in-At.border) = seen _ _ _ _ c.requires.housed c.loop-i.i c.loop-i-test.true _ c.number.ensures _ c.wide-cell.ensures _ c.way.ensures c.edge-beyond.ensures c.in-At.is in
-    omega (arith, seen-edge.next_lt)
+    omega (arith, (seen _ _ _ _ c.requires.housed c.loop-i.i c.loop-i-test.true _ c.number.ensures _ c.wide-cell.ensures _ c.way.ensures c.edge-beyond.ensures c.in-At.is).next_lt)
 
 pub bounds-vertex-next : goal.bounds-vertex-next
+unfolding nowhere
 bounds-vertex-next c =
-    let seen-edge : (Seen c.args.g c.args.marks.now c.args.cells.now c.number.last.1.0 c.loop-i.i c.wide-cell.result c.in-At.next c.in-At.border) = seen _ _ _ _ c.requires.housed c.loop-i.i c.loop-i-test.true _ c.number.ensures _ c.wide-cell.ensures _ c.way.ensures c.edge-beyond.ensures c.in-At.is in
-    seen-edge.next_lt
+    (seen _ _ _ _ c.requires.housed c.loop-i.i c.loop-i-test.true _ c.number.ensures _ c.wide-cell.ensures _ c.way.ensures c.edge-beyond.ensures c.in-At.is).next_lt
 
 pub overflow_sub-vs : goal.overflow_sub-vs
+unfolding nowhere
 overflow_sub-vs c =
-    let seen-edge : (Seen c.args.g c.args.marks.now c.args.cells.now c.number.last.1.0 c.loop-i.i c.wide-cell.result c.in-At.next c.in-At.border) = seen _ _ _ _ c.requires.housed c.loop-i.i c.loop-i-test.true _ c.number.ensures _ c.wide-cell.ensures _ c.way.ensures c.edge-beyond.ensures c.in-At.is in
-    omega (arith, seen-edge.into_is)
+    omega (arith, (seen _ _ _ _ c.requires.housed c.loop-i.i c.loop-i-test.true _ c.number.ensures _ c.wide-cell.ensures _ c.way.ensures c.edge-beyond.ensures c.in-At.is).into_is)
 
 pub offset_bounds-vs-m : goal.offset_bounds-vs-m
 offset_bounds-vs-m c = omega (arith, few _ _ _ _ c.requires.housed, c.loop-i.invariant.few)
 
 pub bounds-vs-m : goal.bounds-vs-m
 bounds-vs-m c =
-    let space : ((c.loop-i.m < length c.loop-i.us) × (c.loop-i.m < length c.loop-i.vs) × (c.loop-i.m < length c.loop-i.here)) = let w = c.loop-i.invariant in
-    let h = few _ _ _ _ c.requires.housed in
-    let l = c.loop-i-test.true in (
-      omega (arith, w.few, w.us_are.long, c.requires.space.us_long),
-      omega (arith, w.few, w.vs_are.long, c.requires.space.vs_long),
-      omega (arith, w.few, w.here_are.long, c.requires.space.here_long),
-    ) in
-    space.1
+    omega (arith, few _ _ _ _ c.requires.housed, c.loop-i-test.true, c.loop-i.invariant.few, c.loop-i.invariant.vs_are.long, c.requires.space.vs_long)
 
 pub bounds-states-border : goal.bounds-states-border
+unfolding nowhere
 bounds-states-border c =
-    let seen-edge : (Seen c.args.g c.args.marks.now c.args.cells.now c.number.last.1.0 c.loop-i.i c.wide-cell.result c.in-At.next c.in-At.border) = seen _ _ _ _ c.requires.housed c.loop-i.i c.loop-i-test.true _ c.number.ensures _ c.wide-cell.ensures _ c.way.ensures c.edge-beyond.ensures c.in-At.is in
-    omega (arith, seen-edge.border_lt, c.requires.housed.states_long)
+    omega (arith, (seen _ _ _ _ c.requires.housed c.loop-i.i c.loop-i-test.true _ c.number.ensures _ c.wide-cell.ensures _ c.way.ensures c.edge-beyond.ensures c.in-At.is).border_lt, c.requires.housed.states_long)
 
 pub bounds-here-m : goal.bounds-here-m
 bounds-here-m c =
-    let space : ((c.loop-i.m < length c.loop-i.us) × (c.loop-i.m < length c.loop-i.vs) × (c.loop-i.m < length c.loop-i.here)) = let w = c.loop-i.invariant in
-    let h = few _ _ _ _ c.requires.housed in
-    let l = c.loop-i-test.true in (
-      omega (arith, w.few, w.us_are.long, c.requires.space.us_long),
-      omega (arith, w.few, w.vs_are.long, c.requires.space.vs_long),
-      omega (arith, w.few, w.here_are.long, c.requires.space.here_long),
-    ) in
-    space.2
+    omega (arith, few _ _ _ _ c.requires.housed, c.loop-i-test.true, c.loop-i.invariant.few, c.loop-i.invariant.here_are.long, c.requires.space.here_long)
 
 pub loop-i-preserved : goal.loop-i-preserved
 unfolding nowhere
 loop-i-preserved c =
     let h = c.loop-i-test.true in
-    ⊎_elim
-    (λ w.
-    let o = seen-edge (record { before = record { before = record { before = c.before; match = w.0 }; beyond = w.1 }; known-told = w.2 }) in
-    rw
-    (w.4, w.5, w.6, w.7)
-    (writing_one _ _ _ _ _ _ _ _ _ _ _ _ c.loop-i.invariant h o.there _ _ _ (omega (arith, o.from_is)) (omega (arith, o.into_is)) (ap (λ e. get_or c.args.states.now e 0) o.border_is)))
-    (λ w.
-    rw
-    (w.1, w.2, w.3, w.4)
-    (writing_skip _ _ _ _ _ _ _ _ _ _ _ _ c.loop-i.invariant h
-    (none_seen _ _ _ _ c.requires.housed c.loop-i.i h _ c.number.ensures _ c.wide-cell.ensures _ c.way.ensures c.edge-beyond.ensures w.0.keys2)))
-    c.match-beyond.branch
+    elim c.match-beyond.branch [
+      | in-At w ↦
+          let o = seen _ _ _ _ c.requires.housed c.loop-i.i c.loop-i-test.true _ c.number.ensures _ c.wide-cell.ensures _ c.way.ensures c.edge-beyond.ensures w.in-At.is in
+          rw
+          (w.us-is, w.vs-is, w.here-is, w.m-is)
+          (writing_one _ _ _ _ _ _ _ _ _ _ _ _ c.loop-i.invariant h o.there _ _ _ (omega (arith, o.from_is)) (omega (arith, o.into_is)) (ap (λ e. get_or c.args.states.now e 0) o.border_is))
+      | in_default w ↦
+          rw
+          (w.us-is, w.vs-is, w.here-is, w.m-is)
+          (writing_skip _ _ _ _ _ _ _ _ _ _ _ _ c.loop-i.invariant h (none_seen _ _ _ _ c.requires.housed c.loop-i.i c.loop-i-test.true _ c.number.ensures _ c.wide-cell.ensures _ c.way.ensures c.edge-beyond.ensures w.in_default.not-At))
+    ]
 
 pub returns : goal.returns
 returns c = writing_all _ _ _ _ _ _ _ _ _ _ _ _ c.loop-i.invariant c.loop-i-test.false

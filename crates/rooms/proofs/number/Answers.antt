@@ -10,9 +10,6 @@ use Rattle.rooms.proofs.number.Goals as goal
 pub loop-i-init : goal.loop-i-init
 loop-i-init c = (omega arith, refl, refl)
 
-pub offset_bounds-vertex-cell : goal.offset_bounds-vertex-cell
-offset_bounds-vertex-cell c = omega (arith, c.wide-cell.ensures, c.shared_slice_known-in-loop-i-1.given c.loop-i.i)
-
 pub bounds-vertex-cell : goal.bounds-vertex-cell
 bounds-vertex-cell c =
     rw (c.wide-cell.ensures, c.loop-i.invariant.1) (put_fits (length c.args.vertex.now) c.args.cells.now c.loop-i.i c.requires.below c.loop-i-test.true)

@@ -2,18 +2,16 @@
 use Rattle.rooms.proofs.PutLaws.{walls_in, marks_fit, roomed}
 use Rattle.rooms.proofs.rooms_in.Goals as goal
 
-abbrev marked : tie.After-group-sizes-arg3 → tie.After-put
-marked c = c.before.before.before.before.before
-
 pub put-requires : goal.put-requires
 put-requires c = walls_in c.args.g c.args.given.now c.requires.given c.requires.blank
 
 pub group_sizes-requires : goal.group_sizes-requires
 group_sizes-requires c =
-    let m = marked c in
-    record { fits = rw m.put.ensures (marks_fit c.args.g c.args.given.now c.requires.given c.requires.blank 2); width_in_bounds = (c.requires.places.ids_long, c.requires.places.sizes_long) }
+    record {
+      fits = rw c.put.ensures (marks_fit c.args.g c.args.given.now c.requires.given c.requires.blank 2);
+      width_in_bounds = (c.requires.places.ids_long, c.requires.places.sizes_long);
+    }
 
 pub returns : goal.returns
 returns c =
-    let m = marked c.before.before.before.before.before in
-    roomed c.args.g c.args.given.now c.requires.given c.requires.blank (rw m.put.ensures at c.group_sizes.ensures)
+    roomed c.args.g c.args.given.now c.requires.given c.requires.blank (rw c.put.ensures at c.group_sizes.ensures)
