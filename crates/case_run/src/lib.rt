@@ -1,5 +1,6 @@
 // Case runs: a case file's puzzle, its calls on that puzzle, and the lines that they print, as bytes in a lent buffer.
 #![tactic(auto)]
+
 ghost use Rattle.std.specs.Prelude.{◌≡◌, [], ◌≤◌, length, drop};
 ghost use Rattle.std.proofs.Math.Option.{none};
 ghost use Rattle.std.proofs.lemmas.List.Edits.{sets};

@@ -1,6 +1,7 @@
 // All right boards that extend a started puzzle, by a search that chooses the next border and tries its two values. A branch ends only where
 // an ask finds a fault.
 #![tactic(auto)]
+
 ghost use Rattle.std.specs.Prelude.{◌≡◌, ◌+◌, ◌*◌, ◌≤◌, length, take};
 ghost use Rattle.lists.specs.Lists.{count};
 ghost use Rattle.enumerate.specs.Boards.{places_code, listing, boards_of};
