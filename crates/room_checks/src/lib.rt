@@ -1,5 +1,6 @@
 // The counts of a puzzle's clued rooms, in their order: the first that fails, and its list.
 #![tactic(auto)]
+
 ghost use Rattle.std.specs.Prelude.{◌≡◌, ◌<◌, length, get_or};
 ghost use Rattle.borders.specs.Border.{state_of};
 ghost use Rattle.groups.specs.Lent.{InTurn};

@@ -45,11 +45,11 @@ module _ {t : Try} {e : ℕ} (told : t ≡ Failed e) where
   unfolding entry_of
   noted xs len = rw told record { place = refl; stored = refl }
 
-pub not_noted : (t : Try) (xs : List ℕ) (len : ℕ) → (tag_of the_type t ≡ 0) ⊎ (tag_of the_type t ≡ 1) → Appended xs len (entry_of t) xs len
+pub not_noted : (t : Try) (xs : List ℕ) (len : ℕ) → ((x : ℕ) → t ≡ Failed x → ⊥) → Appended xs len (entry_of t) xs len
 unfolding entry_of
 not_noted Passed xs len k = record { place = sym (add-zero len); stored = refl }
 not_noted Good xs len k = record { place = sym (add-zero len); stored = refl }
-not_noted (Failed e) xs len k = absurd (⊎_elim (λ q. omega arith) (λ q. omega arith) k)
+not_noted (Failed e) xs len k = absurd (k e refl)
 
 -- ALL LANDINGS
 

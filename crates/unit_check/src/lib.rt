@@ -1,5 +1,6 @@
 // The second stage of the shape check: the first unit that fits nowhere is found, and then its list is written.
 #![tactic(auto)]
+
 ghost use Rattle.std.specs.Prelude.{true, ◌*◌, ◌≤◌, length};
 ghost use Rattle.answers.specs.Answers.{Told};
 ghost use Rattle.unit_check.specs.Units.{unit_stage, Staged};
