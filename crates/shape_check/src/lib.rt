@@ -1,5 +1,6 @@
 // The shape check (`SendaiShapeConstraint::find_inconsistency`): a board's ask.
 #![tactic(auto)]
+
 ghost use Rattle.std.specs.Prelude.{◌≡◌, ◌*◌, ◌≤◌, length};
 ghost use Rattle.limits.specs.Limits.{most_borders};
 ghost use Rattle.ledger.specs.Books.{book};
