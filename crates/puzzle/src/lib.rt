@@ -1,5 +1,6 @@
 // The puzzle: a board with given walls and a clue for each room, which joins the shape check to a count for each clued room.
 #![tactic(auto)]
+
 ghost use Rattle.std.specs.Prelude.{◌≡◌, ◌≤◌, length, take};
 ghost use Rattle.limits.specs.Limits.{most_borders, most_cells};
 ghost use Rattle.grid.specs.Grid.{border_count};
