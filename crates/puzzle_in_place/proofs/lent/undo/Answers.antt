@@ -1,5 +1,5 @@
 -- `puzzle_in_place::lent::undo` meets its contract: questions 1 and 2, and then the book's. Assumes nothing.
-use mathlib.Core.Path.{◌≡◌, sym, ◌∙◌}
+use mathlib.Core.Path.{sym, ◌∙◌}
 use borrow.Author.Rules.{rules}
 use Rattle.ledger.specs.Books.{taken}
 use Rattle.moves.proofs.Laws.{first_refuses, goes_on}
@@ -7,9 +7,6 @@ use Rattle.puzzle.specs.Puzzle.{puzzle_of, book_of, borders_of}
 use Rattle.puzzle.proofs.Ready.{ready}
 use Rattle.puzzle_in_place.proofs.Held.{held}
 use Rattle.puzzle_in_place.proofs.lent.undo.Goals as goal
-
-pub code_of-code-requires : goal.code_of-code-requires
-code_of-code-requires c = record { states_long = search rules; names_long = search rules; given_long = search rules; clues_long = search rules }
 
 pub returns-then-code-ne0 : goal.returns-then-code-ne0
 returns-then-code-ne0 c =
