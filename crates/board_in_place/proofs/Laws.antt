@@ -1,5 +1,4 @@
 -- A board's parts that questions 1 and 2 accept: its size is within the limits, and its book holds together over its borders. Assumes nothing.
-use Prim.Native.Nat.{ℕ}
 use mathlib.Core.Path.{◌≡◌}
 use lib.ListN.{length}
 use Rattle.limits.specs.Limits.{most_borders}

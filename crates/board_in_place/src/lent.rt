@@ -1,6 +1,5 @@
 // The calls on the parts of a board that is lent: its size, its arrays where they stand, and how many names its ledger has.
 ghost use Rattle.std.specs.Prelude.{◌≡◌, Bool, length};
-ghost use Rattle.limits.specs.Limits.{most_borders};
 ghost use Rattle.grid.specs.Grid.{border_count};
 ghost use Rattle.ledger.specs.Ledger.{decisions, single, stroke_code, undo_code, first_code};
 ghost use Rattle.ledger.specs.Books.{book, state_at, placed, taken};
@@ -21,7 +20,6 @@ pub fn stroke(
     len: usize,
     entries: &[u16],
 ) -> Moved
-    requires { (length states.old ≡ most_borders) × (length names.old ≡ most_borders) }
     ensures { Moves (first_code (check_of g (book states.old names.old len)) (stroke_code (border_count g) (state_at states.old) (decisions entries.now))) (book states.old names.old len) (placed (book states.old names.old len) (decisions entries.now)) states.new names.new result }
 {
     let code = board::check_parts(g, states, names, len);
@@ -40,7 +38,6 @@ pub fn decide(
     border: usize,
     wall: bool,
 ) -> Moved
-    requires { (length states.old ≡ most_borders) × (length names.old ≡ most_borders) }
     ensures { Moves (first_code (check_of g (book states.old names.old len)) (stroke_code (border_count g) (state_at states.old) (single border wall))) (book states.old names.old len) (placed (book states.old names.old len) (single border wall)) states.new names.new result }
 {
     let one = [ledger::entry_of(border, wall)];
@@ -54,7 +51,6 @@ pub fn undo(
     names: &mut [u16; limits::BORDERS],
     len: usize,
 ) -> Moved
-    requires { (length states.old ≡ most_borders) × (length names.old ≡ most_borders) }
     ensures { Moves (first_code (check_of g (book states.old names.old len)) (undo_code len)) (book states.old names.old len) (taken (book states.old names.old len)) states.new names.new result }
 {
     let code = board::check_parts(g, states, names, len);
@@ -72,7 +68,6 @@ pub fn ask<'a>(
     len: usize,
     buffer: &mut [u16],
 ) -> Answer
-    requires { (length states.now ≡ most_borders) × (length names.now ≡ most_borders) }
     ensures value { result ≡ answer_of (shape_outcome (board_of g (book states.now names.now len)) (length buffer.old)) }
     ensures buffer_after { buffer.new ≡ written (shape_outcome (board_of g (book states.now names.now len)) (length buffer.old)) buffer.old }
 {

@@ -1,6 +1,7 @@
 // The calls on a lent board: stroke, decide and undo change it where it is, an ask reads it. Its arrays are lent on, and nothing of it is copied but its size
 // and its ledger's length; a refusal leaves it as it was.
 #![tactic(auto)]
+
 ghost use Rattle.std.specs.Prelude.{◌≡◌, length};
 ghost use Rattle.ledger.specs.Ledger.{decisions};
 ghost use Rattle.board.specs.Board.{answer, stroke_of, decide_of, undo_of};

@@ -1,3 +1,1 @@
 pub mod Held
-pub mod Apart
-pub mod Steps

@@ -3,7 +3,7 @@ ghost use Rattle.std.specs.Prelude.{◌≡◌};
 ghost use Rattle.ledger.specs.Ledger.{decisions, single};
 ghost use Rattle.ledger.specs.Books.{book, placed, taken};
 ghost use Rattle.moves.specs.Moves.{Moves};
-ghost use Rattle.puzzle.specs.Puzzle.{Arrays, puzzle_of, stroke_number, undo_number, ask_of};
+ghost use Rattle.puzzle.specs.Puzzle.{puzzle_of, stroke_number, undo_number, ask_of};
 
 use limits::{BORDERS, CELLS};
 use moves::Moved;
@@ -18,7 +18,6 @@ pub fn stroke<'a>(
     clues: &'a [u16; CELLS],
     entries: &[u16],
 ) -> Moved
-    requires { Arrays states.old names.old given.now clues.now }
     ensures { Moves (stroke_number (puzzle_of z states.old names.old given.now clues.now) (decisions entries.now)) (book states.old names.old z.len) (placed (book states.old names.old z.len) (decisions entries.now)) states.new names.new result }
 {
     let code = puzzle::code_of(z, states, names, given, clues);
@@ -38,7 +37,6 @@ pub fn decide<'a>(
     border: usize,
     wall: bool,
 ) -> Moved
-    requires { Arrays states.old names.old given.now clues.now }
     ensures { Moves (stroke_number (puzzle_of z states.old names.old given.now clues.now) (single border wall)) (book states.old names.old z.len) (placed (book states.old names.old z.len) (single border wall)) states.new names.new result }
 {
     let one = [ledger::entry_of(border, wall)];
@@ -53,7 +51,6 @@ pub fn undo<'a>(
     given: &'a [u16; BORDERS],
     clues: &'a [u16; CELLS],
 ) -> Moved
-    requires { Arrays states.old names.old given.now clues.now }
     ensures { Moves (undo_number (puzzle_of z states.old names.old given.now clues.now)) (book states.old names.old z.len) (taken (book states.old names.old z.len)) states.new names.new result }
 {
     let code = puzzle::code_of(z, states, names, given, clues);
@@ -72,7 +69,6 @@ pub fn ask<'a>(
     clues: &'a [u16; CELLS],
     buffer: &mut [u16],
 ) -> Answer
-    requires { Arrays states.now names.now given.now clues.now }
     ensures value { result ≡ (ask_of (puzzle_of z states.now names.now given.now clues.now) buffer.old).answer }
     ensures buffer_after { buffer.new ≡ (ask_of (puzzle_of z states.now names.now given.now clues.now) buffer.old).buffer }
 {

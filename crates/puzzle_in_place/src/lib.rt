@@ -1,6 +1,7 @@
 // The calls on a lent puzzle: stroke, decide and undo change it where it is, an ask reads it. Its arrays are lent on, and nothing of it is copied but its
 // numbers; a refusal leaves it as it was.
 #![tactic(auto)]
+
 ghost use Rattle.std.specs.Prelude.{◌≡◌};
 ghost use Rattle.ledger.specs.Ledger.{decisions};
 ghost use Rattle.puzzle.specs.Puzzle.{answer, stroke_of, decide_of, undo_of, ask_of};
