@@ -1,6 +1,7 @@
 // Case files drawn from a seed, so that a run can be made again: calls that a generator of 32 bits picks, on a puzzle without given walls
 // and with one room without a clue.
 #![tactic(auto)]
+
 ghost use Rattle.std.specs.Prelude.{◌≡◌, ◌+◌, ◌≤◌, ◌<◌, length};
 ghost use Rattle.std.proofs.lemmas.List.Edits.{sets};
 ghost use Rattle.lists.specs.Lists.{gather};
