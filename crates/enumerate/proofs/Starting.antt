@@ -12,7 +12,7 @@ use lib.ListN.{length, take, get_or, length-replicate}
 use lib.Seq.{sets, length-take-le, get_or-take}
 use Rattle.limits.specs.Limits.{most_borders, most_entries}
 use Rattle.lists.specs.Choice.{either}
-use Rattle.lists.specs.Lists.{In, count, gather}
+use Rattle.lists.specs.Lists.{In, gather}
 use Rattle.lists.proofs.Cases.{not_both}
 use Rattle.lists.proofs.ListLaws.{in_keep}
 use Rattle.grid.specs.declared.Grid.{Grid}

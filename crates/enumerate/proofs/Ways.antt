@@ -1,12 +1,11 @@
 -- The search's ways through, over plain values: the cap is met, a fault, a full board, two values; and what each next call is given. Assumes nothing.
 use Prim.Native.Nat.{ℕ, ◌+◌, ◌*◌, ◌≤◌, ◌<◌}
 use mathlib.Core.Path.{◌≡◌, refl, ap, sym, ◌∙◌}
-use mathlib.Core.Logic.{◌⊎◌, ⊎_elim, ◌≢◌}
+use mathlib.Core.Logic.{⊎_elim, ◌≢◌}
 use mathlib.Core.Bool.{true}
 use mathlib.Core.List.{List, [], ◌∷◌, ◌++◌}
 use mathlib.Core.Option.{Option, none, some}
 use native.Mathlib.Omega.{arith}
-use denote.Enum.Declared.{tag_of}
 use lib.ListN.{length, get_or, set, length-set}
 use lib.Seq.{set-set, set-get_or, get_or-set_same, get_or-set_other}
 use Rattle.lists.specs.Choice.{when}
@@ -21,7 +20,6 @@ use Rattle.puzzle.specs.declared.Answer.{Answer}
 use Rattle.puzzle.specs.declared.Answer.TheVariants.{Clear}
 use Rattle.puzzle.specs.Fault.{Found, fault_of}
 use Rattle.puzzle.specs.Puzzle.{says}
-use Rattle.puzzle.specs.contracts.Answer.{the_type}
 use Rattle.demand_3.proofs.FaultLaws.{fault_listed, fault_again}
 use Rattle.demand_3.proofs.Asks.{clear_none}
 use Rattle.enumerate.specs.Boards.{extensions, is_nothing, is_right, rights}
@@ -63,16 +61,15 @@ module _ (g : Grid) (given clues s : List ℕ) where
 told_clear : (f : Option Found) (r : Answer) → r ≡ says 0 f → r ≡ Clear → f ≡ none
 told_clear f r q z = clear_none f (sym q ∙ z)
 
-told_fault : (f : Option Found) (r : Answer) → r ≡ says 0 f → (tag_of the_type r ≡ 1) ⊎ (tag_of the_type r ≡ 2) → (x : Found) × (f ≡ some x)
-told_fault none r q k =
-    let e : tag_of the_type r ≡ 0 = ap (tag_of the_type) q in absurd (⊎_elim (λ (z : tag_of the_type r ≡ 1). omega arith) (λ (z : tag_of the_type r ≡ 2). omega arith) k)
+told_fault : (f : Option Found) (r : Answer) → r ≡ says 0 f → (r ≡ Clear → ⊥) → (x : Found) × (f ≡ some x)
+told_fault none r q k = absurd (k q)
 told_fault (some x) r q k = (x, refl)
 
 module _ {g : Grid} {given clues s list : List ℕ} {w : Written} (a : Searching g given clues s list w) where
   pub cap_met : w.tally.more ≡ true → w ≡ searched g given clues s w
   cap_met q = sym (no_more w (rights g given clues s) (omega (arith, a.fits.met q)) q)
 
-  pub branch_cut : (r : Answer) → r ≡ says 0 (fault_of g given clues s) → (tag_of the_type r ≡ 1) ⊎ (tag_of the_type r ≡ 2) → w ≡ searched g given clues s w
+  pub branch_cut : (r : Answer) → r ≡ says 0 (fault_of g given clues s) → (r ≡ Clear → ⊥) → w ≡ searched g given clues s w
   unfolding add_all
   branch_cut r q k =
       let f = told_fault (fault_of g given clues s) r q k in
@@ -132,13 +129,6 @@ module _ {s : List ℕ} {e : ℕ} (t : Trying e s) where
 
   pub less_again : (s₁ : List ℕ) → s₁ ≡ set s e 1 → 2 * count 0 (set s₁ e 2) + 1 < 2 * count 0 s
   less_again s₁ q = rw (q, set-set s e 1 2) (less 2 (omega arith))
-
-  -- the border is there after each call
-  pub there : (s₁ : List ℕ) → s₁ ≡ set s e 1 → e < length s₁
-  there s₁ q = rw (q, length-set s e 1) t.exists
-
-  pub there_again : (s₁ s₂ : List ℕ) → s₁ ≡ set s e 1 → s₂ ≡ set s₁ e 2 → e < length s₂
-  there_again s₁ s₂ q₁ q₂ = rw (q₂, length-set s₁ e 2) (there s₁ q₁)
 
   pub undone : (s₁ s₂ : List ℕ) → s₁ ≡ set s e 1 → s₂ ≡ set s₁ e 2 → set s₂ e 0 ≡ s
   undone s₁ s₂ q₁ q₂ = rw (q₂, q₁, set-set s e 1 2, set-set s e 2 0) (ap (set s e) (sym undecided) ∙ set-get_or s e 0)

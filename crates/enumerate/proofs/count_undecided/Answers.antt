@@ -15,7 +15,18 @@ loop-i-preserved c =
     let s = c.args.states.now in
     let i = c.loop-i.i in
     let t = c.loop-i-test.true in
-    elim c.if-states-i-eq0.branch [ then-states-i-eq0 w ↦ (omega arith, omega (arith, w.1, c.loop-i.invariant.1), omega (arith, w.1, c.loop-i.invariant.2, counts_one s i t w.if-states-i-eq0.true)) | else-states-i-eq0 w ↦ (omega arith, omega (arith, w.1, c.loop-i.invariant.1), omega (arith, w.1, c.loop-i.invariant.2, counts_none s i t w.if-states-i-eq0.false)) ]
+    elim c.if-states-i-eq0.branch [
+      | then-states-i-eq0 w ↦ (
+        omega arith,
+        omega (arith, w.n-is, c.loop-i.invariant.1),
+        omega (arith, w.n-is, c.loop-i.invariant.2, counts_one s i t w.if-states-i-eq0.true),
+      )
+      | else-states-i-eq0 w ↦ (
+        omega arith,
+        omega (arith, w.n-is, c.loop-i.invariant.1),
+        omega (arith, w.n-is, c.loop-i.invariant.2, counts_none s i t w.if-states-i-eq0.false),
+      )
+    ]
 
 pub returns : goal.returns
 returns c =
