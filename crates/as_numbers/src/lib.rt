@@ -1,5 +1,6 @@
 // What the calls answer by an enum, as numbers: the forms in which crate `exports` hands it over, since an enum does not cross `extern "C"`.
 #![tactic(auto)]
+
 pub mod boards;
 pub mod files;
 pub mod places;

@@ -1,0 +1,16 @@
+-- `as_numbers::places::direction_of` meets its contract: each arm knows its number. Assumes nothing.
+use borrow.Author.Tests.{ne_eqb}
+use Rattle.as_numbers.proofs.places.direction_of.Goals as goal
+
+pub returns-in-0 : goal.returns-in-0
+returns-in-0 c = rw c.in-0.is
+
+pub returns-in-1 : goal.returns-in-1
+returns-in-1 c = rw c.in-1.is
+
+pub returns-in-2 : goal.returns-in-2
+returns-in-2 c = rw c.in-2.is
+
+pub returns-in_default : goal.returns-in_default
+returns-in_default c =
+    simp (ne_eqb _ _ c.in_default.in_default-own.rest.0.0.1, ne_eqb _ _ c.in_default.in_default-own.rest.0.1, ne_eqb _ _ c.in_default.in_default-own.rest.1)
