@@ -2,6 +2,7 @@
 // by value, laid out as in C; a slice is a pointer and a length, a lent board or puzzle a pointer. An enum does not cross: it
 // is handed over as numbers.
 #![tactic(auto)]
+
 mod boards;
 mod boundaries;
 mod cases;

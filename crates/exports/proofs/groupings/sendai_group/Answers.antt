@@ -3,12 +3,10 @@ use Prim.Native.Nat.{ℕ, ◌≤◌, ◌<◌}
 use mathlib.Core.Path.{◌≡◌, refl}
 use mathlib.Core.List.{List}
 use borrow.Author.Tests.{le-leb, lt-leb}
-use borrow.Author.Rules.{rules}
 use lib.ListN.{length}
 use lib.Seq.{sets}
 use Rattle.exports.specs.Groups.{copied_of}
-use Rattle.exports.proofs.groupings.sendai_group.Statement.{statement}
-use Rattle.exports.proofs.groupings.sendai_group.Tie as tie
+use Rattle.exports.proofs.groupings.sendai_group.Goals as goal
 
 module _ (part handed out : List ℕ) (e : part ≡ handed) where
   abbrev Copied : ℕ → List ℕ → Type 0
@@ -20,12 +18,8 @@ module _ (part handed out : List ℕ) (e : part ≡ handed) where
   long : {out' : List ℕ} → length part ≤ length out → out' ≡ sets out 0 part → Copied (length part) out'
   long h q = rw (← e) (rw (le-leb (length part) (length out) h) (refl, q))
 
-returns-2 : tie.Need-returns-2
-returns-2 c =
-    let k = c.before.before in
-    let t = k.before.before in
-    let g = t.before in
-    long _ _ g.before.before.before.args.out.now g.group.ensures.0 t.if1.false k.copy.ensures
+pub returns-then-out-part : goal.returns-then-out-part
+returns-then-out-part c = let w = short _ _ c.args.out.now c.group-part.ensures.result_value c.if-out-part.true in record { value = w.0; out_after = w.1 }
 
-pub sendai-group-spec : {M : Type 1} → statement M
-sendai-group-spec = tie.close (tie.spec (λ c κs. search rules) (λ c. let g = c.before in short _ _ g.before.before.before.args.out.now g.group.ensures.0 c.if1.true) (λ c κs. search rules) (λ c. search rules) returns-2)
+pub returns : goal.returns
+returns c = let w = long _ _ c.args.out.now c.group-part.ensures.result_value c.if-out-part.false c.copy.ensures in record { value = w.0; out_after = w.1 }
