@@ -18,7 +18,7 @@ pub returns-then-code-ne0 : goal.returns-then-code-ne0
 returns-then-code-ne0 c = let a = c.args in refused a.p (placed (book_of a.p) (decisions a.entries.now)) c.stroke_code-code.ensures c.if-code-ne0.true
 
 pub place_states-requires : goal.place_states-requires
-place_states-requires c = 
+place_states-requires c =
     let states_are : length c.args.p.board.book.states ≡ most_borders = search rules in
     let told : let a = c.args in (puzzle_code a.p ≡ 0) × (stroke_code (borders_of a.p) (state_at (book_of a.p).states) (decisions a.entries.now) ≡ 0) = none_refuses _ _ (sym c.stroke_code-code.ensures ∙ c.if-code-ne0.false) in
     let names_are : length c.args.p.board.book.names ≡ most_borders = search rules in
@@ -29,7 +29,7 @@ place_states-requires c =
     (states_are, fits.exist)
 
 pub place_names-requires : goal.place_names-requires
-place_names-requires c = 
+place_names-requires c =
     let names_are : length c.args.p.board.book.names ≡ most_borders = search rules in
     let told : let a = c.args in (puzzle_code a.p ≡ 0) × (stroke_code (borders_of a.p) (state_at (book_of a.p).states) (decisions a.entries.now) ≡ 0) = none_refuses _ _ (sym c.stroke_code-code.ensures ∙ c.if-code-ne0.false) in
     let states_are : length c.args.p.board.book.states ≡ most_borders = search rules in
@@ -40,7 +40,7 @@ place_names-requires c =
     (names_are, fits.fits)
 
 pub overflow_add-out : goal.overflow_add-out
-overflow_add-out c = 
+overflow_add-out c =
     let told : let a = c.args in (puzzle_code a.p ≡ 0) × (stroke_code (borders_of a.p) (state_at (book_of a.p).states) (decisions a.entries.now) ≡ 0) = none_refuses _ _ (sym c.stroke_code-code.ensures ∙ c.if-code-ne0.false) in
     let states_are : length c.args.p.board.book.states ≡ most_borders = search rules in
     let names_are : length c.args.p.board.book.names ≡ most_borders = search rules in

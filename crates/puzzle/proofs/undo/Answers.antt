@@ -18,7 +18,7 @@ pub returns-then-code-ne0 : goal.returns-then-code-ne0
 returns-then-code-ne0 c = let p = c.args.p in refused p (taken (book_of p)) c.undo_code-code.ensures c.if-code-ne0.true
 
 pub start_of-from-requires : goal.start_of-from-requires
-start_of-from-requires c = 
+start_of-from-requires c =
     let told : let p = c.args.p in (puzzle_code p ≡ 0) × (undo_code (book_of p).len ≡ 0) = none_refuses _ _ (sym c.undo_code-code.ensures ∙ c.if-code-ne0.false) in
     let states_are : length c.args.p.board.book.states ≡ most_borders = search rules in
     let names_are : length c.args.p.board.book.names ≡ most_borders = search rules in

@@ -30,7 +30,7 @@ find_in-root-requires t c = (omega arith, stays_up c.args.p.now c.args.x c.requi
 pub overflow_cast-p : goal.overflow_cast-p
 overflow_cast-p t c =
     let h : c.find_in-root.result < most_cells =
-      rw c.find_in-root.ensures.0 (stays_up c.args.p.now c.args.x c.requires (c.args.depth - 1))
+    rw c.find_in-root.ensures.0 (stays_up c.args.p.now c.args.x c.requires (c.args.depth - 1))
     in omega arith
 
 pub offset_bounds-p-x-2 : goal.offset_bounds-p-x-2
