@@ -17,7 +17,7 @@ fn main() {
     println!("cargo:rustc-env=SENDAI_RS={}", found(source.join("puzzles/sendai.rs"), help).display());
     println!("cargo:rustc-env=UTIL_RS={}", found(source.join("util.rs"), help).display());
 
-    let archive = found(root.join("target/staticlib/libexports.a"), "run `rt staticlib exports`");
+    let archive = found(root.join("target/staticlib/libexports.a"), "run `bindings/prove archive`");
     println!("cargo:rustc-link-search=native={}", archive.parent().unwrap().display());
     println!("cargo:rustc-link-lib=static=exports");
 }

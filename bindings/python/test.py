@@ -337,6 +337,17 @@ class Puzzles(Test):
         self.assertTrue(row.right_boards(1).unique)
         self.assertEqual(Puzzle(1, 1).right_boards(), ([], False))
 
+    def test_small_boards(self):
+        def boards(height, width, cap):
+            found = Puzzle(height, width).right_boards(cap)
+            return [[int(state) for state in board] for board in found.boards], found.more
+
+        row_of_four = [[1, 2, 1], [2, 2, 2]]
+        self.assertEqual(boards(1, 4, 9), (row_of_four, False))
+        self.assertEqual(boards(1, 4, 1), (row_of_four[:1], True))
+        self.assertEqual(boards(2, 2, 9), ([[1, 1, 2, 2], [2, 2, 1, 1], [2, 2, 2, 2]], False))
+        self.assertEqual(boards(1, 1, 10 ** 30), ([], False))
+
     def test_a_cap_beyond_the_first_buffer(self):
         whole = Puzzle(4, 4).right_boards()
         for cap in (1023, 1024, 1025, 1808):
@@ -497,7 +508,7 @@ class Libraries(Test):
             with unittest.mock.patch.dict(os.environ):
                 os.environ.pop("SENDAI_LIBRARY", None)
                 if ctypes.util.find_library("sendai") is None:
-                    with self.assertRaisesRegex(NoLibrary, "rt staticlib exports"):
+                    with self.assertRaisesRegex(NoLibrary, "bindings/prove archive"):
                         Board(1, 2)
                     self.assertEqual(sendai.__version__, "unknown")
         with unittest.mock.patch.dict(os.environ, CC="no-such-compiler"):

@@ -10,7 +10,7 @@ fn main() {
     let archive = folder.join("libexports.a");
     println!("cargo::rerun-if-changed={}", archive.display());
     if !archive.is_file() {
-        println!("cargo::error={} is missing: run `rt staticlib exports` in {}", archive.display(), root.display());
+        println!("cargo::error={} is missing: run `bindings/prove archive` in {}", archive.display(), root.display());
         println!("cargo::error=(or name the folder that has libexports.a in SENDAI_ARCHIVE_DIR)");
     }
     println!("cargo::rustc-link-search=native={}", folder.display());

@@ -99,6 +99,6 @@ class WithCalls(InFolder):
     @classmethod
     def setUpClass(cls):
         if not at_hand():
-            reason = "no %s (run `rt staticlib exports`), or no C compiler: `answers` and `load` are not tried" % ARCHIVE
+            reason = "no %s (run `bindings/prove archive`), or no C compiler: `answers` and `load` are not tried" % ARCHIVE
             print(reason, file=sys.stderr)
             raise unittest.SkipTest(reason)

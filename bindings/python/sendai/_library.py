@@ -116,7 +116,7 @@ def load(path: str | None = None) -> None:
     except NoLibrary as e:
         if path != NAME:
             raise
-        hint = "run `rt staticlib exports` in %s, or let %s name an archive or a shared library" % (TOP, VARIABLE)
+        hint = "run `bindings/prove archive` in %s, or let %s name an archive or a shared library" % (TOP, VARIABLE)
         raise NoLibrary("%s; %s" % (e, hint)) from None
 
 

@@ -209,9 +209,9 @@ impl Compared {
         let program = Path::new(ROOT).join("target/bin/sendai").canonicalize().expect("the program");
         let output = Command::new(program).current_dir(folder).output().expect("the program runs");
         self.counts.programs += 1;
-        let told = (output.status.code(), text(&output.stdout), says_why(&text(&output.stderr), sound, &expected));
+        let told = (output.status.code(), text(&output.stdout), text(&output.stderr));
         let on = || format!("the program on {}", bytes.map_or("no file".into(), hexadecimal));
-        let due = (Some(0), expected, true);
+        let due = (Some(0), expected, String::new());
         self.tally.same(&due, &told, on);
         drop(std::fs::remove_file(file));
         (sound, due.1)
@@ -259,18 +259,6 @@ impl Compared {
             bytes.resize(extra, 3);
             self.file(&bytes, false);
         }
-    }
-}
-
-/// Whether standard error has what is due: one line for an unsound file, none where a call was run, one or none where all is one refusal, a puzzle's
-/// or a call's.
-fn says_why(said: &str, sound: bool, printed: &str) -> bool {
-    let one = said.starts_with("sendai: sendai.bin: ") && said.ends_with('\n') && said.lines().count() == 1;
-    let alone = printed.starts_with("refused") && printed.lines().count() == 1;
-    match (sound, alone) {
-        (false, _) => one,
-        (true, true) => one || said.is_empty(),
-        (true, false) => said.is_empty(),
     }
 }
 
