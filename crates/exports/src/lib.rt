@@ -15,7 +15,7 @@ mod paths;
 mod places;
 mod prints;
 mod puzzles;
-mod rooms;
+mod room_graphs;
 mod shapes;
 mod unions;
 mod versions;
@@ -42,7 +42,7 @@ pub use puzzles::{
     sendai_puzzle_ask, sendai_puzzle_check, sendai_puzzle_decide, sendai_puzzle_make,
     sendai_puzzle_right_boards, sendai_puzzle_stroke, sendai_puzzle_undo,
 };
-pub use rooms::{
+pub use room_graphs::{
     sendai_room_ask, sendai_room_check, sendai_room_decide, sendai_room_make, sendai_room_stroke,
     sendai_room_undo,
 };

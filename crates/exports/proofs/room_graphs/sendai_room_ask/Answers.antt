@@ -1,7 +1,7 @@
--- `exports::rooms::sendai_room_ask` meets its contract: what its two calls ensure, put together. Assumes nothing.
+-- `exports::room_graphs::sendai_room_ask` meets its contract: what its two calls ensure, put together. Assumes nothing.
 use mathlib.Core.Path.{ap, ◌∙◌}
 use Rattle.answers.specs.Answers.{plain_answer}
-use Rattle.exports.proofs.rooms.sendai_room_ask.Goals as goal
+use Rattle.exports.proofs.room_graphs.sendai_room_ask.Goals as goal
 
 pub returns : goal.returns
 returns c =
