@@ -1,5 +1,4 @@
-/* The Sendai border checker for C11 and C++11: the functions of target/staticlib/libexports.a, which `bindings/prove archive` writes, and of libsendai,
- * which `bindings/install` is to make of it.
+/* The Sendai border checker for C11 and C++11: the functions of target/staticlib/libexports.a, which `bindings/prove archive` writes.
  *
  * Every call answers on every input: numbers and records may be anything, and bad ones are refused by number (below). What the caller
  * owes is its pointers: each points to as many elements as the length behind it says, or to one record, and is never null, not even where

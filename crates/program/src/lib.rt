@@ -107,5 +107,6 @@ pub fn run(rt: &(impl Files + Print + Eprint), name: &[u8]) -> bool {
     };
     let mut buffer = large_buffer();
     let n = read_full(&mut file, &mut buffer);
+    drop(file);
     print_case(rt, &buffer[..n])
 }

@@ -198,7 +198,7 @@ class Ended(InFolder):
             self.assertEqual((process.stderr.read(), process.wait(20)), (b"", 128 + signal.SIGINT))
 
 
-@unittest.skipUnless(os.path.exists(PROGRAM), "no %s (run `rt check sendai`)" % PROGRAM)
+@unittest.skipUnless(os.path.exists(PROGRAM), "no %s (run `bindings/prove program`)" % PROGRAM)
 class Program(InFolder):
     def test_paper(self):
         made = self.file("made", PAPER)

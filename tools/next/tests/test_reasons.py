@@ -68,7 +68,7 @@ def random_puzzle(rng):
     return made
 
 
-@unittest.skipUnless(os.path.exists(PROGRAM), "no %s (run `rt check sendai`)" % PROGRAM)
+@unittest.skipUnless(os.path.exists(PROGRAM), "no %s (run `bindings/prove program`)" % PROGRAM)
 class BesideTheProgram(unittest.TestCase):
     def test_refused_puzzles(self):
         rng, numbers = random.Random(10), set()

@@ -64,7 +64,7 @@ class Drawings(unittest.TestCase):
                      ROOMS.replace("-", "═").replace("|", "║").replace("+", "╬"),
                      "┌───┬───────┐\n│ 2   . │ 1 │\n├───┐   ├───┤\n│   │   o   │\n╰───┴───┴───╯".replace("┬───────┐", "────┬───┐")):
             self.assertEqual(parse(form), plain, form)
-        with open(os.path.join(TOP, "README.md"), encoding="utf-8") as f:
+        with open(os.path.join(TOP, "tools", "next", "README.md"), encoding="utf-8") as f:
             drawn = re.search(r"\n(    \+---(?:.*\n)(?:    [|+].*\n)+)    4  wall 0", f.read()).group(1)
         self.assertEqual(parse(drawn).calls, [(WALL, 0), (WALL, 6), (ASK, None)])
 

@@ -1,5 +1,5 @@
 #!/usr/bin/env python3
-"""Tests of the program as it is installed, with its statuses. Run it anywhere: python3 tools/test_program.py [PROGRAM]
+"""Tests of the program as it is installed, with its statuses. Run it anywhere: python3 tools/next/test_program.py [PROGRAM]
 
 PROGRAM is target/bindings/sendai, which bindings/build makes, where none is named. What is wrong with a file is held to a reader of its own here.
 """
@@ -14,7 +14,7 @@ import sys
 import tempfile
 import unittest
 
-TOP = os.path.dirname(os.path.dirname(os.path.abspath(__file__)))
+TOP = os.path.dirname(os.path.dirname(os.path.dirname(os.path.abspath(__file__))))
 PROGRAM = os.path.join(TOP, "target", "bindings", "sendai")
 SECONDS = 2  # nothing that is refused takes longer
 PAPER = bytes.fromhex("010012010300000001FFFF0004020000010001" + "0300")

@@ -1,0 +1,290 @@
+#!/usr/bin/env python3
+"""Case files for the Sendai border checker: made from a drawing in text, a puzzle's URL or a seed, drawn with their answers, and with all
+right boards.
+
+    case.py make DRAWING|URL [FILE]                  write the case file of a drawing or a URL
+    case.py show [FILE]                              draw a case with what the program answers, as text, page or picture
+    case.py answers [FILE]                           draw the right boards that extend what the calls of a case decide
+    case.py load SEED HEIGHT WIDTH COUNT [FILE]      write a case file of COUNT calls, the same each time for a seed
+    case.py url [FILE]                               print the URL of a case's puzzle
+
+`case.py COMMAND --help` says what each takes. FILE is sendai.bin where none is named; where one is read, it may be a case file, a drawing,
+a URL, or '-' for standard input. What is wrong is said in one line, and the exit status is 2 then.
+
+A drawing has a row of cells and a row of borders in turn, three characters a cell:
+
+    +---+---+---+
+    | 2   . x   |        |  ---   a given wall, or the board's edge
+    +   +---+ o +        x        decided Wall         (a letter in the middle of the three for a border below)
+    |   |   o   |        o        decided Connected
+    +---+---+---+        a blank  undecided            (? too)
+
+A number in a cell is the clue of the cell's room; a dot is a blank. Lines behind the drawing are calls, in order, after the
+drawn borders, which are decided in the order of their numbers:
+
+    wall 3 | connect 3 | undo | ask | clue ROOM COUNT
+
+A drawing without such a call ends with an ask. A line that starts with '#' is a comment. A drawing may be indented, and have box
+characters for its lines. `make` refuses what the program would refuse as a whole, and a call that names no border; with --as-is it doesn't.
+
+A URL is one as pzpr and the Rust's serialize_problem have it, whatever stands before its `sendai/WIDTH/HEIGHT/..`. A wall that parts no two
+rooms is a given wall like others. Messages count lines, columns, rows and characters from 1, rooms, borders and bytes from 0.
+
+In a drawing that `show` makes, X and O stand for the borders that the fault lists: X for a listed Wall, O for a listed Connected.
+In one that `answers` makes, they stand for the borders in which the puzzle's answers differ, shown or not; what all answers share
+is drawn first, with ? for these borders.
+
+A seed is a number of 32 bits other than 0, decimal or after 0x hexadecimal. The case that `load` makes of it has no given walls and
+one room without a clue. A file has at most 60,003 bytes: a load of more is refused.
+
+Only Python's standard library is used.
+"""
+import argparse
+import os
+import re
+import sys
+
+from cases import svg, text, url
+from cases.answers import Answers, report, values
+from cases.file import encode
+from cases.model import Case, Mistake, drawable, refusal
+from cases.page import Book, page_path
+from cases.program import run
+from cases.read import naming, read_bytes, read_case, text_of, told
+from cases.reasons import why
+from cases.text import refusal_said
+from cases.turns import Choice, check_lines
+from checker import puzzle_of, sendai
+from command import Parser, let_go, natural
+
+
+# What the checker's own calls find: the only use of the library.
+
+def opened(path):
+    """Takes the checker's calls from an archive or a shared library."""
+    try:
+        sendai.load(path)
+    except sendai.NoLibrary as e:
+        raise Mistake(str(e)) from None
+
+
+def found_answers(puzzle, cap):
+    """The right boards of a puzzle up to a cap."""
+    case = Case(puzzle.height, puzzle.width, puzzle.given, puzzle.clues)
+    standing = values(puzzle.states())
+    boards, more = puzzle.right_boards(cap)
+    boards = [values(board) for board in boards]
+    differing = [b for b in boards[0] if differs(puzzle, boards, b, more and b not in standing)] if boards else []
+    return Answers(case, standing, boards, more, differing)
+
+
+def differs(puzzle, boards, border, others):
+    """Whether answers differ in a border; where others exist that aren't shown, it is tried the other way."""
+    value = boards[0][border]
+    if any(board[border] != value for board in boards):
+        return True
+    if not others:
+        return False
+    otherwise = puzzle.copy()
+    otherwise.decide(border, not value)
+    return otherwise.right_boards(0).more
+
+
+# The commands.
+
+def write(path, content):
+    """Writes a file, or to standard output for '-'."""
+    data = content if isinstance(content, bytes) else content.encode("utf-8")
+    if path == "-":
+        sys.stdout.buffer.write(data)
+        return
+    try:
+        with open(path, "wb") as f:
+            f.write(data)
+    except (OSError, ValueError) as e:
+        raise Mistake("%s: %s" % (path, told(e))) from None
+
+
+def answer_lines(args, case):
+    """The lines of the program for a case, each of which answers its call; None where there are none."""
+    source = args.program or args.answers
+    if source is None:
+        return None
+    with naming(source):
+        lines = run(source, case) if args.program else text_of(read_bytes(source)).splitlines()
+        check_lines(case, lines)
+    return lines
+
+
+def make(args):
+    case = read_case(args.drawing, args.as_is)
+    with naming(args.drawing):
+        if refusal(case) and not args.as_is:
+            raise Mistake(refusal_said(case))
+        data = encode(case)
+    write(args.file, data)
+
+
+def write_url(args):
+    case = read_case(args.file)
+    with naming(args.file):
+        print(url.write(case))
+
+
+def load(args):
+    if args.seed >= 2 ** 32:
+        raise Mistake("the seed does not fit 32 bits")
+    opened(args.library)
+    write(args.file, sendai.generate_case(args.seed, args.height, args.width, args.count))
+
+
+def show(args):
+    if args.file == "-" == args.answers:
+        raise Mistake("standard input can't be both the case and its answers")
+    case = read_case(args.file)
+    lines = answer_lines(args, case)
+    choice = Choice(args.steps, args.faults)
+    choice.check(case, lines)
+    if args.html:
+        write_pages(args.html, Book(pictured(case), lines, choice, args.numbers))
+    if args.svg:
+        write(args.svg, svg.asks(pictured(case), lines, choice, args.numbers))
+    if not (args.html or args.svg):
+        for part in text.report(case, lines, choice, why if args.why else None):
+            print(part)
+
+
+def pictured(case):
+    """The case, where there is a picture of its board."""
+    if not drawable(case):
+        raise Mistake("there is no picture of a board of %d by %d" % (case.height, case.width))
+    return case
+
+
+def write_pages(path, book):
+    """Writes the pages, and says on a terminal how far it is."""
+    if book.count > 1 and path == "-":
+        raise Mistake("%d pages can't go to standard output: choose some steps by --steps or --faults" % book.count)
+    progress = book.count > 1 and sys.stderr.isatty()
+    for number, content in enumerate(book.pages(path), 1):
+        write(page_path(path, number), content)
+        if progress:
+            print("\rpage %d of %d" % (number, book.count), end="\n" if number == book.count else "", file=sys.stderr, flush=True)
+
+
+def answers(args):
+    opened(args.library)
+    found = found_answers(puzzle_of(read_case(args.file)), args.cap)
+    print(report(found))
+    if args.svg:
+        drawings = found.drawings()
+        drawings[0] = ("started: " + found.told(),) + drawings[0][1:]
+        write(args.svg, svg.picture(found.case, [svg.Panel(*drawing) for drawing in drawings], svg.OF_ANSWERS))
+
+
+# The command line.
+
+def spans(word):
+    """Pairs of a first and a last number: of 7, 10-20 or 1-5,9."""
+    found = []
+    for part in word.split(","):
+        first, dash, last = part.partition("-")
+        found.append((natural(first), natural(last) if dash else natural(first)))
+        if not 1 <= found[-1][0] <= found[-1][1]:
+            raise argparse.ArgumentTypeError("%r is no span of numbers from 1" % part)
+    return found
+
+
+def seed_number(word):
+    return int(word, 16) if re.fullmatch("0[xX][0-9a-fA-F]+", word) else natural(word)
+
+
+SOURCE = "a case file, a drawing in text or a puzzle's URL, told by what is in it; '-' is standard input (default: sendai.bin)"
+TARGET = "where to write the case file; '-' is standard output (default: sendai.bin)"
+LIBRARY = "the archive with the checker's calls, or a shared library of it (default: target/staticlib/libexports.a of this repository)"
+
+
+def add_make(commands):
+    it = commands.add_parser("make", help="write the case file of a drawing or a puzzle's URL")
+    it.add_argument("drawing", metavar="DRAWING|URL", help="a drawing in text ('-' is standard input) or a puzzle's URL")
+    it.add_argument("file", metavar="FILE", nargs="?", default="sendai.bin", help=TARGET)
+    it.add_argument("--as-is", action="store_true", help="write it even if the program will refuse it: for trying refusals")
+    it.set_defaults(act=make)
+
+
+def add_url(commands):
+    it = commands.add_parser("url", help="print the URL of a case's puzzle")
+    it.add_argument("file", metavar="FILE", nargs="?", default="sendai.bin", help=SOURCE)
+    it.set_defaults(act=write_url)
+
+
+def add_show(commands):
+    it = commands.add_parser("show", help="draw a case with its answers")
+    it.add_argument("file", metavar="FILE", nargs="?", default="sendai.bin", help=SOURCE)
+    lines = it.add_mutually_exclusive_group()
+    lines.add_argument("--answers", metavar="LINES", help="a file with the lines that the program printed for it; '-' is standard input")
+    lines.add_argument("--program", metavar="PATH", help="or the program itself, which is run on the case")
+    it.add_argument("--html", metavar="PAGE", help="write a page of HTML instead, with a step for each call and why a fault is one; "
+                    "many steps make several, PAGE-2 and so on")
+    it.add_argument("--svg", metavar="PICTURE", help="write an SVG picture instead, with the board of each ask and why a fault is one")
+    it.add_argument("--steps", metavar="N-M", type=spans, help="these calls alone, counted from 1: 7, 10-20 or 1-5,9")
+    it.add_argument("--faults", action="store_true", help="those calls alone whose answer is a fault")
+    it.add_argument("--numbers", action="store_true", help="write each border's number into pages and pictures")
+    it.add_argument("--why", action="store_true", help="say in the text, too, why a fault is one")
+    it.set_defaults(act=show)
+
+
+def add_answers(commands):
+    it = commands.add_parser("answers", help="draw the right boards of a case's puzzle")
+    it.add_argument("file", metavar="FILE", nargs="?", default="sendai.bin", help=SOURCE)
+    it.add_argument("--cap", metavar="N", type=natural, default=10, help="at most so many of them (default: 10); 0: only whether there is one")
+    it.add_argument("--svg", metavar="PICTURE", help="draw them as an SVG picture too")
+    it.add_argument("--library", metavar="PATH", help=LIBRARY)
+    it.set_defaults(act=answers)
+
+
+def add_load(commands):
+    it = commands.add_parser("load", help="write the case file that a seed makes")
+    it.add_argument("seed", metavar="SEED", type=seed_number, help="a number of 32 bits other than 0, decimal or after 0x hexadecimal")
+    it.add_argument("height", metavar="HEIGHT", type=natural, help="rows, 1 to 32")
+    it.add_argument("width", metavar="WIDTH", type=natural, help="columns, 1 to 32")
+    it.add_argument("count", metavar="COUNT", type=natural, help="how many calls; the file has at most 60,003 bytes")
+    it.add_argument("file", metavar="FILE", nargs="?", default="sendai.bin", help=TARGET)
+    it.add_argument("--library", metavar="PATH", help=LIBRARY)
+    it.set_defaults(act=load)
+
+
+def command_line():
+    parser = Parser(prog="case.py", description=__doc__, formatter_class=argparse.RawDescriptionHelpFormatter)
+    commands = parser.add_subparsers(dest="command", metavar="COMMAND", help="what to do:", required=True)
+    for add in (add_make, add_show, add_answers, add_load, add_url):
+        add(commands)
+    return parser
+
+
+def main(words):
+    """Acts on the words of a command, and returns the exit status: 0, or 2 where something is wrong, which one line says."""
+    args = command_line().parse_args(words)
+    sys.stdout = sys.stdout or open(os.devnull, "w")  # there is none where the shell has closed it
+    try:
+        args.act(args)
+        sys.stdout.flush()
+        return 0
+    except BrokenPipeError:  # who reads the output wants no more
+        let_go()
+        return 128 + 13
+    except KeyboardInterrupt:
+        return 128 + 2
+    except MemoryError:
+        wrong = "no memory for so many boards: a smaller --cap"
+    except OSError as e:
+        let_go()
+        wrong = "standard output: " + told(e)
+    except (Mistake, sendai.Refused) as e:
+        wrong = str(e)
+    print("case.py: " + " ".join(wrong.split()), file=sys.stderr)
+    return 2
+
+
+if __name__ == "__main__":
+    sys.exit(main(sys.argv[1:]))

@@ -1,1 +1,0 @@
-"""Tests of the tools; tools/test_case.py runs them."""
