@@ -8,8 +8,8 @@ use native.Mathlib.Omega.{arith}
 use lib.Dec.{eqb, leb, ltb}
 use lib.ListN.{length, drop, get_or}
 use borrow.Author.Tests.{le-leb, lt-leb, lt-ltb, le-ltb, eq-eqb, ne_eqb}
-use Rattle.lists.specs.Choice.{pick, both}
-use Rattle.case_file.specs.Sound.{Case, decode_of}
+use Rattle.lists.specs.Choice.{pick}
+use Rattle.case_file.specs.Sound.{Case}
 use Rattle.case_file.specs.Sound.{call_of as Sound·callOf}
 use Rattle.case_file.specs.Layout.{step_at, file_of}
 use Rattle.case_file.specs.declared.Call.{Call}

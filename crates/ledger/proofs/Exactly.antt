@@ -16,7 +16,7 @@ use Rattle.lists.specs.Lists.{count}
 use Rattle.lists.proofs.Cases.{le_or_lt, eq_or_ne}
 use Rattle.ledger.specs.declared.Book.{Book}
 use Rattle.ledger.specs.Ledger.{Decision, stroke, standing, whole, borders, stroke_code, added, ledger_of}
-use Rattle.ledger.specs.Books.{zeros, book, fresh_book, half, starts, name_of, names_from, names_of, names_in, state_at, book_holds, placed, book_after, run}
+use Rattle.ledger.specs.Books.{zeros, book, fresh_book, half, name_of, names_from, names_of, names_in, state_at, book_holds, placed, book_after, run}
 use Rattle.ledger.proofs.Standing.{Sound, count_both, not_decided}
 use Rattle.ledger.proofs.Strokes.{Fits, code_fits, fits_code}
 use Rattle.ledger.proofs.NameLaws.{whole_append, NoneEmpty, names_all, names_append}

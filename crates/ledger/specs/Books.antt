@@ -5,7 +5,7 @@ use Rattle.std.proofs.lemmas.List.Edits.{sets}
 use Rattle.limits.specs.Limits.{most_borders}
 use Rattle.lists.specs.Choice.{both, either, pick}
 use Rattle.ledger.specs.declared.Book.{Book}
-use Rattle.ledger.specs.Ledger.{Decision, Call, stroke, undo, ask, state_for, borders, stroke_code, undo_code, holds_of}
+use Rattle.ledger.specs.Ledger.{Decision, Call, stroke, undo, ask, state_for, stroke_code, undo_code, holds_of}
 
 -- the places of an array, all free
 unfoldable pub zeros : List ℕ

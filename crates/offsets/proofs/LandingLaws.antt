@@ -1,11 +1,9 @@
 -- What lies beyond a cell, and where its border lands, as facts; a landing by doubled coordinates is the definition's. Assumes nothing.
 use Prim.Native.Nat.{ℕ, ◌≤◌, ◌<◌}
 use mathlib.Core.Path.{◌≡◌, refl, ap, ap₂, sym, ◌∙◌}
-use mathlib.Core.Logic.{◌⊎◌, ⊎_elim}
 use mathlib.Core.Bool.{Bool, true, false, not}
 use mathlib.Core.List.{List}
 use native.Mathlib.Omega.{arith}
-use denote.Enum.Declared.{tag_of}
 use lib.Dec.{eqb}
 use lib.IntN.{ℤ}
 use lib.ListN.{get_or, length}
@@ -19,7 +17,6 @@ use Rattle.grid.specs.declared.Direction.{Direction}
 use Rattle.grid.specs.declared.Direction.TheVariants.{Up, Down, Left, Right}
 use Rattle.grid.specs.declared.Beyond.{Beyond}
 use Rattle.grid.specs.declared.Beyond.TheVariants.{At, End, Refused}
-use Rattle.grid.specs.contracts.Beyond.{the_type}
 use Rattle.grid.specs.declared.Grid.{Grid}
 use Rattle.grid.specs.Grid.{Limits, Cell, On, row, col, goes_on, next, border, border_count, step_of}
 use Rattle.grid.proofs.Geometry.{goes_step, border_lt, border_count_le, row_lt, col_lt}

@@ -1,5 +1,5 @@
 -- Where the cells of a unit fall, and whether the offset is passed over. Assumes nothing.
-use Rattle.std.specs.Prelude.{ℕ, ◌+◌, ◌-◌, ◌*◌, ◌<◌, Bool, not, List, eqb, get_or, length}
+use Rattle.std.specs.Prelude.{ℕ, ◌+◌, ◌*◌, ◌<◌, Bool, not, List, eqb, get_or, length}
 use Rattle.std.proofs.Math.Option.{Option, none, some}
 use Rattle.lists.specs.Choice.{both, holds, through}
 use Rattle.lists.specs.Lists.{In, all, any}

@@ -1,13 +1,12 @@
 -- Writing: the failed landings, the marked potential units, and the whole list. Assumes nothing.
-use Prim.Native.Nat.{ℕ, ◌+◌, ◌-◌, ◌*◌, ◌≤◌, ◌<◌}
+use Prim.Native.Nat.{ℕ, ◌+◌, ◌*◌, ◌≤◌, ◌<◌}
 use mathlib.Core.Path.{◌≡◌, refl, ap, sym, ◌∙◌}
-use mathlib.Core.Logic.{◌⊎◌, ◌≢◌, ⊎_elim}
+use mathlib.Core.Logic.{◌≢◌}
 use mathlib.Core.Bool.{Bool, true, false, not}
 use mathlib.Core.List.{List, [], ◌∷◌, ◌++◌}
 use native.Mathlib.Omega.{arith}
 use native.Mathlib.Nat.{add-zero}
 use borrow.Author.Tests.{ne_eqb}
-use denote.Enum.Declared.{tag_of}
 use lib.Dec.{eqb}
 use lib.ListN.{get_or, length, set, length-append}
 use Rattle.lists.specs.Choice.{pick, when}
@@ -23,7 +22,6 @@ use Rattle.boundary.specs.Listing.{Listable}
 use Rattle.boundary.proofs.AppendLaws.{appended_long, appended_then}
 use Rattle.shape.specs.declared.Try.{Try}
 use Rattle.shape.specs.declared.Try.TheVariants.{Passed, Good, Failed}
-use Rattle.shape.specs.contracts.Try.{the_type}
 use Rattle.shape.specs.Shape.{head_or0, adjacent, UnitInfo, unit_of, entry_of, failures, boundaries}
 use Rattle.shape.proofs.Lengths.{failures_most, boundaries_most}
 use Rattle.groups.proofs.GroupLaws.{in_cells}

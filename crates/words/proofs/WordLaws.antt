@@ -1,7 +1,7 @@
 -- Laws of single bits: of `&`, `|`, `>>`, `1 << j`; and a word that has a bit that another lacks. Assumes nothing.
 use Prim.Native.Nat.{ℕ, zero, suc, ◌+◌, ◌-◌, ◌*◌, ◌/◌, ◌%◌, ◌^◌, ◌≤◌, ◌<◌, min}
 use mathlib.Core.Path.{◌≡◌, refl, sym, ap, ap₂, ◌∙◌, subst}
-use mathlib.Core.Logic.{◌⊎◌, ⊎_elim, ◌≢◌}
+use mathlib.Core.Logic.{⊎_elim, ◌≢◌}
 use mathlib.Core.Bool.{true, false}
 use native.Mathlib.Nat.{zero-div, div-one, div-eq_of_lt, mod-lt, zero-lt-suc, add_comm, mul-mod_left, one-mul, div-add-mod', zero-min}
 use native.Mathlib.Numerals.{add-one}
