@@ -217,7 +217,8 @@ fn sections(m: &Measured) -> Vec<(&'static str, Vec<String>)> {
 pub fn run() {
     let section = |(title, parts): (&str, Vec<String>)| format!("\n## {title}\n\n{}", parts.join("\n"));
     let sections: String = sections(&Measured::new()).into_iter().map(section).collect();
-    let text = format!("{HEAD}{sections}");
+    let kit = std::process::Command::new("rt").arg("version").output().map_or(String::new(), |told| String::from_utf8_lossy(&told.stdout).trim().to_string());
+    let text = format!("{HEAD}\nThe archive is by `{kit}`.\n{sections}");
     std::fs::write(PAPER, &text).expect("docs/PERFORMANCE.md");
     println!("{text}");
 }
