@@ -1,5 +1,6 @@
 -- What a call comes to, the case of its answer with its number and values (SPEC 3.16), and what it leaves in the buffer (SPEC 3.12, 3.15). Assumes nothing.
 use Rattle.std.specs.Prelude.{ℕ, ◌≡◌, Bool, true, false, List, [], length}
+use Rattle.std.specs.Prelude as std
 use Rattle.std.proofs.Math.Option.{Option, none, some}
 use Rattle.std.proofs.lemmas.List.Edits.{sets}
 use Rattle.answers.specs.declared.Listed.{Listed}
@@ -50,6 +51,15 @@ written (listed l) buffer = sets buffer 0 l
 -- what a stage of a check answers and leaves
 pub record Told (o : Option (List ℕ)) (buffer buffer' : List ℕ) (r : Found) : Type 0 where
   pub answer : r ≡ found_of o
+  pub stored : buffer' ≡ written (found o) buffer
+
+-- the same where a stage answers by std's `Option`: nothing, or how many places hold the list
+abbrev pub length_found : Option (List ℕ) → std.Option ℕ
+length_found none = std.None
+length_found (some l) = std.Some (length l)
+
+pub record Finds (o : Option (List ℕ)) (buffer buffer' : List ℕ) (r : std.Option ℕ) : Type 0 where
+  pub answer : r ≡ length_found o
   pub stored : buffer' ≡ written (found o) buffer
 
 -- AS NUMBERS, for other languages

@@ -1,8 +1,12 @@
 // What calls answer: a list or a refusal; clear, a fault or a refusal; and, inside a check, nothing or a fault. One form for other languages.
 #![tactic(auto)]
 
-ghost use Rattle.std.specs.Prelude.{◌≡◌};
-ghost use Rattle.answers.specs.Answers.{plain_listed, plain_answer};
+ghost use Rattle.std.specs.Prelude.{◌≡◌, false};
+ghost use Rattle.answers.specs.Answers.{plain, plain_listed, plain_answer};
+ghost use Rattle.answers.specs.Refusals.{number_of, code_of, result_plain, ask_plain};
+
+use std::error::Error;
+use std::fmt;
 
 // How many places of the buffer hold the list, or the number of the question that refuses the call.
 #[derive(Clone, Copy)]
@@ -71,5 +75,136 @@ pub fn of_answer(answer: Answer) -> Plain
             fault: false,
             length: 0,
         },
+    }
+}
+
+// Why a call is refused: the question that its input does not pass (SPEC 3). Its number is what other languages get.
+#[derive(Clone, Copy, Debug, PartialEq, Eq)]
+pub enum Refusal {
+    // 1: a size outside its limits.
+    Size,
+    // 2: a record that does not hold together.
+    Record,
+    // 3: a cell, border, vertex, edge or group that does not exist.
+    Missing,
+    // 4: a border that is decided already.
+    Decided,
+    // 5: nothing that an undo could take back.
+    NothingToUndo,
+    // 6: a buffer with too few places.
+    ShortBuffer,
+    // 7: given walls that do not rise.
+    Unsorted,
+    // 8: not one clue for each room.
+    ClueCount,
+    // 9: a clue above its room's size.
+    LargeClue,
+    // 10: cells that no Connected borders join.
+    NotJoined,
+    // 11: an unsound case file.
+    UnsoundFile,
+    // 12: too many undecided borders for a search.
+    ManyUndecided,
+    // 13: the seed 0.
+    ZeroSeed,
+    // 14: a border that stands twice in a stroke.
+    Repeated,
+}
+
+impl From<Refusal> for u8 {
+    ghost from_gives = { λ refusal number. number ≡ number_of refusal };
+
+    fn from(refusal: Refusal) -> u8 {
+        match refusal {
+            Refusal::Size => 1,
+            Refusal::Record => 2,
+            Refusal::Missing => 3,
+            Refusal::Decided => 4,
+            Refusal::NothingToUndo => 5,
+            Refusal::ShortBuffer => 6,
+            Refusal::Unsorted => 7,
+            Refusal::ClueCount => 8,
+            Refusal::LargeClue => 9,
+            Refusal::NotJoined => 10,
+            Refusal::UnsoundFile => 11,
+            Refusal::ManyUndecided => 12,
+            Refusal::ZeroSeed => 13,
+            Refusal::Repeated => 14,
+        }
+    }
+}
+
+impl fmt::Display for Refusal {
+    fn fmt<W: fmt::Write>(&self, f: &mut fmt::Formatter<W>) -> fmt::Result {
+        f.write_str(match self {
+            Refusal::Size => "the size is outside its limits",
+            Refusal::Record => "the record does not hold together",
+            Refusal::Missing => "there is no such cell, border, vertex, edge or group",
+            Refusal::Decided => "the border is decided already",
+            Refusal::NothingToUndo => "there is nothing to take back",
+            Refusal::ShortBuffer => "the buffer has too few places",
+            Refusal::Unsorted => "the given walls do not rise",
+            Refusal::ClueCount => "there is not one clue for each room",
+            Refusal::LargeClue => "a clue is above its room's size",
+            Refusal::NotJoined => "no Connected borders join the cells",
+            Refusal::UnsoundFile => "the case file is unsound",
+            Refusal::ManyUndecided => "too many borders are undecided",
+            Refusal::ZeroSeed => "the seed is 0",
+            Refusal::Repeated => "a border stands twice in the stroke",
+        })
+    }
+}
+
+impl Error for Refusal {}
+
+// The number of the question that refuses, or 0.
+pub fn code_of(checked: Result<(), Refusal>) -> u8
+    ensures { result ≡ code_of checked }
+{
+    match checked {
+        Ok(()) => 0,
+        Err(refusal) => u8::from(refusal),
+    }
+}
+
+// A call that lists: how many places hold the list.
+impl From<Result<usize, Refusal>> for Plain {
+    ghost from_gives = { λ listed plain. plain ≡ result_plain listed };
+
+    fn from(listed: Result<usize, Refusal>) -> Plain {
+        match listed {
+            Ok(length) => Plain {
+                code: 0,
+                fault: false,
+                length,
+            },
+            Err(refusal) => refused(refusal),
+        }
+    }
+}
+
+// An ask: nothing, or a fault with how many places hold its list.
+impl From<Result<Option<usize>, Refusal>> for Plain {
+    ghost from_gives = { λ answer plain. plain ≡ ask_plain answer };
+
+    fn from(answer: Result<Option<usize>, Refusal>) -> Plain {
+        match answer {
+            Ok(found) => Plain {
+                code: 0,
+                fault: found.is_some(),
+                length: found.unwrap_or(0),
+            },
+            Err(refusal) => refused(refusal),
+        }
+    }
+}
+
+fn refused(refusal: Refusal) -> Plain
+    ensures { result ≡ plain (number_of refusal) false 0 }
+{
+    Plain {
+        code: u8::from(refusal),
+        fault: false,
+        length: 0,
     }
 }

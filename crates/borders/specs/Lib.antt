@@ -2,4 +2,5 @@
 -- Proved in proofs/: an entry stands exactly as the border's state says (`EntryLaws`); the tests say what they read (`BorderLaws`) and read
 -- the board's borders alone (`Agreement`); two neighbours are told once, from the upper or left one (`Directions`).
 pub mod Entry
+pub mod Fits
 pub mod Border

@@ -1,6 +1,6 @@
 // Calls on a size: the neighbour of a cell, and the border between them.
 use crate::say;
-use grid::{Beyond, Direction, Grid};
+use grid::{Direction, Grid, Neighbour};
 use std::io::Stdout;
 
 fn direction(n: usize) -> Direction {
@@ -13,9 +13,9 @@ fn direction(n: usize) -> Direction {
 }
 
 pub fn say_neighbour(out: Stdout, g: Grid, cell: usize, towards: usize) {
-    match grid::neighbour(g, cell, direction(towards)) {
-        Beyond::At(cell, border) => say::triple(out, 0, cell, border),
-        Beyond::End => say::code(out, 0),
-        Beyond::Refused(code) => say::code(out, code),
+    match g.neighbour(cell, direction(towards)) {
+        Ok(Some(Neighbour { cell, border })) => say::triple(out, 0, cell, border),
+        Ok(None) => say::code(out, 0),
+        Err(refusal) => say::code(out, u8::from(refusal)),
     }
 }
