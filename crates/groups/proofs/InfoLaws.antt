@@ -7,13 +7,14 @@ use mathlib.Core.List.{List, []}
 use native.Mathlib.Omega.{arith}
 use borrow.Author.Tests.{lt-ltb, le-ltb, le-leb, lt-leb, eq-eqb, ne_eqb, ltb-true, leb-true, eqb-true}
 use lib.Dec.{eqb, ltb, leb}
-use lib.ListN.{get_or, length}
-use lib.Seq.{sets}
+use lib.ListN.{get_or, length, take}
+use lib.Seq.{sets, length-take-le}
+use Rattle.std.proofs.lemmas.List.{get_or-take}
 use Rattle.limits.specs.Limits.{most_cells}
 use Rattle.lists.specs.Choice.{pick}
 use Rattle.lists.specs.Lists.{count_from, range, all}
-use Rattle.lists.proofs.ChoiceLaws.{both_true}
-use Rattle.lists.proofs.ListLaws.{all_step, all_end, all_true, range_in}
+use Rattle.lists.proofs.ChoiceLaws.{both_true, same_truth}
+use Rattle.lists.proofs.ListLaws.{all_step, all_end, all_true, true_all, range_in, in_range, in_get_d, get_d_in}
 use Rattle.grid.specs.declared.Grid.{Grid}
 use Rattle.grid.specs.Grid.{cells, sizes_ok, Limits}
 use Rattle.grid.proofs.Geometry.{limits, limits_ok}
@@ -65,9 +66,27 @@ module _ (n count : ℕ) (starts : List ℕ) where
 abbrev pub exists : ℕ → List ℕ → ℕ → Bool
 exists count ids c = ltb (get_or ids c 0) count
 
-pub by_exists : (n count : ℕ) (ids : List ℕ) {t : Bool} → all (exists count ids) (range n) ≡ t → t ≡ groups_exist n count ids
+-- a test of the first n elements of a list is one of their places
+all_front : (p : ℕ → Bool) (n : ℕ) (xs : List ℕ) → n ≤ length xs → all p (take n xs) ≡ all (λ c. p (get_or xs c 0)) (range n)
+all_front p n xs h =
+    same_truth (all p (take n xs)) (all (λ c. p (get_or xs c 0)) (range n))
+    (λ q.
+    true_all (λ c. p (get_or xs c 0)) (range n)
+    (λ c m.
+    let l : c < n = in_range n c m in
+    let e : get_or (take n xs) c 0 ≡ get_or xs c 0 = get_or-take n xs c 0 l in
+    rw e at (all_true p (take n xs) q (get_or (take n xs) c 0) (get_d_in 0 (take n xs) c (rw (length-take-le n xs h) l)))))
+    (λ q.
+    true_all p (take n xs)
+    (λ x m.
+    let o = in_get_d 0 x (take n xs) m in
+    let l : o.0 < n = rw (length-take-le n xs h) at o.1 in
+    let e : x ≡ get_or xs o.0 0 = sym o.2 ∙ get_or-take n xs o.0 0 l in
+    rw e (all_true (λ c. p (get_or xs c 0)) (range n) q o.0 (range_in n o.0 l))))
+
+pub by_exists : (n count : ℕ) (ids : List ℕ) {t : Bool} → n ≤ length ids → t ≡ all (λ x. ltb x count) (take n ids) → t ≡ groups_exist n count ids
 unfolding groups_exist
-by_exists n count ids e = rw e
+by_exists n count ids h e = e ∙ all_front (λ x. ltb x count) n ids h
 
 -- GROUPING
 

@@ -228,6 +228,46 @@ module _ {g : Grid} (limits : Limits g) where
     pub front_turns : InTurn g (take (cells g) ids) count starts flat
     front_turns = rw ids_are (in_turn_lem arrays_lent w)
 
+-- without the places behind the last group's start
+front_starts : {g : Grid} {ids : List ℕ} {count : ℕ} {starts flat : List ℕ} → InTurn g ids count starts flat → InTurn g ids (length (take count starts)) (take count starts) flat
+front_starts {g} {ids} {count} {starts} {flat} w =
+    let n : length (take count starts) ≡ count = length-take-le count starts w.starts_long in
+    let same : (k : ℕ) → k < count → get_or (take count starts) k 0 ≡ get_or starts k 0 = λ k h. get_or-take count starts k 0 h in
+    let end : (k : ℕ) → k < count → end_of (cells g) count (take count starts) k ≡ end_of (cells g) count starts k =
+    λ k h.
+    ⊎_elim
+    (λ (l : count ≤ k + 1). sym (end_last (cells g) count (take count starts) k l) ∙ end_last (cells g) count starts k l)
+    (λ (l : k + 1 < count). sym (end_next (cells g) count (take count starts) k l) ∙ same (k + 1) l ∙ end_next (cells g) count starts k l)
+    (le_or_lt count (k + 1)) in
+    rw n
+    (record {
+      few = w.few;
+      ids_long = w.ids_long;
+      starts_long = omega (arith, n);
+      flat_long = w.flat_long;
+      small = w.small;
+      between = λ k h.
+          let b = w.between k h in
+          record { some = rw (same k h, end k h) b.some; within = rw (end k h) b.within; are = rw (same k h, end k h) b.are };
+    })
+
+-- WHAT A GROUPING LEFT in slices that it was lent is a `Groups`: the cells' groups, the groups' starts, and the cells in turn
+module _ {g : Grid} {st : List ℕ} {p : Bool} {ids₀ starts₀ flat₀ ids starts flat : List ℕ} {count : ℕ} (l : Lent (cells g) ids₀ starts₀ flat₀)
+    (w : Grouped g st p ids₀ starts₀ flat₀ ids starts flat count) where
+  pub made_ids_fit : cells g ≤ length ids
+  made_ids_fit = rw w.ids_are (simp length-sets l.ids_long)
+
+  pub made_starts_fit : count ≤ length starts
+  made_starts_fit = (in_turn_lem l w).starts_long
+
+  pub made_ids : take (cells g) ids ≡ group_ids g st p
+  made_ids =
+      let n : length (group_ids g st p) ≡ cells g = ids_length g st p in
+      rw (w.ids_are, ← n) (front ids₀ (group_ids g st p) (omega (arith, n, l.ids_long)))
+
+  pub made : InTurn g (take (cells g) ids) (length (take count starts)) (take count starts) flat
+  made = rw made_ids (front_starts (in_turn_lem l w))
+
 -- THE CELLS OF ONE GROUP, in slices that have them in turn
 module _ {g : Grid} {ids starts flat : List ℕ} {count : ℕ} (w : InTurn g ids count starts flat) {k : ℕ} (h : k < count) where
   pub turn_slot : Slot g starts flat count k
