@@ -1,6 +1,8 @@
 -- What a board's calls answer (SPEC 1.1 to 1.6, 3.1 to 3.5, 12): the ledger's answers, around a size. Assumes nothing.
-use Rattle.std.specs.Prelude.{ℕ, Bool, List, eqb}
+use Rattle.std.specs.Prelude.{ℕ, Bool, List, eqb, Result, Ok, Err}
 use Rattle.lists.specs.Choice.{pick}
+use Rattle.answers.specs.declared.Refusal.{Refusal}
+use Rattle.answers.specs.Refusals.{number_of}
 use Rattle.grid.specs.declared.Grid.{Grid}
 use Rattle.grid.specs.Grid.{grid, sizes_ok, border_count}
 use Rattle.ledger.specs.declared.Book.{Book}
@@ -36,6 +38,11 @@ board_code b = check_of b.grid b.book
 -- a refused making returns zeros
 abbrev pub make_of : ℕ → ℕ → Decided
 make_of h w = pick (sizes_ok (grid h w)) (answer 0 (fresh_board (grid h w))) (answer 1 zero_board)
+
+-- what a making comes to as a record
+abbrev pub made : Result Board Refusal → Decided
+made (Ok b) = answer 0 b
+made (Err refusal) = answer (number_of refusal) zero_board
 
 -- the board with another book
 abbrev pub onto : Board → Book → Board

@@ -1,12 +1,16 @@
-// The board (`BoardManager`): a size around a book. Making, stroke, decide and undo on a record by value, and whether a record holds together.
+// The board (`BoardManager`): a size around a book. Making, stroke, decide and undo where a board stands, and on a record by value, and whether a record
+// holds together.
 #![tactic(auto)]
 
 ghost use Rattle.std.specs.Prelude.{◌≡◌, length};
+ghost use Rattle.answers.specs.Refusals.{code_of};
 ghost use Rattle.limits.specs.Limits.{most_borders};
 ghost use Rattle.ledger.specs.Ledger.{decisions};
 ghost use Rattle.ledger.specs.Books.{book};
-ghost use Rattle.board.specs.Board.{fresh_board, make_of, check_of, board_code, stroke_of, decide_of, undo_of};
+ghost use Rattle.board.specs.Board.{fresh_board, answer, made, make_of, check_of, board_code, stroke_of, decide_of, undo_of};
 
+use answers::Refusal;
+use borders::Borders;
 use grid::Grid;
 use ledger::Book;
 
@@ -26,42 +30,137 @@ pub struct Decided {
     pub board: Board,
 }
 
-// A board with all borders undecided.
-fn empty(g: Grid) -> Board
-    ensures { result ≡ fresh_board g }
-{
-    Board {
-        grid: g,
-        book: Book {
-            states: [0u8; limits::BORDERS],
-            names: [0u16; limits::BORDERS],
-            len: 0,
-        },
+impl Board {
+    // A board with all borders undecided.
+    fn empty(grid: Grid) -> Board
+        ensures { result ≡ fresh_board grid }
+    {
+        Board {
+            grid,
+            book: Book {
+                states: [0u8; limits::BORDERS],
+                names: [0u16; limits::BORDERS],
+                len: 0,
+            },
+        }
+    }
+
+    // A fresh board of the size.
+    pub fn new(height: usize, width: usize) -> Result<Board, Refusal>
+        ensures { made result ≡ make_of height width }
+    {
+        let grid = Grid { height, width };
+        if grid.is_within_limits() {
+            Ok(Board::empty(grid))
+        } else {
+            Err(Refusal::Size)
+        }
+    }
+
+    // Questions 1 and 2: whether a record holds together.
+    pub fn check(&self) -> Result<(), Refusal>
+        ensures { code_of result ≡ board_code self.now }
+    {
+        if !self.grid.is_within_limits() {
+            return Err(Refusal::Size);
+        }
+        let mut marks = [0u8; limits::BORDERS];
+        if !self.book.holds(self.grid.border_count(), &mut marks) {
+            return Err(Refusal::Record);
+        }
+        Ok(())
+    }
+
+    // The borders as they stand.
+    pub fn borders(&self) -> Borders<'_>
+        requires { board_code self.now ≡ 0 }
+        ensures grid { result.grid ≡ self.now.grid }
+        ensures states { result.states.now ≡ self.now.book.states }
+    {
+        Borders {
+            grid: self.grid,
+            states: &self.book.states,
+        }
+    }
+
+    // Decides the borders of a stroke, all or none: a refusal leaves the board as it was.
+    pub fn stroke(&mut self, entries: &[u16]) -> Result<(), Refusal>
+        ensures { answer (code_of result) self.new ≡ stroke_of self.old (decisions entries.now) }
+    {
+        self.check()?;
+        self.book.stroke(entries, self.grid.border_count())
+    }
+
+    // Decides a border as Wall or Connected: a stroke of one.
+    pub fn decide(&mut self, border: usize, wall: bool) -> Result<(), Refusal>
+        ensures { answer (code_of result) self.new ≡ decide_of self.old border wall }
+    {
+        self.stroke(&[ledger::entry_of(border, wall)])
+    }
+
+    // Takes the whole last stroke back: of a board that calls have made, the very record before it is there again.
+    pub fn undo(&mut self) -> Result<(), Refusal>
+        ensures { answer (code_of result) self.new ≡ undo_of self.old }
+    {
+        self.check()?;
+        self.book.undo()
     }
 }
+
+// The calls on a record by value. The answer is made first and changed where it stands: the record's 6 KB are copied in and
+// out, and not once more.
 
 // A fresh board of the size, or refused 1 with a record of zeros.
 pub fn make(height: usize, width: usize) -> Decided
     ensures { result ≡ make_of height width }
 {
-    let g = Grid { height, width };
-    if !grid::sizes_ok(g) {
-        let none = Grid {
-            height: 0,
-            width: 0,
-        };
-        return Decided {
-            code: 1,
-            board: empty(none),
-        };
-    }
-    Decided {
-        code: 0,
-        board: empty(g),
+    match Board::new(height, width) {
+        Ok(board) => Decided { code: 0, board },
+        Err(refusal) => Decided {
+            code: u8::from(refusal),
+            board: Board::empty(Grid {
+                height: 0,
+                width: 0,
+            }),
+        },
     }
 }
 
-// Questions 1 and 2 of a board's parts: the number, or 0.
+// Whether a record holds together: 0, or the number of the question that refuses it, 1 or 2.
+pub fn check(b: Board) -> u8
+    ensures { result ≡ board_code b }
+{
+    answers::code_of(b.check())
+}
+
+// Decides the borders of a stroke, all or none.
+pub fn stroke(b: Board, entries: &[u16]) -> Decided
+    ensures { result ≡ stroke_of b (decisions entries.now) }
+{
+    let mut out = Decided { code: 0, board: b };
+    out.code = answers::code_of(out.board.stroke(entries));
+    out
+}
+
+// Decides a border as Wall or Connected: a stroke of one.
+pub fn decide(b: Board, border: usize, wall: bool) -> Decided
+    ensures { result ≡ decide_of b border wall }
+{
+    let mut out = Decided { code: 0, board: b };
+    out.code = answers::code_of(out.board.decide(border, wall));
+    out
+}
+
+// Takes the whole last stroke back.
+pub fn undo(b: Board) -> Decided
+    ensures { result ≡ undo_of b }
+{
+    let mut out = Decided { code: 0, board: b };
+    out.code = answers::code_of(out.board.undo());
+    out
+}
+
+// Questions 1 and 2 of a board's parts: the number, or 0. For callers that still hand in parts.
 pub fn check_parts<'a>(g: Grid, states: &'a [u8], names: &'a [u16], len: usize) -> u8
     requires { (length states.now ≡ most_borders) × (length names.now ≡ most_borders) }
     ensures { result ≡ check_of g (book states.now names.now len) }
@@ -75,69 +174,4 @@ pub fn check_parts<'a>(g: Grid, states: &'a [u8], names: &'a [u16], len: usize) 
         return 0;
     }
     2
-}
-
-// Whether a record holds together: 0, or the number of the question that refuses it, 1 or 2.
-pub fn check(b: Board) -> u8
-    ensures { result ≡ board_code b }
-{
-    check_parts(b.grid, &b.book.states, &b.book.names, b.book.len)
-}
-
-// Decides the borders of a stroke, all or none. The answer is made first and changed where it stands: the record's 6 KB are
-// copied in and out, and not once more.
-pub fn stroke(b: Board, entries: &[u16]) -> Decided
-    ensures { result ≡ stroke_of b (decisions entries.now) }
-{
-    let g = b.grid;
-    let len = b.book.len;
-    let mut out = Decided { code: 0, board: b };
-    let code = check_parts(g, &out.board.book.states, &out.board.book.names, len);
-    if code != 0 {
-        out.code = code;
-        return out;
-    }
-    let n = grid::border_count(g);
-    let number = ledger::stroke_code(&out.board.book.states, entries, n);
-    if number != 0 {
-        out.code = number;
-        return out;
-    }
-    ledger::place_states(&mut out.board.book.states, entries);
-    ledger::place_names(&mut out.board.book.names, len, entries);
-    out.board.book.len = len + entries.len();
-    out
-}
-
-// Decides a border as Wall or Connected: a stroke of one.
-pub fn decide(b: Board, border: usize, wall: bool) -> Decided
-    ensures { result ≡ decide_of b border wall }
-{
-    let one = [ledger::entry_of(border, wall)];
-    stroke(b, &one)
-}
-
-// Takes the whole last stroke back: of a board that calls have made, the very record before it is there again.
-pub fn undo(b: Board) -> Decided
-    ensures { result ≡ undo_of b }
-{
-    let g = b.grid;
-    let len = b.book.len;
-    let mut out = Decided { code: 0, board: b };
-    let code = check_parts(g, &out.board.book.states, &out.board.book.names, len);
-    if code != 0 {
-        out.code = code;
-        return out;
-    }
-    let number = ledger::undo_code(len);
-    if number != 0 {
-        out.code = number;
-        return out;
-    }
-    let from = ledger::start_of(&out.board.book.names, len);
-    let names = out.board.book.names;
-    ledger::clear_states(&mut out.board.book.states, &names, from, len);
-    ledger::clear_names(&mut out.board.book.names, from, len);
-    out.board.book.len = from;
-    out
 }

@@ -18,6 +18,7 @@ use Rattle.ledger.specs.Ledger.{Decision, state_for, state_in, borders}
 use Rattle.ledger.specs.declared.Book.{Book}
 use Rattle.ledger.specs.Books.{zeros, none_given, book_holds, state_all, clear_all}
 use Rattle.ledger.specs.Marks.{given_in, LentBook, Unmarked}
+use Rattle.ledger.specs.Moves.{GivenMarks}
 
 pub zero_at : (e : ℕ) → get_or zeros e 0 ≡ 0
 unfolding zeros
@@ -41,6 +42,9 @@ by_marks n b t k = sym (k ∙ rw none_given_lem)
 pub lent_book : (n : ℕ) (s l : List ℕ) → n ≤ most_borders → length s ≡ most_borders → length l ≡ most_borders → LentBook n s l zeros
 lent_book n s l h p q =
     record { states_long = omega arith; names_long = omega arith; marks_long = omega (arith, zeros_length); marks_given = λ e. omega (arith, zero_at e); few = h }
+
+pub no_marks : (n : ℕ) → n ≤ most_borders → GivenMarks n zeros
+no_marks n h = record { marks_long = omega (arith, zeros_length); marks_given = λ e. omega (arith, zero_at e); few = h }
 
 pub unmarked : (n : ℕ) → n ≤ most_borders → Unmarked n zeros
 unmarked n h = record { marks_long = omega (arith, zeros_length); marks_free = zero_at }

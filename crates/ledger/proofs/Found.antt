@@ -21,6 +21,7 @@ use Rattle.ledger.specs.declared.Book.{Book}
 use Rattle.ledger.specs.Ledger.{Decision, decision_of, decisions, state_for, state_in, standing, borders, all_exist, stroke_code, holds_of}
 use Rattle.ledger.specs.Books.{book, half, names_of, names_in, state_at, first_starts, book_holds, state_all, placed, start_of}
 use Rattle.ledger.specs.Marks.{Named}
+use Rattle.ledger.specs.Moves.{Held, HeldBook, Room}
 use Rattle.ledger.proofs.Question.{Question, due_of, due_le, holds_question}
 use Rattle.ledger.proofs.Standing.{Sound, not_named, standing_named, standing_given, sound_length}
 use Rattle.ledger.proofs.Strokes.{questions, code_fits, fits_same, sound_stroke}
@@ -176,3 +177,15 @@ module _ (n : ℕ) (given : ℕ → Bool) (b : Book) (q : book_holds n given b �
             };
         len_fits = omega (arith, len_le, p.few);
       }
+
+-- of a book that question 2 accepts, whose arrays are as long as their types say
+pub room : (n : ℕ) (b : Book) → Held n b → length b.states ≡ most_borders → length b.names ≡ most_borders → (es : List ℕ) → stroke_code n (state_at b.states) (decisions es) ≡ 0 → Room b es
+room n b h s l es z =
+    let p = placeable n h.given b h.holds (record { few = h.few; states_are = s; names_are = l }) es z in
+    record { exist = p.exist; fits = p.fits }
+
+pub few_names : (b : Book) → HeldBook b → b.len ≤ most_borders
+few_names b k = omega (arith, (held k.n k.held.given b k.held.holds).0, k.held.few)
+
+pub last_named : (b : Book) → HeldBook b → length b.states ≡ most_borders → length b.names ≡ most_borders → Named b.names (start_of b.names b.len) b.len
+last_named b k s l = (takeable k.n k.held.given b k.held.holds (record { few = k.held.few; states_are = s; names_are = l })).names

@@ -12,3 +12,4 @@ pub mod Reached
 pub mod Cuts
 pub mod Order
 pub mod Exactly
+pub mod Turns

@@ -19,11 +19,11 @@ use Rattle.ledger.specs.Books.{half, borders_in}
 use Rattle.ledger.specs.Marks.{fits_of, greater_of, all_below, new_names, mark_all, fit_all, Marked}
 use Rattle.ledger.proofs.MarkLaws.{new_names_lem}
 
-both_both : (a b c : Bool) → both (both a b) c ≡ both a (both b c)
+pub both_both : (a b c : Bool) → both (both a b) c ≡ both a (both b c)
 both_both true b c = refl
 both_both false b c = refl
 
-and_true : (t : Bool) → both t true ≡ t
+pub and_true : (t : Bool) → both t true ≡ t
 and_true true = refl
 and_true false = refl
 
@@ -47,7 +47,7 @@ greater_below a b n =
 greater_on : (a b n : ℕ) (rest : Bool) → both (ltb (greater_of a b) n) rest ≡ both (ltb a n) (both (ltb b n) rest)
 greater_on a b n rest = ap (λ t. both t rest) (greater_below a b n) ∙ both_both (ltb a n) (ltb b n) rest
 
-misfit_below : (t : Bool) → ltb (pick t 0 1) 1 ≡ t
+pub misfit_below : (t : Bool) → ltb (pick t 0 1) 1 ≡ t
 misfit_below true = refl
 misfit_below false = refl
 
@@ -83,7 +83,7 @@ pub record Walk (names : List ℕ) (len n : ℕ) (m₀ m : List ℕ) (i : ℕ) (
   pub answer : both new (new_names n m (drop i (borders_in names len))) ≡ new_names n m₀ (borders_in names len)
   pub marks : mark_all m (drop i (borders_in names len)) ≡ mark_all m₀ (borders_in names len)
 
-new_or_not : (t f rest : Bool) → both f (pick t rest false) ≡ both (both t f) rest
+pub new_or_not : (t f rest : Bool) → both f (pick t rest false) ≡ both (both t f) rest
 new_or_not true f rest = refl
 new_or_not false true rest = refl
 new_or_not false false rest = refl

@@ -8,3 +8,4 @@ pub mod Ledger
 pub mod Books
 pub mod Marks
 pub mod Examples
+pub mod Moves

@@ -2,13 +2,15 @@
 // number refuses a stroke or an undo, and how a stroke is placed and taken back. Arrays are lent one at a time and changed where they stand.
 #![tactic(auto)]
 
-ghost use Rattle.std.specs.Prelude.{◌≡◌, true, ◌+◌, ◌-◌, ◌*◌, ◌/◌, ◌%◌, ◌≤◌, ◌<◌, length, take, drop, replicate, eqb};
+ghost use Rattle.std.specs.Prelude.{◌≡◌, true, ◌+◌, ◌-◌, ◌*◌, ◌/◌, ◌%◌, ◌≤◌, ◌<◌, length, map, take, drop, replicate, eqb};
 ghost use Rattle.std.proofs.lemmas.List.Edits.{sets};
 ghost use Rattle.limits.specs.Limits.{most_borders};
 ghost use Rattle.lists.specs.Choice.{both, pick};
 ghost use Rattle.ledger.specs.Ledger.{decisions, state_for, borders, all_exist, none_twice, all_free, stroke_code, undo_code, holds_of};
 ghost use Rattle.ledger.specs.Books.{book, half, borders_in, state_at, first_starts, book_holds, name_of, names_of, state_all, clear_all, start_of};
 ghost use Rattle.ledger.specs.Marks.{fits_of, Marked, LentBook, fit_all, given_in, greater_of, all_below, Unmarked, Named, Entry};
+
+use answers::Refusal;
 
 // What a record keeps of its ledger: a state for each border, and the first `len` names of decided borders in order. A name is twice its border,
 // and one more where a stroke starts with it.
@@ -18,6 +20,205 @@ pub struct Book {
     pub states: [u8; limits::BORDERS],
     pub names: [u16; limits::BORDERS],
     pub len: usize,
+}
+
+impl Book {
+    ghost use Rattle.ledger.specs.Moves.{Held, HeldBook, GivenMarks, Room, left};
+    ghost use Rattle.ledger.specs.Books.{placed, taken, taken_from};
+    ghost use Rattle.answers.specs.Refusals.{code_of};
+
+    // Whether the first name starts a stroke, where there is one.
+    fn first_starts(&self) -> bool
+        ensures { result ≡ first_starts self.now.names self.now.len }
+    {
+        self.len == 0 || self.names[0] % 2 == 1
+    }
+
+    // Question 2 over n borders: `marks` comes in with 1 at each given wall and 0 elsewhere.
+    pub fn holds(&self, n: usize, marks: &mut [u8]) -> bool
+        requires { GivenMarks n marks.old }
+        ensures { result ≡ book_holds n (given_in marks.old) self.now }
+    {
+        if n < self.len {
+            return false;
+        }
+        if !self.first_starts() {
+            return false;
+        }
+        if !mark_borders(&self.names[..self.len], n, marks) {
+            return false;
+        }
+        fit_marks(&self.states, marks, n)
+    }
+
+    // Which question refuses a stroke over n borders, 3, 14 or 4: each is put to the whole stroke before the next.
+    fn check_stroke(&self, entries: &[u16], n: usize) -> Result<(), Refusal>
+        requires { n ≤ most_borders }
+        ensures { code_of result ≡ stroke_code n (state_at self.now.states) (decisions entries.now) }
+    {
+        if !exist(entries, n) {
+            return Err(Refusal::Missing);
+        }
+        if !once(entries, n) {
+            return Err(Refusal::Repeated);
+        }
+        if !undecided(&self.states, entries, n) {
+            return Err(Refusal::Decided);
+        }
+        Ok(())
+    }
+
+    // Gives the borders of a stroke their states, and names them behind the names that stand.
+    fn place(&mut self, entries: &[u16])
+        requires { Room self.old entries.now }
+        ensures { self.new ≡ placed self.old (decisions entries.now) }
+    {
+        for (i, &entry) in entries.iter().enumerate() {
+            self.states[border_of(entry)] = state_of(entry);
+            self.names[self.len + i] = name_of(entry, i);
+        }
+        self.len += entries.len();
+    }
+
+    // Decides the borders of a stroke over n borders, all or none.
+    pub fn stroke(&mut self, entries: &[u16], n: usize) -> Result<(), Refusal>
+        requires { Held n self.old }
+        ensures code { code_of result ≡ stroke_code n (state_at self.old.states) (decisions entries.now) }
+        ensures book { self.new ≡ left (stroke_code n (state_at self.old.states) (decisions entries.now)) self.old (placed self.old (decisions entries.now)) }
+    {
+        self.check_stroke(entries, n)?;
+        self.place(entries);
+        Ok(())
+    }
+
+    // Where the last stroke starts.
+    fn last_start(&self) -> usize
+        requires { self.now.len ≤ most_borders }
+        ensures { result ≡ start_of self.now.names self.now.len }
+    {
+        for at in (0..self.len).rev() {
+            if self.names[at] % 2 == 1 {
+                return at;
+            }
+        }
+        0
+    }
+
+    // The borders named from place `from` on are undecided again, and their places free.
+    fn take_from(&mut self, from: usize)
+        requires { Named self.old.names from self.old.len }
+        ensures { self.new ≡ taken_from self.old from }
+    {
+        for i in from..self.len {
+            self.states[border_of(self.names[i])] = 0;
+        }
+        self.names[from..self.len].fill(0);
+        self.len = from;
+    }
+
+    // Takes the whole last stroke back.
+    pub fn undo(&mut self) -> Result<(), Refusal>
+        requires { HeldBook self.old }
+        ensures code { code_of result ≡ undo_code self.old.len }
+        ensures book { self.new ≡ left (undo_code self.old.len) self.old (taken self.old) }
+    {
+        if self.len == 0 {
+            return Err(Refusal::NothingToUndo);
+        }
+        self.take_from(self.last_start());
+        Ok(())
+    }
+}
+
+// Whether each name is a border: the greatest is. The loop has one exit, so the compiler takes many elements at a time.
+fn below(names: &[u16], n: usize) -> bool
+    ensures { result ≡ all_below n names.now }
+{
+    if names.is_empty() {
+        return true;
+    }
+    let mut top = 0u16;
+    for &name in names {
+        top = top.max(name);
+    }
+    usize::from(top) < n
+}
+
+// Marks what the ledger names. False where a name is no border or is marked already.
+fn mark_borders(names: &[u16], n: usize, marks: &mut [u8]) -> bool
+    requires { (n ≤ length marks.old) × (n ≤ most_borders) }
+    ensures { Marked n marks.old (map half names.now) result marks.new }
+{
+    if !below(names, 2 * n) {
+        return false;
+    }
+    let mut new = true;
+    for &name in names {
+        let e = border_of(name);
+        new = free(marks[e], new);
+        marks[e] = 2;
+    }
+    new
+}
+
+// Whether each of the first n states goes with its mark: the worst does. One exit here too.
+fn fit_marks(states: &[u8], marks: &[u8], n: usize) -> bool
+    requires { (n ≤ length states.now) × (n ≤ length marks.now) }
+    ensures { result ≡ fit_all n states.now marks.now }
+{
+    let mut worst = 0u8;
+    for e in 0..n {
+        worst = worst.max(u8::from(!fits(states[e], marks[e])));
+    }
+    worst < 1
+}
+
+// Whether each border of a stroke exists.
+fn exist(entries: &[u16], n: usize) -> bool
+    ensures { result ≡ all_exist n (decisions entries.now) }
+{
+    entries.iter().all(|&entry| border_of(entry) < n)
+}
+
+// Whether each border of a stroke is new when it is come to, by marks that are free at first.
+fn all_new(entries: &[u16], n: usize, marks: &mut [u8]) -> bool
+    requires entries_value { all_exist n (decisions entries.now) ≡ true }
+    requires unmarked { Unmarked n marks.old }
+    ensures { result ≡ none_twice (borders (decisions entries.now)) }
+{
+    for &entry in entries {
+        let e = border_of(entry);
+        if marks[e] != 0 {
+            return false;
+        }
+        marks[e] = 2;
+    }
+    true
+}
+
+// Whether no border stands twice in a stroke. A stroke of one needs no marks.
+fn once(entries: &[u16], n: usize) -> bool
+    requires { (n ≤ most_borders) × (all_exist n (decisions entries.now) ≡ true) }
+    ensures { result ≡ none_twice (borders (decisions entries.now)) }
+{
+    if entries.len() < 2 {
+        return true;
+    }
+    let mut marks = [0u8; limits::BORDERS];
+    all_new(entries, n, &mut marks)
+}
+
+// Whether each border of a stroke is undecided.
+fn undecided(states: &[u8], entries: &[u16], n: usize) -> bool
+    requires { (n ≤ length states.now) × (all_exist n (decisions entries.now) ≡ true) }
+    ensures { result ≡ all_free (state_at states.now) (decisions entries.now) }
+{
+    for &entry in entries {
+        if states[border_of(entry)] != 0 {
+            return false;
+        }
+    }
+    true
 }
 
 // The greater of two numbers. A loop that keeps the greatest has one exit, so the compiler takes many elements at a time.
