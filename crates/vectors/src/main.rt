@@ -1,4 +1,4 @@
-// Runs the calls of a script and says each one's answer in a line. The file `stdout` has the answers of the Rust to the same calls.
+// Runs the calls of a script and prints each one's answer as a line. The file `stdout` has the answers of the Rust to the same calls.
 #![tactic(auto)]
 
 mod boards;
