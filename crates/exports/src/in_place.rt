@@ -17,21 +17,21 @@ use puzzle::Puzzle;
 pub extern "C" fn sendai_board_stroke_in_place(b: &mut Board, entries: &[u16]) -> u8
     ensures { answer result b.new ≡ stroke_of b.old (decisions entries.now) }
 {
-    board_in_place::stroke(b, entries)
+    answers::code_of(b.stroke(entries))
 }
 
 #[unsafe(no_mangle)]
 pub extern "C" fn sendai_board_decide_in_place(b: &mut Board, border: usize, wall: bool) -> u8
     ensures { answer result b.new ≡ decide_of b.old border wall }
 {
-    board_in_place::decide(b, border, wall)
+    answers::code_of(b.decide(border, wall))
 }
 
 #[unsafe(no_mangle)]
 pub extern "C" fn sendai_board_undo_in_place(b: &mut Board) -> u8
     ensures { answer result b.new ≡ undo_of b.old }
 {
-    board_in_place::undo(b)
+    answers::code_of(b.undo())
 }
 
 #[unsafe(no_mangle)]
@@ -46,21 +46,21 @@ pub extern "C" fn sendai_board_ask_in_place(b: &Board, buffer: &mut [u16]) -> Pl
 pub extern "C" fn sendai_puzzle_stroke_in_place(p: &mut Puzzle, entries: &[u16]) -> u8
     ensures { puzzle_answer result p.new ≡ puzzle_stroke p.old (decisions entries.now) }
 {
-    puzzle_in_place::stroke(p, entries)
+    answers::code_of(p.stroke(entries))
 }
 
 #[unsafe(no_mangle)]
 pub extern "C" fn sendai_puzzle_decide_in_place(p: &mut Puzzle, border: usize, wall: bool) -> u8
     ensures { puzzle_answer result p.new ≡ puzzle_decide p.old border wall }
 {
-    puzzle_in_place::decide(p, border, wall)
+    answers::code_of(p.decide(border, wall))
 }
 
 #[unsafe(no_mangle)]
 pub extern "C" fn sendai_puzzle_undo_in_place(p: &mut Puzzle) -> u8
     ensures { puzzle_answer result p.new ≡ puzzle_undo p.old }
 {
-    puzzle_in_place::undo(p)
+    answers::code_of(p.undo())
 }
 
 #[unsafe(no_mangle)]
@@ -68,5 +68,5 @@ pub extern "C" fn sendai_puzzle_ask_in_place(p: &Puzzle, buffer: &mut [u16]) -> 
     ensures value { result ≡ outcome_of (ask_of p.now buffer.old).answer }
     ensures buffer_after { buffer.new ≡ (ask_of p.now buffer.old).buffer }
 {
-    puzzles::outcome_of(puzzle_in_place::ask(p, buffer))
+    puzzles::outcome_of(puzzle::Answer::from(p.ask(buffer)))
 }

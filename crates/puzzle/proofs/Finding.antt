@@ -4,6 +4,7 @@ use mathlib.Core.Path.{◌≡◌, refl, ap, sym, ◌∙◌}
 use mathlib.Core.Bool.{Bool, true, false, not}
 use mathlib.Core.List.{List, [], ◌∷◌}
 use mathlib.Core.Option.{Option, none, some}
+use Rattle.std.specs.Prelude as std
 use native.Mathlib.Omega.{arith}
 use lib.Dec.{eqb}
 use lib.ListN.{length, get_or}
@@ -26,21 +27,24 @@ use Rattle.room_checks.specs.declared.Counted.{Counted}
 use Rattle.room_checks.specs.declared.Counted.TheVariants as counted
 use Rattle.room_checks.specs.RoomChecks.{clue_list, Faulty, fault_at, rooms_fault, rooms_in, counted_of, leaves}
 use Rattle.puzzle.specs.declared.Check.TheVariants.{Shape, Room}
-use Rattle.puzzle.specs.declared.Answer.{Answer}
-use Rattle.puzzle.specs.declared.Answer.TheVariants.{Clear, Fault}
+use Rattle.puzzle.specs.declared.Check.{Check}
+use Rattle.puzzle.specs.declared.Fault.{Fault}
 use Rattle.puzzle.specs.Fault.{Found, found_by, room_check, fault_of}
-use Rattle.puzzle.specs.Puzzle.{says, writes}
+use Rattle.puzzle.specs.Puzzle.{told, writes}
 
 -- what the rooms' counts find and answer, as an ask tells it
 asked : Option Faulty → Option Found
 asked none = none
 asked (some f) = some (record { check = Room f.room; list = f.list })
 
-abbrev pub answer_by : Counted → Answer
-answer_by counted.Clear = Clear
-answer_by (counted.Fault r n) = Fault (Room r) n
+abbrev fault : Check → ℕ → std.Option Fault
+fault check n = std.Some (record { check = check; len = n })
 
-by_counts : (f : Option Faulty) (x : Counted) (buf buf' : List ℕ) → (x ≡ counted_of f) × (buf' ≡ leaves f buf) → (answer_by x ≡ says 0 (asked f)) × (buf' ≡ writes 0 (asked f) buf)
+abbrev pub answer_by : Counted → std.Option Fault
+answer_by counted.Clear = std.None
+answer_by (counted.Fault r n) = std.Some (record { check = Room r; len = n })
+
+by_counts : (f : Option Faulty) (x : Counted) (buf buf' : List ℕ) → (x ≡ counted_of f) × (buf' ≡ leaves f buf) → (answer_by x ≡ told (asked f)) × (buf' ≡ writes 0 (asked f) buf)
 unfolding asked
 by_counts none x buf buf' e = (ap answer_by e.0, e.1)
 by_counts (some f) x buf buf' e = (ap answer_by e.0, e.1)
@@ -62,11 +66,11 @@ asked_first f (x ∷ xs) = asked_or (f x) (first f xs) ∙ ap (or_else (asked (f
 
 -- the answer of a fault
 is_fault_lem : (f : Option Found) (x : Found) (k : ℕ) (buf buf' : List ℕ) → f ≡ some x → k ≡ length x.list → buf' ≡ sets buf 0 x.list
-    → (Fault x.check k ≡ says 0 f) × (buf' ≡ writes 0 f buf)
+    → (fault x.check k ≡ told f) × (buf' ≡ writes 0 f buf)
 is_fault_lem f x k buf buf' q p e = rw (q, p) (refl, e)
 
 -- the same answer and buffer
-same_answer : (f h : Option Found) (x : Answer) (buf buf' : List ℕ) → f ≡ h → (x ≡ says 0 f) × (buf' ≡ writes 0 f buf) → (x ≡ says 0 h) × (buf' ≡ writes 0 h buf)
+same_answer : (f h : Option Found) (x : std.Option Fault) (buf buf' : List ℕ) → f ≡ h → (x ≡ told f) × (buf' ≡ writes 0 f buf) → (x ≡ told h) × (buf' ≡ writes 0 h buf)
 same_answer f h x buf buf' q e = rw (← q) e
 
 module _ (g : Grid) (given clues states : List ℕ) (one_each : length clues ≡ room_count g given) where
@@ -109,7 +113,7 @@ module _ (g : Grid) (given clues states : List ℕ) (one_each : length clues ≡
     told_clear none q = refl
     told_clear (some L) q = absurd (let z : ◌≡◌ {A = ℕ} 0 1 = cc in omega arith)
 
-    pub shape_fault_lem : (n : ℕ) → r ≡ found.Fault n → (Fault Shape n ≡ says 0 (fault_of g given clues states)) × (buf' ≡ writes 0 (fault_of g given clues states) buf)
+    pub shape_fault_lem : (n : ℕ) → r ≡ found.Fault n → (std.Some (record { check = Shape; len = n }) ≡ told (fault_of g given clues states)) × (buf' ≡ writes 0 (fault_of g given clues states) buf)
     shape_fault_lem n q =
         let o = told_fault (shape_fault g states) n (sym q ∙ t.answer) in
         is_fault_lem (fault_of g given clues states) (record { check = Shape; list = o.0 }) n buf buf' (fault_shape o.0 o.1) o.2 (t.stored ∙ ap (λ f. written (outcome f) buf) o.1)
@@ -118,7 +122,7 @@ module _ (g : Grid) (given clues states : List ℕ) (one_each : length clues ≡
     shape_clear q = t.stored ∙ ap (λ f. written (outcome f) buf) (told_clear (shape_fault g states) (sym q ∙ t.answer))
 
     pub rooms_answer : r ≡ found.Nothing → (x y : Counted) (buf'' : List ℕ) → (x ≡ counted_of (rooms_in g given clues states)) × (buf'' ≡ leaves (rooms_in g given clues states) buf') → x ≡ y
-        → (answer_by y ≡ says 0 (fault_of g given clues states)) × (buf'' ≡ writes 0 (fault_of g given clues states) buf)
+        → (answer_by y ≡ told (fault_of g given clues states)) × (buf'' ≡ writes 0 (fault_of g given clues states) buf)
     rooms_answer q x y buf'' e k =
         let same = fault_rooms (told_clear (shape_fault g states) (sym q ∙ t.answer)) in
         same_answer (asked (rooms_in g given clues states)) (fault_of g given clues states) (answer_by y) buf buf'' (sym same)

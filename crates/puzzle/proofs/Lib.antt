@@ -3,3 +3,5 @@ pub mod Making
 pub mod Answers
 pub mod Ready
 pub mod Finding
+pub mod Apart
+pub mod Steps

@@ -14,8 +14,10 @@ use Rattle.lists.proofs.ChoiceLaws.{both_true}
 use Rattle.grid.specs.declared.Grid.{Grid}
 use Rattle.grid.specs.Grid.{sizes_ok, Limits, cells, border_count}
 use Rattle.grid.proofs.Geometry.{limits, border_count_le}
-use Rattle.ledger.specs.Books.{book, book_holds}
-use Rattle.ledger.specs.Marks.{LentBook, given_in}
+use Rattle.ledger.specs.declared.Book.{Book}
+use Rattle.ledger.specs.Books.{book_holds}
+use Rattle.ledger.specs.Marks.{given_in}
+use Rattle.ledger.specs.Moves.{GivenMarks, Held}
 use Rattle.rooms.specs.Rooms.{is_given}
 use Rattle.rooms.specs.Lent.{puts, Given, Blank}
 use Rattle.rooms.proofs.PutLaws.{puts_length, marks_in}
@@ -85,12 +87,10 @@ module _ (g : Grid) (given : List ℕ) (w : Given g given) {xs : List ℕ} (b : 
       go true = refl
       go false = refl
 
-  pub marks_lent : (n : ℕ) (s l m : List ℕ) → n ≡ border_count g → m ≡ puts given 1 xs → length s ≡ most_borders → length l ≡ most_borders → LentBook n s l m
-  marks_lent n s l m k e p q =
+  pub marks_lent : (n : ℕ) (m : List ℕ) → n ≡ border_count g → m ≡ puts given 1 xs → GivenMarks n m
+  marks_lent n m k e =
       let few = border_count_le g w.limits in
       record {
-        states_long = omega arith;
-        names_long = omega arith;
         marks_long = omega (arith, ap length e, puts_length given 1 xs, b.long);
         marks_given = λ x. rw (e, marks_in g given w b 1 x) (go (is_given given x));
         few = omega arith;
@@ -101,21 +101,25 @@ module _ (g : Grid) (given : List ℕ) (w : Given g given) {xs : List ℕ} (b : 
       go false = omega arith
 
   -- the test by marks
-  pub by_marks : (n : ℕ) (s l m : List ℕ) (len : ℕ) (t : Bool) → n ≡ border_count g → m ≡ puts given 1 xs → t ≡ book_holds n (given_in m) (book s l len)
-      → t ≡ book_holds (border_count g) (is_given given) (book s l len)
-  by_marks n s l m len t p q k = k ∙ rw (p, q, marks_given)
+  pub by_marks : (n : ℕ) (k : Book) (m : List ℕ) (t : Bool) → n ≡ border_count g → m ≡ puts given 1 xs → t ≡ book_holds n (given_in m) k
+      → t ≡ book_holds (border_count g) (is_given given) k
+  by_marks n k m t p q e = e ∙ rw (p, q, marks_given)
 
 -- accepted lists have given walls of the board
 pub lists_given : (g : Grid) (given clues : List ℕ) → Limits g → lists_code g given clues ≡ 0 → Given g given
 lists_given g given clues l z = record { limits = l; below = (lists_fit g given clues z).inside }
 
+-- it holds a book over its borders
+pub held : (p : Puzzle) → Ready p → Held (borders_of p) (book_of p)
+held p r = record { few = border_count_le (grid_of p) r.limits; given = is_given (given_of p); holds = r.holds }
+
 -- what an ask hands on
-pub ready_finding : (p : Puzzle) → Ready p → length (book_of p).states ≡ most_borders → (buf : List ℕ) → 9 * cells (grid_of p) ≤ length buf
+pub ready_finding : (p : Puzzle) → Ready p → border_count (grid_of p) ≤ length (book_of p).states → (buf : List ℕ) → 9 * cells (grid_of p) ≤ length buf
     → Finding (grid_of p) (given_of p) (book_of p).states (clues_of p) buf
 ready_finding p r states buf h =
     record {
       walls = lists_given (grid_of p) (given_of p) (clues_of p) r.limits r.lists;
-      states_long = omega (arith, border_count_le (grid_of p) r.limits);
+      states_long = states;
       one_each = (lists_fit (grid_of p) (given_of p) (clues_of p) r.lists).one_each;
       buffer_long = h;
     }

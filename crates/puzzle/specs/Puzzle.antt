@@ -2,7 +2,11 @@
 use Rattle.std.specs.Prelude.{ℕ, zero, suc, ◌*◌, ◌≡◌, Bool, List, map, eqb, leb, length, take, replicate}
 use Rattle.std.proofs.Math.Option.{Option, none, some}
 use Rattle.std.proofs.lemmas.List.Edits.{sets}
+use Rattle.std.specs.Prelude as std
 use Rattle.lists.specs.Choice.{both, pick}
+use Rattle.answers.specs.declared.Refusal.{Refusal}
+use Rattle.answers.specs.Refusals.{number_of}
+use Rattle.puzzle.specs.declared.Fault as declared
 use Rattle.lists.specs.Lists.{range}
 use Rattle.grid.specs.declared.Grid.{Grid}
 use Rattle.grid.specs.Grid.{grid, sizes_ok, cells, border_count}
@@ -11,7 +15,6 @@ use Rattle.ledger.specs.declared.Book.{Book}
 use Rattle.ledger.specs.Ledger.{Decision, single, stroke_code, undo_code, first_code}
 use Rattle.ledger.specs.Books.{zeros, book, fresh_book, state_at, book_holds, placed, taken}
 use Rattle.board.specs.declared.Board.{Board}
-use Rattle.puzzle.specs.declared.Counts.{Counts}
 use Rattle.puzzle.specs.declared.Puzzle.{Puzzle}
 use Rattle.puzzle.specs.declared.Made.{Made}
 use Rattle.puzzle.specs.declared.Answer.{Answer}
@@ -88,18 +91,6 @@ together p =
 abbrev pub puzzle_code : Puzzle → ℕ
 puzzle_code p = pick (sizes_ok (grid_of p)) (pick (together p) 0 2) 1
 
--- the arrays of a puzzle's record
-pub record Arrays (states names given clues : List ℕ) : Type 0 where
-  pub states_long : length states ≡ most_borders
-  pub names_long : length names ≡ most_borders
-  pub given_long : length given ≡ most_borders
-  pub clues_long : length clues ≡ most_cells
-
--- a puzzle by its numbers and its arrays
-abbrev pub puzzle_of : Counts → List ℕ → List ℕ → List ℕ → List ℕ → Puzzle
-puzzle_of z states names given clues =
-    record { board = record { grid = z.grid; book = book states names z.len }; given = given; given_len = z.given; clues = clues; clues_len = z.clues }
-
 -- the same puzzle with another book
 abbrev pub onto : Puzzle → Book → Puzzle
 onto p b =
@@ -151,6 +142,16 @@ abbrev pub writes : ℕ → Option Found → List ℕ → List ℕ
 writes zero none buf = buf
 writes zero (some f) buf = sets buf 0 f.list
 writes (suc n) f buf = buf
+
+-- what a call finds, and what it answers, as the case that std's words come to
+abbrev pub told : Option Found → std.Option declared.Fault
+told none = std.None
+told (some f) = std.Some (record { check = f.check; len = length f.list })
+
+abbrev pub answer_in : std.Result (std.Option declared.Fault) Refusal → Answer
+answer_in (std.Ok std.None) = Clear
+answer_in (std.Ok (std.Some f)) = Fault f.check f.len
+answer_in (std.Err refusal) = Refused (number_of refusal)
 
 pub record Asked : Type 0 where
   pub answer : Answer

@@ -1,19 +1,20 @@
 // The puzzle: a board with given walls and a clue for each room, which joins the shape check to a count for each clued room.
 #![tactic(auto)]
 
-ghost use Rattle.std.specs.Prelude.{◌≡◌, ◌≤◌, length, take};
+ghost use Rattle.std.specs.Prelude.{◌≡◌, ◌≤◌, length};
 ghost use Rattle.limits.specs.Limits.{most_borders, most_cells};
-ghost use Rattle.grid.specs.Grid.{border_count};
 ghost use Rattle.ledger.specs.Ledger.{decisions};
-ghost use Rattle.ledger.specs.Books.{book, book_holds};
+ghost use Rattle.ledger.specs.Books.{book_holds};
 ghost use Rattle.rooms.specs.Rooms.{is_given};
 ghost use Rattle.rooms.specs.Lent.{Below, Given, Blank};
 ghost use Rattle.room_checks.specs.RoomChecks.{Finding};
+ghost use Rattle.answers.specs.Refusals.{code_of};
 ghost use Rattle.puzzle.specs.Fault.{fault_of};
-ghost use Rattle.puzzle.specs.Puzzle.{fresh_board, fresh_puzzle, zero_puzzle, answer, make_of, Arrays, puzzle_of, puzzle_code, stroke_number, stroke_of, decide_of, undo_number, undo_of, says, writes, ask_of};
+ghost use Rattle.puzzle.specs.Puzzle.{fresh_board, fresh_puzzle, zero_puzzle, answer, make_of, puzzle_code, grid_of, given_of, clues_of, borders_of, book_of, stroke_of, decide_of, undo_of, told, answer_in, writes, ask_of};
 
-use answers::Found;
+use answers::{Found, Refusal};
 use board::Board;
+use borders::Borders;
 use grid::Grid;
 use ledger::Book;
 use room_checks::Counted;
@@ -45,6 +46,13 @@ pub enum Check {
     Room(usize),
 }
 
+// What an ask finds: the check that fails, and how many places of the buffer its list fills.
+#[derive(Clone, Copy)]
+pub struct Fault {
+    pub check: Check,
+    pub len: usize,
+}
+
 // What an ask answers: clear, a fault with the check that found it and its list's length, or refused with the question's number.
 #[derive(Clone, Copy)]
 pub enum Answer {
@@ -53,13 +61,147 @@ pub enum Answer {
     Refused(u8),
 }
 
-// A puzzle's size, and how much of its arrays counts.
-#[derive(Clone, Copy)]
-pub struct Counts {
-    pub grid: Grid,
-    pub len: usize,
-    pub given: usize,
-    pub clues: usize,
+impl Puzzle {
+    // The given walls.
+    pub fn given(&self) -> &[u16]
+        requires { self.now.given_len ≤ most_borders }
+        ensures { result.now ≡ given_of self.now }
+    {
+        &self.given[..self.given_len]
+    }
+
+    // The clues, one for each room.
+    pub fn clues(&self) -> &[u16]
+        requires { self.now.clues_len ≤ most_cells }
+        ensures { result.now ≡ clues_of self.now }
+    {
+        &self.clues[..self.clues_len]
+    }
+
+    // Question 2 of the ledger, with a place for each border that the caller lends.
+    fn holds_in(&self, marks: &mut [u8]) -> bool
+        requires fits { self.now.given_len ≤ most_borders }
+        requires given { Given (grid_of self.now) (given_of self.now) }
+        requires blank { Blank (grid_of self.now) marks.old }
+        ensures { result ≡ book_holds (borders_of self.now) (is_given (given_of self.now)) (book_of self.now) }
+    {
+        rooms::put(self.given(), 1, marks);
+        self.board
+            .book
+            .holds(self.board.grid.border_count(), marks)
+    }
+
+    // Question 2 of the ledger. A small board has a short array, since all of an array is zeroed.
+    fn ledger_holds(&self) -> bool
+        requires fits { self.now.given_len ≤ most_borders }
+        requires given { Given (grid_of self.now) (given_of self.now) }
+        ensures { result ≡ book_holds (borders_of self.now) (is_given (given_of self.now)) (book_of self.now) }
+    {
+        if self.board.grid.is_small() {
+            let mut marks = [0u8; 256];
+            return self.holds_in(&mut marks);
+        }
+        let mut marks = [0u8; limits::BORDERS];
+        self.holds_in(&mut marks)
+    }
+
+    // Questions 1 and 2: whether a record holds together.
+    pub fn check(&self) -> Result<(), Refusal>
+        ensures { code_of result ≡ puzzle_code self.now }
+    {
+        if !self.board.grid.is_within_limits() {
+            return Err(Refusal::Size);
+        }
+        if limits::BORDERS < self.given_len {
+            return Err(Refusal::Record);
+        }
+        if limits::CELLS < self.clues_len {
+            return Err(Refusal::Record);
+        }
+        if clues::lists_code(self.board.grid, self.given(), self.clues()) != 0 {
+            return Err(Refusal::Record);
+        }
+        if !self.ledger_holds() {
+            return Err(Refusal::Record);
+        }
+        Ok(())
+    }
+
+    // The borders as they stand.
+    pub fn borders(&self) -> Borders<'_>
+        requires { puzzle_code self.now ≡ 0 }
+        ensures grid { result.grid ≡ grid_of self.now }
+        ensures states { result.states.now ≡ (book_of self.now).states }
+    {
+        Borders {
+            grid: self.board.grid,
+            states: &self.board.book.states,
+        }
+    }
+
+    // Decides the borders of a stroke, all or none: a refusal leaves the puzzle as it was.
+    pub fn stroke(&mut self, entries: &[u16]) -> Result<(), Refusal>
+        ensures { answer (code_of result) self.new ≡ stroke_of self.old (decisions entries.now) }
+    {
+        self.check()?;
+        let n = self.board.grid.border_count();
+        self.board.book.stroke(entries, n)
+    }
+
+    // Decides a border as Wall or Connected: a stroke of one.
+    pub fn decide(&mut self, border: usize, wall: bool) -> Result<(), Refusal>
+        ensures { answer (code_of result) self.new ≡ decide_of self.old border wall }
+    {
+        self.stroke(&[ledger::entry_of(border, wall)])
+    }
+
+    // Takes the whole last stroke back: of a puzzle that calls have made, the very record before it is there again.
+    pub fn undo(&mut self) -> Result<(), Refusal>
+        ensures { answer (code_of result) self.new ≡ undo_of self.old }
+    {
+        self.check()?;
+        self.board.book.undo()
+    }
+
+    // What stands wrong: the shape check, then the clued rooms in order, up to the first fault, whose list goes to the buffer's front.
+    pub fn ask(&self, buffer: &mut [u16]) -> Result<Option<Fault>, Refusal>
+        ensures value { answer_in result ≡ (ask_of self.now buffer.old).answer }
+        ensures buffer_after { buffer.new ≡ (ask_of self.now buffer.old).buffer }
+    {
+        self.check()?;
+        if buffer.len() < 9 * self.board.grid.cell_count() {
+            return Err(Refusal::ShortBuffer);
+        }
+        let found = fault_of(self.borders(), self.given(), self.clues(), buffer);
+        Ok(found)
+    }
+}
+
+// The shape check, and then the counts of the clued rooms, on a board whose borders stand so: what an ask finds. The rooms are found
+// only where the shape check is clear and a room has a clue.
+pub fn fault_of(
+    b: Borders<'_>,
+    given: &[u16],
+    clues: &[u16],
+    buffer: &mut [u16],
+) -> Option<Fault>
+    requires { Finding b.grid given.now b.states.now clues.now buffer.old }
+    ensures value { result ≡ told (fault_of b.entry.grid given.now clues.now b.entry.states.now) }
+    ensures buffer_after { buffer.new ≡ writes 0 (fault_of b.entry.grid given.now clues.now b.entry.states.now) buffer.old }
+{
+    if let Found::Fault(len) = shape_check::shape_fault(b.grid, b.states, buffer) {
+        return Some(Fault {
+            check: Check::Shape,
+            len,
+        });
+    }
+    match room_checks::count_rooms(b.grid, given, b.states, clues, buffer) {
+        Counted::Clear => None,
+        Counted::Fault(room, len) => Some(Fault {
+            check: Check::Room(room),
+            len,
+        }),
+    }
 }
 
 // A board with the given walls, and nothing else, decided.
@@ -147,145 +289,22 @@ pub fn make<'a>(height: usize, width: usize, given: &'a [u16], clues: &'a [u16])
     }
 }
 
-// Question 2 of a puzzle's ledger, with a place for each border that the caller lends.
-fn holds_in<'a>(
-    g: Grid,
-    given: &'a [u16],
-    states: &'a [u8],
-    names: &'a [u16],
-    len: usize,
-    marks: &mut [u8],
-) -> bool
-    requires given { Given g given.now }
-    requires blank { Blank g marks.old }
-    requires states_len { (length states.now ≡ most_borders) × (length names.now ≡ most_borders) }
-    ensures { result ≡ book_holds (border_count g) (is_given given.now) (book states.now names.now len) }
-{
-    rooms::put(given, 1, marks);
-    ledger::book_holds(states, names, len, grid::border_count(g), marks)
-}
-
-// Question 2 of a puzzle's ledger.
-fn ledger_holds<'a>(
-    g: Grid,
-    given: &'a [u16],
-    states: &'a [u8],
-    names: &'a [u16],
-    len: usize,
-) -> bool
-    requires given { Given g given.now }
-    requires states_len { (length states.now ≡ most_borders) × (length names.now ≡ most_borders) }
-    ensures { result ≡ book_holds (border_count g) (is_given given.now) (book states.now names.now len) }
-{
-    if grid::is_small(g) {
-        let mut marks = [0u8; 256];
-        return holds_in(g, given, states, names, len, &mut marks);
-    }
-    let mut marks = [0u8; limits::BORDERS];
-    holds_in(g, given, states, names, len, &mut marks)
-}
-
-// Questions 1 and 2 of a puzzle's parts: their number, or 0.
-pub fn code_of<'a>(
-    z: Counts,
-    states: &'a [u8],
-    names: &'a [u16],
-    given: &'a [u16],
-    clues: &'a [u16],
-) -> u8
-    requires { Arrays states.now names.now given.now clues.now }
-    ensures { result ≡ puzzle_code (puzzle_of z states.now names.now given.now clues.now) }
-{
-    let g = z.grid;
-    if !grid::sizes_ok(g) {
-        return 1;
-    }
-    let many = z.given;
-    if limits::BORDERS < many {
-        return 2;
-    }
-    let rooms = z.clues;
-    if limits::CELLS < rooms {
-        return 2;
-    }
-    let walls = &given[..many];
-    if clues::lists_code(g, walls, &clues[..rooms]) != 0 {
-        return 2;
-    }
-    if ledger_holds(g, walls, states, names, z.len) {
-        return 0;
-    }
-    2
-}
+// The calls on a record by value. The answer is made first and changed where it stands: the record is copied in and out, and not
+// once more.
 
 // Questions 1 and 2 of a puzzle: their number, or 0.
 pub fn puzzle_code(p: Puzzle) -> u8
     ensures { result ≡ puzzle_code p }
 {
-    let g = p.board.grid;
-    let z = Counts {
-        grid: g,
-        len: p.board.book.len,
-        given: p.given_len,
-        clues: p.clues_len,
-    };
-    code_of(
-        z,
-        &p.board.book.states,
-        &p.board.book.names,
-        &p.given,
-        &p.clues,
-    )
+    answers::code_of(p.check())
 }
 
-// Questions 1, 2, 3, 14 and 4 of a stroke: the number of the one that refuses it, or 0.
-fn stroke_code<'a>(
-    z: Counts,
-    states: &'a [u8],
-    names: &'a [u16],
-    given: &'a [u16],
-    clues: &'a [u16],
-    entries: &'a [u16],
-) -> u8
-    requires { Arrays states.now names.now given.now clues.now }
-    ensures { result ≡ stroke_number (puzzle_of z states.now names.now given.now clues.now) (decisions entries.now) }
-{
-    let code = code_of(z, states, names, given, clues);
-    if code != 0 {
-        return code;
-    }
-    ledger::stroke_code(states, entries, grid::border_count(z.grid))
-}
-
-// Decides the borders of a stroke, all or none. The answer is made first and changed where it stands: the record is copied in and out, and not once
-// more.
+// Decides the borders of a stroke, all or none.
 pub fn stroke(p: Puzzle, entries: &[u16]) -> Made
     ensures { result ≡ stroke_of p (decisions entries.now) }
 {
     let mut out = Made { code: 0, puzzle: p };
-    let g = out.puzzle.board.grid;
-    let at = out.puzzle.board.book.len;
-    let z = Counts {
-        grid: g,
-        len: at,
-        given: out.puzzle.given_len,
-        clues: out.puzzle.clues_len,
-    };
-    let code = stroke_code(
-        z,
-        &out.puzzle.board.book.states,
-        &out.puzzle.board.book.names,
-        &out.puzzle.given,
-        &out.puzzle.clues,
-        entries,
-    );
-    if code != 0 {
-        out.code = code;
-        return out;
-    }
-    ledger::place_states(&mut out.puzzle.board.book.states, entries);
-    ledger::place_names(&mut out.puzzle.board.book.names, at, entries);
-    out.puzzle.board.book.len = at + entries.len();
+    out.code = answers::code_of(out.puzzle.stroke(entries));
     out
 }
 
@@ -293,125 +312,18 @@ pub fn stroke(p: Puzzle, entries: &[u16]) -> Made
 pub fn decide(p: Puzzle, border: usize, wall: bool) -> Made
     ensures { result ≡ decide_of p border wall }
 {
-    let one = [ledger::entry_of(border, wall)];
-    stroke(p, &one)
+    let mut out = Made { code: 0, puzzle: p };
+    out.code = answers::code_of(out.puzzle.decide(border, wall));
+    out
 }
 
-// Questions 1, 2 and 5 of an undo: the number of the one that refuses it, or 0.
-fn undo_code<'a>(
-    z: Counts,
-    states: &'a [u8],
-    names: &'a [u16],
-    given: &'a [u16],
-    clues: &'a [u16],
-) -> u8
-    requires { Arrays states.now names.now given.now clues.now }
-    ensures { result ≡ undo_number (puzzle_of z states.now names.now given.now clues.now) }
-{
-    let code = code_of(z, states, names, given, clues);
-    if code != 0 {
-        return code;
-    }
-    ledger::undo_code(z.len)
-}
-
-// Takes the whole last stroke back: of a puzzle that calls have made, the very record before it is there again.
+// Takes the whole last stroke back.
 pub fn undo(p: Puzzle) -> Made
     ensures { result ≡ undo_of p }
 {
     let mut out = Made { code: 0, puzzle: p };
-    let g = out.puzzle.board.grid;
-    let len = out.puzzle.board.book.len;
-    let z = Counts {
-        grid: g,
-        len: len,
-        given: out.puzzle.given_len,
-        clues: out.puzzle.clues_len,
-    };
-    let code = undo_code(
-        z,
-        &out.puzzle.board.book.states,
-        &out.puzzle.board.book.names,
-        &out.puzzle.given,
-        &out.puzzle.clues,
-    );
-    if code != 0 {
-        out.code = code;
-        return out;
-    }
-    let from = ledger::start_of(&out.puzzle.board.book.names, len);
-    let names = out.puzzle.board.book.names;
-    ledger::clear_states(&mut out.puzzle.board.book.states, &names, from, len);
-    ledger::clear_names(&mut out.puzzle.board.book.names, from, len);
-    out.puzzle.board.book.len = from;
+    out.code = answers::code_of(out.puzzle.undo());
     out
-}
-
-// The shape check, and then the counts of the clued rooms, on a board whose borders have these states: what an ask finds. The rooms are found
-// only where the shape check is clear and a room has a clue.
-pub fn fault_of<'a>(
-    g: Grid,
-    given: &'a [u16],
-    states: &'a [u8],
-    clues: &'a [u16],
-    buffer: &mut [u16],
-) -> Answer
-    requires { Finding g given.now states.now clues.now buffer.old }
-    ensures value { result ≡ says 0 (fault_of g given.now clues.now states.now) }
-    ensures buffer_after { buffer.new ≡ writes 0 (fault_of g given.now clues.now states.now) buffer.old }
-{
-    let shape = shape_check::shape_fault(g, states, buffer);
-    if let Found::Fault(n) = shape {
-        return Answer::Fault(Check::Shape, n);
-    }
-    let counted = room_checks::count_rooms(g, given, states, clues, buffer);
-    let Counted::Fault(room, n) = counted else {
-        return Answer::Clear;
-    };
-    Answer::Fault(Check::Room(room), n)
-}
-
-// What an ask finds on a puzzle's arrays, of which the given walls and clues are cut to their counts.
-fn find<'a>(
-    z: Counts,
-    given: &'a [u16],
-    states: &'a [u8],
-    clues: &'a [u16],
-    buffer: &mut [u16],
-) -> Answer
-    requires given_in_bounds { (z.given ≤ length given.now) × (z.clues ≤ length clues.now) }
-    requires finding { Finding z.grid (take z.given given.now) states.now (take z.clues clues.now) buffer.old }
-    ensures value { result ≡ says 0 (fault_of z.grid (take z.given given.now) (take z.clues clues.now) states.now) }
-    ensures buffer_after { buffer.new ≡ writes 0 (fault_of z.grid (take z.given given.now) (take z.clues clues.now) states.now) buffer.old }
-{
-    let many = z.given;
-    let rooms = z.clues;
-    fault_of(z.grid, &given[..many], states, &clues[..rooms], buffer)
-}
-
-// What stands wrong on a puzzle of these parts: the shape check, then the clued rooms in order, up to the first fault, whose list goes to the
-// buffer's front.
-pub fn ask_in<'a>(
-    z: Counts,
-    states: &'a [u8],
-    names: &'a [u16],
-    given: &'a [u16],
-    clues: &'a [u16],
-    buffer: &mut [u16],
-) -> Answer
-    requires { Arrays states.now names.now given.now clues.now }
-    ensures value { result ≡ (ask_of (puzzle_of z states.now names.now given.now clues.now) buffer.old).answer }
-    ensures buffer_after { buffer.new ≡ (ask_of (puzzle_of z states.now names.now given.now clues.now) buffer.old).buffer }
-{
-    let code = code_of(z, states, names, given, clues);
-    if code != 0 {
-        return Answer::Refused(code);
-    }
-    let g = z.grid;
-    if buffer.len() < 9 * (g.height * g.width) {
-        return Answer::Refused(6);
-    }
-    find(z, given, states, clues, buffer)
 }
 
 // What stands wrong on a puzzle as it stands.
@@ -419,19 +331,17 @@ pub fn ask(p: Puzzle, buffer: &mut [u16]) -> Answer
     ensures value { result ≡ (ask_of p buffer.old).answer }
     ensures buffer_after { buffer.new ≡ (ask_of p buffer.old).buffer }
 {
-    let g = p.board.grid;
-    let z = Counts {
-        grid: g,
-        len: p.board.book.len,
-        given: p.given_len,
-        clues: p.clues_len,
-    };
-    ask_in(
-        z,
-        &p.board.book.states,
-        &p.board.book.names,
-        &p.given,
-        &p.clues,
-        buffer,
-    )
+    Answer::from(p.ask(buffer))
+}
+
+impl From<Result<Option<Fault>, Refusal>> for Answer {
+    ghost from_gives = { λ asked answer. answer ≡ answer_in asked };
+
+    fn from(asked: Result<Option<Fault>, Refusal>) -> Answer {
+        match asked {
+            Ok(None) => Answer::Clear,
+            Ok(Some(Fault { check, len })) => Answer::Fault(check, len),
+            Err(refusal) => Answer::Refused(u8::from(refusal)),
+        }
+    }
 }

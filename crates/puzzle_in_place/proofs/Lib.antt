@@ -1,3 +1,0 @@
-pub mod Apart
-pub mod Held
-pub mod Steps

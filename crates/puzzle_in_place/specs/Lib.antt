@@ -1,1 +1,0 @@
--- Nothing is defined here: the contracts are by the definitions of the by-value calls, `puzzle`'s `stroke_of`, `decide_of`, `undo_of` and `ask_of`.
