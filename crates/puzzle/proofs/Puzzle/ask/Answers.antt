@@ -13,8 +13,8 @@ given-requires c = (ready c.args.self.now (sym c.in_ok-check.ensures)).given_fit
 pub clues-requires : goal.clues-requires
 clues-requires c = (ready c.args.self.now (sym c.in_ok-check.ensures)).clues_fit
 
-pub fault_of-requires : goal.fault_of-requires
-fault_of-requires c =
+pub fault_of-found-requires : goal.fault_of-found-requires
+fault_of-found-requires c =
     let p = c.args.self.now in
     let fits : Fits (grid_of p) (book_of p).states = rw (← c.borders.ensures.grid, ← c.borders.ensures.states) c.borders.result.fits in
     let long : 9 * cells (grid_of p) ≤ length c.args.buffer.now = rw (← c.cell_count.ensures) c.if-buffer-cell_count.false in
