@@ -1,21 +1,8 @@
--- `lists::put` meets its contract: the invariant `Putting` says what is left, one law a turn and one at the end. Assumes nothing.
-use mathlib.Core.Path.{refl}
-use native.Mathlib.Omega.{arith}
-use native.Mathlib.Nat.{add-zero}
-use Rattle.lists.proofs.SetsLaws.{putting_next, putting_end}
+-- `lists::put` meets its contract: the part that is copied over, in the words of `sets`. Assumes nothing.
+use Rattle.std.proofs.Common.{arith}
+use Rattle.lists.proofs.SetsLaws.{part_written}
 use Rattle.lists.proofs.put.Goals as goal
 
-pub loop-i-init : goal.loop-i-init
-loop-i-init c = record { within = omega arith; long = refl; left = simp add-zero }
-
-pub bounds-buffer-at : goal.bounds-buffer-at
-bounds-buffer-at c = omega (arith, c.loop-i.invariant.long)
-
-pub loop-i-preserved : goal.loop-i-preserved
-loop-i-preserved c = putting_next c.loop-i.invariant c.loop-i-test.true
-
-pub shape_of-buffer : goal.shape_of-buffer
-shape_of-buffer c = c.loop-i.invariant.long
-
-pub returns : goal.returns
-returns c = record { value = omega arith; buffer_after = putting_end c.loop-i.invariant c.loop-i-test.false }
+pub returns-clause-buffer_after : goal.returns-clause-buffer_after
+returns-clause-buffer_after c =
+    rw c.copy_from_slice.ensures.after (part_written c.args.buffer.now c.args.bytes.now c.args.at _ (omega arith) c.requires)
