@@ -14,11 +14,14 @@ use Rattle.lists.specs.Choice.{pick, both, give, through}
 use Rattle.lists.proofs.Cases.{le_or_lt}
 use Rattle.case_file.specs.declared.Call.{Call}
 use Rattle.case_file.specs.declared.Span.{Span}
-use Rattle.case_file.specs.declared.Counted.TheVariants.{Fits, Cut}
-use Rattle.case_file.specs.declared.File.{File}
-use Rattle.case_file.specs.declared.File.TheVariants as file
+use Rattle.std.specs.Prelude.{Some, None, Result, Err}
+use Rattle.std.specs.Option.{ok_or}
+use Rattle.answers.specs.declared.Refusal.{Refusal}
+use Rattle.answers.specs.declared.Refusal.TheVariants.{UnsoundFile}
+use Rattle.answers.specs.Refusals.{code_of}
+use Rattle.case_file.specs.declared.Layout.{Layout}
 use Rattle.case_file.specs.Sound.{Case, numbers_of, calls_of, call_list_of, is_end, lists_of, rest_of, decode_of}
-use Rattle.case_file.specs.Layout.{word_at, span_of, size_of, counted_at, file_of, number_of, refusal_of}
+use Rattle.case_file.specs.Layout.{word_at, span_of, size_of, counted_at, parts_of, file_of, refusal_of}
 use Rattle.case_file.proofs.ReadLaws.{byte_at, byte_out, word_at_lem, word_out, numbers_length}
 use Rattle.case_file.proofs.ListLaws.{numbers_none, numbers_cut, numbers_some, Whole, call_cases, headed}
 
@@ -37,20 +40,21 @@ pub record Found {A : Type 0} (bs : List ℕ) (at : ℕ) (o : Option (List A × 
   pub inside : next ≤ length bs
 
 module _ {A : Type 0} (bs : List ℕ) (at : ℕ) where
-  pub found : (o : Option (List A × List ℕ)) (s : Span) (next : ℕ) → Within bs o → Fits s next ≡ counted_at bs at o → Found bs at o s next
+  pub found : (o : Option (List A × List ℕ)) (s : Span) (next : ℕ) → Within bs o → Some (s, next) ≡ counted_at bs at o → Found bs at o s next
   found none s next h q = let z : ◌≡◌ {A = ℕ} 0 1 = cc in absurd (omega arith)
   found (some p) s next h q =
       let w = h p refl in
-      let n : next ≡ length bs - length p.1 = cc in
+      let g : ◌≡◌ {A = Span × ℕ} (s, next) (span_of (at + 2) (length p.0), length bs - length p.1) = cc in
+      let n : next ≡ length bs - length p.1 = ap (λ (x : Span × ℕ). x.1) g in
       let m : next ≡ w.0 = n ∙ left_of bs p.1 w.0 w.1 w.2 in
       record {
         items = p.0;
         reads = ap (λ (r : List ℕ). some (p.0, r)) (rw m w.2);
-        span = cc;
+        span = ap (λ (x : Span × ℕ). x.0) g;
         inside = omega (arith, m, w.1);
       }
 
-  pub missing : (o : Option (List A × List ℕ)) → Cut ≡ counted_at bs at o → o ≡ none
+  pub missing : (o : Option (List A × List ℕ)) → None ≡ counted_at bs at o → o ≡ none
   missing none q = refl
   missing (some p) q = let z : ◌≡◌ {A = ℕ} 0 1 = cc in absurd (omega arith)
 
@@ -144,15 +148,15 @@ module _ (bs : List ℕ) where
 
 -- The ways out of `rest`.
 module _ (bs : List ℕ) (h : 5 ≤ length bs) where
-  pub no_walls : numbers_of (drop 5 bs) ≡ none → file.Unsound ≡ file_of (rest_of (drop 3 bs))
+  pub no_walls : numbers_of (drop 5 bs) ≡ none → None ≡ parts_of (rest_of (drop 3 bs))
   no_walls e = simp (rest_lists bs h, lists_no_walls (get_or bs 3 0) (get_or bs 4 0) (drop 5 bs) e)
 
   module _ {walls : Span} {n : ℕ} (f : Found bs 5 (numbers_of (drop 5 bs)) walls n) where
-    pub no_clues_lem : numbers_of (drop n bs) ≡ none → file.Unsound ≡ file_of (rest_of (drop 3 bs))
+    pub no_clues_lem : numbers_of (drop n bs) ≡ none → None ≡ parts_of (rest_of (drop 3 bs))
     no_clues_lem e = simp (rest_lists bs h, lists_no_clues (get_or bs 3 0) (get_or bs 4 0) (drop 5 bs) (drop n bs) f.items f.reads e)
 
     module _ {clues : Span} {m : ℕ} (g : Found bs n (numbers_of (drop n bs)) clues m) where
-      pub no_calls : call_list_of (drop m bs) ≡ none → file.Unsound ≡ file_of (rest_of (drop 3 bs))
+      pub no_calls : call_list_of (drop m bs) ≡ none → None ≡ parts_of (rest_of (drop 3 bs))
       no_calls e =
           simp
           (rest_lists bs h, lists_no_calls (get_or bs 3 0) (get_or bs 4 0) (drop 5 bs) (drop n bs) (drop m bs) f.items g.items f.reads g.reads e)
@@ -164,28 +168,33 @@ module _ (bs : List ℕ) (h : 5 ≤ length bs) where
             rest_lists bs h
             ∙ lists_whole (get_or bs 3 0) (get_or bs 4 0) (drop 5 bs) (drop n bs) (drop m bs) (drop end bs) f.items g.items k.items f.reads g.reads k.reads
 
-        pub more_left : end < length bs → file.Unsound ≡ file_of (rest_of (drop 3 bs))
+        pub more_left : end < length bs → None ≡ parts_of (rest_of (drop 3 bs))
         unfolding give
         more_left l = simp (whole, end_not bs end l)
 
         pub all_read : length bs ≤ end
-            → file.Sound (record { height = get_or bs 3 0; width = get_or bs 4 0; walls = walls; clues = clues; calls = calls }) ≡ file_of (rest_of (drop 3 bs))
+            → Some (record { height = get_or bs 3 0; width = get_or bs 4 0; walls = walls; clues = clues; calls = calls }) ≡ parts_of (rest_of (drop 3 bs))
         unfolding give
         all_read l =
             let a : n + 2 ≡ 9 + 2 * length f.items = omega (arith, numbers_end bs 5 f) in
             let b : m + 2 ≡ 11 + 2 * length f.items + 2 * length g.items = omega (arith, numbers_end bs 5 f, numbers_end bs n g) in
             simp (whole, end_is bs end l, f.span, g.span, k.span, a, b)
 
-number_file : (o : Option Case) → number_of (file_of o) ≡ refusal_of o
+-- the parts, or question 11
+pub parts_or : (o : Option Case) → ok_or (parts_of o) UnsoundFile ≡ file_of o
+parts_or none = refl
+parts_or (some f) = refl
+
+number_file : (o : Option Case) → code_of (file_of o) ≡ refusal_of o
 number_file none = refl
 number_file (some f) = refl
 
 -- the answer and its number
-abbrev Answer : List ℕ → File → Type 0
-Answer bs r = (r ≡ file_of (decode_of bs)) × (number_of r ≡ refusal_of (decode_of bs))
+abbrev Answer : List ℕ → Result Layout Refusal → Type 0
+Answer bs r = (r ≡ file_of (decode_of bs)) × (code_of r ≡ refusal_of (decode_of bs))
 
-answer : (bs : List ℕ) {r : File} (o : Option Case) → decode_of bs ≡ o → r ≡ file_of o → Answer bs r
-answer bs o e q = rw e (q, ap number_of q ∙ number_file o)
+answer : (bs : List ℕ) {r : Result Layout Refusal} (o : Option Case) → decode_of bs ≡ o → r ≡ file_of o → Answer bs r
+answer bs o e q = rw e (q, ap code_of q ∙ number_file o)
 
 -- The ways out of `decode`.
 module _ (bs : List ℕ) where
@@ -197,7 +206,7 @@ module _ (bs : List ℕ) where
       (λ (k : 0 < length bs). simp (byte_at bs 0 k, word_out bs 1 (omega arith)))
       (le_or_lt (length bs) 0)
 
-  pub front_short : length bs < 3 → Answer bs file.Unsound
+  pub front_short : length bs < 3 → Answer bs (Err UnsoundFile)
   front_short h = answer bs none (short h) refl
 
   front : 3 ≤ length bs
@@ -206,16 +215,16 @@ module _ (bs : List ℕ) where
   front h = simp (byte_at bs 0 (omega arith), word_at_lem bs 1 (omega arith), length-drop)
 
   module _ (h : 3 ≤ length bs) where
-    pub front_version : get_or bs 0 0 ≢ 1 → Answer bs file.Unsound
+    pub front_version : get_or bs 0 0 ≢ 1 → Answer bs (Err UnsoundFile)
     front_version v = answer bs none (simp (front h, ne_eqb _ _ v)) refl
 
     module _ (v : get_or bs 0 0 ≡ 1) where
-      pub front_length : word_at bs 1 ≢ length bs - 3 → Answer bs file.Unsound
+      pub front_length : word_at bs 1 ≢ length bs - 3 → Answer bs (Err UnsoundFile)
       front_length l = answer bs none (simp (front h, eq-eqb _ _ v, ne_eqb _ _ l)) refl
 
       module _ (l : word_at bs 1 ≡ length bs - 3) where
-        pub front_long : 60000 < word_at bs 1 → Answer bs file.Unsound
+        pub front_long : 60000 < word_at bs 1 → Answer bs (Err UnsoundFile)
         front_long k = answer bs none (simp (front h, eq-eqb _ _ v, eq-eqb _ _ l, lt-leb _ _ k)) refl
 
-        pub front_good : {r : File} → word_at bs 1 ≤ 60000 → r ≡ file_of (rest_of (drop 3 bs)) → Answer bs r
+        pub front_good : {r : Result Layout Refusal} → word_at bs 1 ≤ 60000 → r ≡ file_of (rest_of (drop 3 bs)) → Answer bs r
         front_good k e = answer bs (rest_of (drop 3 bs)) (simp (front h, eq-eqb _ _ v, eq-eqb _ _ l, le-leb _ _ k)) e

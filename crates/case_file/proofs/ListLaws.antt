@@ -12,8 +12,7 @@ use Rattle.lists.proofs.Cases.{le_or_lt, eq_or_ne}
 use Rattle.lists.proofs.ChoiceLaws.{through_some}
 use Rattle.case_file.specs.declared.Call.{Call}
 use Rattle.case_file.specs.declared.Call.TheVariants.{Undo, Decide, Ask}
-use Rattle.case_file.specs.declared.Step.TheVariants as step
-use Rattle.case_file.specs.declared.Counted.TheVariants.{Fits}
+use Rattle.std.specs.Prelude.{Some, None}
 use Rattle.case_file.specs.Sound.{numbers_of, many_of, call_of, calls_of, call_list_of}
 use Rattle.case_file.specs.Layout.{word_at, numbers_at, span_of, size_of, step_at, counted_at}
 use Rattle.case_file.proofs.ReadLaws.{word_at_lem, word_out, many_at, many_out, numbers_length, call_out, call_undo, call_ask, call_other, call_cut, call_decide}
@@ -34,7 +33,7 @@ module _ (bs : List ℕ) (at : ℕ) where
       → numbers_of (drop at bs) ≡ some (numbers_at bs (at + 2) (word_at bs at), drop (at + 2 + 2 * word_at bs at) bs)
   numbers_some h = numbers_word (omega arith) ∙ many_at bs (at + 2) (word_at bs at) h
 
-  pub numbers_fits : (n : ℕ) → n ≡ word_at bs at → at + 2 + 2 * n ≤ length bs → Fits (span_of (at + 2) n) (at + 2 + 2 * n) ≡ counted_at bs at (numbers_of (drop at bs))
+  pub numbers_fits : (n : ℕ) → n ≡ word_at bs at → at + 2 + 2 * n ≤ length bs → Some (span_of (at + 2) n, at + 2 + 2 * n) ≡ counted_at bs at (numbers_of (drop at bs))
   numbers_fits n e h =
       let w = word_at bs at in
       let k : at + 2 + 2 * w ≤ length bs = rw e at h in
@@ -69,22 +68,23 @@ module _ (bs : List ℕ) (at : ℕ) where
       (eq_or_ne k 0))
       (le_or_lt (length bs) at)
 
-  pub step_call : (c : Call) (next : ℕ) → step.Call c next ≡ step_at at (call_of (drop at bs)) → (call_of (drop at bs) ≡ some (c, drop next bs)) × (next ≤ length bs)
+  pub step_call : (c : Call) (next : ℕ) → Some (c, next) ≡ step_at at (call_of (drop at bs)) → (call_of (drop at bs) ≡ some (c, drop next bs)) × (next ≤ length bs)
   step_call c next q =
       ⊎_elim
-      (λ (e : call_of (drop at bs) ≡ none). let f : step.Call c next ≡ step.Unsound = simp e at q in let z : ◌≡◌ {A = ℕ} 0 1 = cc in absurd (omega arith))
+      (λ (e : call_of (drop at bs) ≡ none). let f : Some (c, next) ≡ None = simp e at q in let z : ◌≡◌ {A = ℕ} 0 1 = cc in absurd (omega arith))
       (λ (o : Whole).
-      let f : step.Call c next ≡ step.Call o.0 (at + size_of o.0) = simp o.1 at q in
-      let d : c ≡ o.0 = cc in
-      let n : next ≡ at + size_of o.0 = cc in
+      let f : Some (c, next) ≡ Some (o.0, at + size_of o.0) = simp o.1 at q in
+      let g : ◌≡◌ {A = Call × ℕ} (c, next) (o.0, at + size_of o.0) = cc in
+      let d : c ≡ o.0 = ap (λ (x : Call × ℕ). x.0) g in
+      let n : next ≡ at + size_of o.0 = ap (λ (x : Call × ℕ). x.1) g in
       rw (d, n) (o.1, o.2))
       call_cases
 
-  pub step_unsound : step.Unsound ≡ step_at at (call_of (drop at bs)) → call_of (drop at bs) ≡ none
+  pub step_unsound : None ≡ step_at at (call_of (drop at bs)) → call_of (drop at bs) ≡ none
   step_unsound q =
       ⊎_elim
       (λ e. e)
-      (λ (o : Whole). let f : step.Unsound ≡ step.Call o.0 (at + size_of o.0) = simp o.1 at q in let z : ◌≡◌ {A = ℕ} 0 1 = cc in absurd (omega arith))
+      (λ (o : Whole). let f : None ≡ Some (o.0, at + size_of o.0) = simp o.1 at q in let z : ◌≡◌ {A = ℕ} 0 1 = cc in absurd (omega arith))
       call_cases
 
 -- what a list of calls leaves behind it
@@ -147,17 +147,15 @@ calls_length_lem (suc n) r s cs e =
 
 -- The loop over the calls: what the calls that are left leave behind them is what all of them do.
 pub record Walking (bs : List ℕ) (start count next k : ℕ) : Type 0 where
-  pub within : k ≤ count
   pub inside : next ≤ length bs
   pub left : behind_of (calls_of (count - k) (drop next bs)) ≡ behind_of (calls_of count (drop start bs))
 
 module _ {bs : List ℕ} {start count next k : ℕ} (f : Walking bs start count next k) where
-  pub walking_next : k < count → (c : Call) (behind : ℕ) → step.Call c behind ≡ step_at next (call_of (drop next bs)) → Walking bs start count behind (k + 1)
+  pub walking_next : k < count → (c : Call) (behind : ℕ) → Some (c, behind) ≡ step_at next (call_of (drop next bs)) → Walking bs start count behind (k + 1)
   walking_next h c behind q =
       let o = step_call bs next c behind q in
       let e : count - k ≡ suc (count - (k + 1)) = omega arith in
       record {
-        within = omega arith;
         inside = o.1;
         left = sym (calls_turn (count - (k + 1)) (drop next bs) (drop behind bs) c o.0) ∙ rw e at f.left;
       }
@@ -187,7 +185,7 @@ module _ (bs : List ℕ) (at : ℕ) where
 
   pub calls_fits : (n next : ℕ) → n ≡ word_at bs at → at + 2 ≤ length bs → next ≤ length bs
       → (cs : List Call) × (calls_of n (drop (at + 2) bs) ≡ some (cs, drop next bs))
-      → Fits (span_of (at + 2) n) next ≡ counted_at bs at (call_list_of (drop at bs))
+      → Some (span_of (at + 2) n, next) ≡ counted_at bs at (call_list_of (drop at bs))
   calls_fits n next e h k o =
       let l : length bs - (length bs - next) ≡ next = omega arith in
       let c : call_list_of (drop at bs) ≡ some (o.0, drop next bs) = calls_word h ∙ rw e at o.1 in

@@ -1,16 +1,17 @@
 -- The numbers of a list: how many there are, the k-th, and the loop that copies them. Assumes nothing.
 use Prim.Native.Nat.{ℕ, zero, suc, ◌+◌, ◌*◌, ◌-◌, ◌/◌, ◌≤◌, ◌<◌, min}
-use mathlib.Core.Path.{◌≡◌, refl, ap, ◌∙◌}
+use mathlib.Core.Path.{◌≡◌, refl, ◌∙◌}
 use mathlib.Core.List.{List, [], ◌∷◌}
 use native.Mathlib.Omega.{arith}
 use native.Mathlib.Numerals.{add-one}
-use lib.ListN.{length, get_or, set, take, drop, length-set, length-take, length-drop, drop_of_length-le}
+use lib.ListN.{length, get_or, set, take, drop, length-take, length-drop, drop_of_length-le}
 use lib.Dec.{leb}
 use lib.Seq.{drop-cons, sets, get_or-take, get_or-drop}
 use borrow.Author.Tests.{le-leb}
 use Rattle.lists.specs.Choice.{pick}
-use Rattle.answers.specs.Answers.{refused, listed, listed_of, written}
-use Rattle.answers.specs.declared.Listed.TheVariants as case
+use Rattle.std.specs.Prelude.{Ok}
+use Rattle.answers.specs.Answers.{refused, listed, written}
+use Rattle.answers.specs.Refusals.{Lists}
 use Rattle.case_file.specs.Sound.{words_of}
 use Rattle.case_file.specs.Layout.{word_at, numbers_at}
 
@@ -49,15 +50,11 @@ module _ (bs : List ℕ) (at count : ℕ) where
 
 -- The loop that copies the numbers xs: the rest of them, stored from place k on, gives all of them stored from place 0 on.
 pub record Copying (xs out₀ out : List ℕ) (k : ℕ) : Type 0 where
-  pub within : k ≤ length xs
-  pub long : length out ≡ length out₀
   pub left : sets out k (drop k xs) ≡ sets out₀ 0 xs
 
 module _ {xs out₀ out : List ℕ} {k : ℕ} (f : Copying xs out₀ out k) where
   pub copying_next : (v : ℕ) → k < length xs → v ≡ get_or xs k 0 → Copying xs out₀ (set out k v) (k + 1)
   copying_next v h e = record {
-    within = omega arith;
-    long = simp length-set f.long;
     left =
         let q : drop k xs ≡ v ∷ drop (suc k) xs = rw e (drop-cons xs k 0 h) in
         rw add-one (rw q at f.left);
@@ -65,5 +62,5 @@ module _ {xs out₀ out : List ℕ} {k : ℕ} (f : Copying xs out₀ out k) wher
 
   -- the end of the loop: all are copied
   pub copied : {n : ℕ} → n ≡ length xs → n ≤ k → n ≤ length out₀
-      → let o = pick (leb (length xs) (length out₀)) (listed xs) (refused 6) in (case.List n ≡ listed_of o) × (out ≡ written o out₀)
-  copied e h l = let d : length xs ≤ k = omega arith in rw (le-leb (length xs) (length out₀) (omega arith)) (ap case.List e, rw (drop_of_length-le xs d) at f.left)
+      → let o = pick (leb (length xs) (length out₀)) (listed xs) (refused 6) in Lists o (Ok n) × (out ≡ written o out₀)
+  copied e h l = let d : length xs ≤ k = omega arith in rw (le-leb (length xs) (length out₀) (omega arith)) (simp e, rw (drop_of_length-le xs d) at f.left)

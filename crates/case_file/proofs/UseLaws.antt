@@ -9,8 +9,8 @@ use lib.ListN.{length, drop}
 use Rattle.lists.proofs.Cases.{le_or_lt}
 use Rattle.case_file.specs.declared.Call.{Call}
 use Rattle.case_file.specs.declared.Layout.{Layout}
-use Rattle.case_file.specs.declared.File.TheVariants as file
-use Rattle.case_file.specs.declared.Step.TheVariants as step
+use Rattle.std.specs.Prelude.{Some, Ok, Err}
+use Rattle.answers.specs.declared.Refusal.TheVariants.{UnsoundFile}
 use Rattle.case_file.specs.Sound.{Case, numbers_of, call_of, calls_of, call_list_of, decode_of}
 use Rattle.case_file.specs.Layout.{word_at, numbers_at, size_of, step_at, layout_of, file_of}
 use Rattle.case_file.proofs.ReadLaws.{numbers_length}
@@ -19,20 +19,20 @@ use Rattle.case_file.proofs.FileLaws.{numbers_cases}
 use Rattle.case_file.proofs.BackLaws.{Parts, parts}
 
 -- an accepted file is sound, and its layout is the case's
-pub accepted : (bs : List ℕ) (l : Layout) → file.Sound l ≡ file_of (decode_of bs) → (f : Case) × (decode_of bs ≡ some f) × (l ≡ layout_of f)
+pub accepted : (bs : List ℕ) (l : Layout) → Ok l ≡ file_of (decode_of bs) → (f : Case) × (decode_of bs ≡ some f) × (l ≡ layout_of f)
 accepted bs l q = go (decode_of bs) refl
   where
     go : (o : Option Case) → decode_of bs ≡ o → (f : Case) × (decode_of bs ≡ some f) × (l ≡ layout_of f)
-    go none e = let z : file.Sound l ≡ file.Unsound = rw e at q in let y : ◌≡◌ {A = ℕ} 0 1 = cc in absurd (omega arith)
-    go (some f) e = let z : file.Sound l ≡ file.Sound (layout_of f) = rw e at q in (f, e, cc)
+    go none e = let z : Ok l ≡ Err UnsoundFile = rw e at q in let y : ◌≡◌ {A = ℕ} 0 1 = cc in absurd (omega arith)
+    go (some f) e = let z : Ok l ≡ Ok (layout_of f) = rw e at q in (f, e, cc)
 
 -- a refused file is not sound
-pub refused : (bs : List ℕ) → file.Unsound ≡ file_of (decode_of bs) → decode_of bs ≡ none
+pub refused : (bs : List ℕ) → Err UnsoundFile ≡ file_of (decode_of bs) → decode_of bs ≡ none
 refused bs q = go (decode_of bs) refl
   where
     go : (o : Option Case) → decode_of bs ≡ o → decode_of bs ≡ none
     go none e = e
-    go (some f) e = let z : file.Unsound ≡ file.Sound (layout_of f) = rw e at q in let y : ◌≡◌ {A = ℕ} 0 1 = cc in absurd (omega arith)
+    go (some f) e = let z : Err UnsoundFile ≡ Ok (layout_of f) = rw e at q in let y : ◌≡◌ {A = ℕ} 0 1 = cc in absurd (omega arith)
 
 numbers_known : (bs : List ℕ) (at : ℕ) (xs s : List ℕ) → numbers_of (drop at bs) ≡ some (xs, s)
     → (s ≡ drop (at + 2 + 2 * length xs) bs) × (numbers_at bs (at + 2) (length xs) ≡ xs)
@@ -90,7 +90,7 @@ module _ (f : Case) (bs : List ℕ) (e : decode_of bs ≡ some f) where
 pub record Stepped (n : ℕ) (bs : List ℕ) (at : ℕ) (r : List ℕ) (cs : List Call) : Type 0 where
   pub call : Call
   pub others : List Call
-  pub step : step_at at (call_of (drop at bs)) ≡ step.Call call (at + size_of call)
+  pub step : step_at at (call_of (drop at bs)) ≡ Some (call, at + size_of call)
   pub whole : cs ≡ call ∷ others
   pub follow : calls_of n (drop (at + size_of call) bs) ≡ some (others, r)
 

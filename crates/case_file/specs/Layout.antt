@@ -1,18 +1,15 @@
 -- Where the parts of a file stand: what the code hands out instead of copies. Assumes nothing.
-use Rattle.std.specs.Prelude.{ℕ, ◌+◌, ◌*◌, ◌-◌, List, leb, length, get_or, take, drop}
+use Rattle.std.specs.Prelude.{ℕ, ◌+◌, ◌*◌, ◌-◌, List, leb, length, get_or, take, drop, Some, None, Result, Ok, Err}
+use Rattle.std.specs.Prelude as std
 use Rattle.std.proofs.Math.Option.{Option, none, some}
 use Rattle.lists.specs.Choice.{pick}
 use Rattle.answers.specs.Answers.{Outcome, refused, listed}
+use Rattle.answers.specs.declared.Refusal.{Refusal}
+use Rattle.answers.specs.declared.Refusal.TheVariants.{UnsoundFile}
 use Rattle.case_file.specs.declared.Call.{Call}
 use Rattle.case_file.specs.declared.Call.TheVariants.{Undo, Decide, Ask}
-use Rattle.case_file.specs.declared.Step.{Step}
-use Rattle.case_file.specs.declared.Step.TheVariants as step
 use Rattle.case_file.specs.declared.Span.{Span}
 use Rattle.case_file.specs.declared.Layout.{Layout}
-use Rattle.case_file.specs.declared.File.{File}
-use Rattle.case_file.specs.declared.File.TheVariants as file
-use Rattle.case_file.specs.declared.Counted.{Counted}
-use Rattle.case_file.specs.declared.Counted.TheVariants.{Fits, Cut}
 use Rattle.case_file.specs.Sound.{Case, words_of}
 
 -- the number at a byte
@@ -34,17 +31,17 @@ size_of (Decide b w) = 3
 size_of Ask = 1
 
 -- a call read at a byte, and the byte behind it
-abbrev pub step_at : ℕ → Option (Call × List ℕ) → Step
-step_at at none = step.Unsound
-step_at at (some c) = step.Call c.0 (at + size_of c.0)
+abbrev pub step_at : ℕ → Option (Call × List ℕ) → std.Option (Call × ℕ)
+step_at at none = None
+step_at at (some c) = Some (c.0, at + size_of c.0)
 
 abbrev pub span_of : ℕ → ℕ → Span
 span_of at count = record { at = at; count = count }
 
 -- a list read at a byte of the file: it starts behind its count, and ends where the rest begins
-abbrev pub counted_at : {A : Type 0} → List ℕ → ℕ → Option (List A × List ℕ) → Counted
-counted_at bs at none = Cut
-counted_at bs at (some p) = Fits (span_of (at + 2) (length p.0)) (length bs - length p.1)
+abbrev pub counted_at : {A : Type 0} → List ℕ → ℕ → Option (List A × List ℕ) → std.Option (Span × ℕ)
+counted_at bs at none = None
+counted_at bs at (some p) = Some (span_of (at + 2) (length p.0), length bs - length p.1)
 
 -- the version, the length, the height, the width and the first count are 7 bytes
 abbrev pub layout_of : Case → Layout
@@ -57,14 +54,14 @@ layout_of f =
       calls = span_of (11 + 2 * length f.walls + 2 * length f.clues) (length f.calls);
     }
 
-abbrev pub file_of : Option Case → File
-file_of none = file.Unsound
-file_of (some f) = file.Sound (layout_of f)
+abbrev pub parts_of : Option Case → std.Option Layout
+parts_of none = None
+parts_of (some f) = Some (layout_of f)
 
--- the number of each case of the answer (SPEC 3.16): 0 for a sound file, with its layout, and 11 for any other
-abbrev pub number_of : File → ℕ
-number_of (file.Sound l) = 0
-number_of file.Unsound = 11
+-- the answer (SPEC 3.16): a sound file's layout, and question 11 refuses any other
+abbrev pub file_of : Option Case → Result Layout Refusal
+file_of none = Err UnsoundFile
+file_of (some f) = Ok (layout_of f)
 
 -- question 11 (SPEC 3.11)
 abbrev pub refusal_of : Option Case → ℕ

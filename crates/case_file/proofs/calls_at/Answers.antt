@@ -1,6 +1,5 @@
 -- `case_file::calls_at` meets its contract: the invariant `Walking` says what the calls that are left leave behind them. Assumes nothing.
-use mathlib.Core.Path.{sym, ◌∙◌}
-use native.Mathlib.Omega.{arith}
+use Rattle.std.proofs.Common.{◌∙◌, arith}
 use native.Mathlib.Nat.{sub-zero}
 use Rattle.case_file.proofs.ListLaws.{walking_next, walking_stop, walking_end, step_unsound, calls_none, calls_cut, calls_fits}
 use Rattle.case_file.proofs.calls_at.Goals as goal
@@ -8,23 +7,21 @@ use Rattle.case_file.proofs.calls_at.Goals as goal
 pub returns-then-file-at-lt2 : goal.returns-then-file-at-lt2
 returns-then-file-at-lt2 c = let a = c.args in simp (calls_none a.file.now a.at (omega arith))
 
-pub loop-k-init : goal.loop-k-init
-loop-k-init c = record { within = omega arith; inside = omega arith; left = simp sub-zero }
+pub loop-init : goal.loop-init
+loop-init c = record { inside = omega arith; left = simp sub-zero }
 
-pub returns-in_default : goal.returns-in_default
-returns-in_default c =
+pub returns-in_err-next : goal.returns-in_err-next
+returns-in_err-next c =
     let a = c.args in
-    let u = step_unsound a.file.now c.loop-k.next (sym c.in_default.is ∙ c.call_at.ensures) in
-    let e = calls_cut a.file.now a.at c.word-count.result c.word-count.ensures.0 (omega arith)
-    (walking_stop c.loop-k.invariant c.loop-k-test.true u) in
-    simp e
+    let u = step_unsound a.file.now c.loop.next c.in_err-next.ensures in
+    let e = calls_cut a.file.now a.at c.from-count.result (c.from-count.ensures ∙ c.word.ensures) (omega arith) (walking_stop c.loop.invariant c.loop-test.true u) in
+    rw c.from_residual.ensures (simp e)
 
-pub loop-k-preserved : goal.loop-k-preserved
-loop-k-preserved c =
-    walking_next c.loop-k.invariant c.loop-k-test.true c.in-Call.field-0 c.in-Call.behind (sym c.in-Call.is ∙ c.call_at.ensures)
+pub loop-preserved : goal.loop-preserved
+loop-preserved c = walking_next c.loop.invariant c.loop-test.true c.in_ok-next.field-0-0 c.in_ok-next.field-0-1 c.in_ok-next.ensures
 
 pub returns : goal.returns
 returns c =
     let a = c.args in
-    calls_fits a.file.now a.at c.word-count.result c.loop-k.next c.word-count.ensures.0
-    (omega arith) c.loop-k.invariant.inside (walking_end c.loop-k.invariant c.loop-k-test.false)
+    calls_fits a.file.now a.at c.from-count.result c.loop.next (c.from-count.ensures ∙ c.word.ensures) (omega arith) c.loop.invariant.inside
+    (walking_end c.loop.invariant c.loop-test.false)

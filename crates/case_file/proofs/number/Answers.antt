@@ -14,8 +14,8 @@ returns-then-reach-k c =
 pub overflow_mul-k : goal.overflow_mul-k
 overflow_mul-k c = let a = c.args in omega (arith, number_in a.file.now a.list.at a.list.count a.k (rw c.reach.ensures at c.if-reach-k.false))
 
-pub overflow_add-at : goal.overflow_add-at
-overflow_add-at c = let a = c.args in omega (arith, number_in a.file.now a.list.at a.list.count a.k (rw c.reach.ensures at c.if-reach-k.false))
+pub overflow_add-list : goal.overflow_add-list
+overflow_add-list c = let a = c.args in omega (arith, number_in a.file.now a.list.at a.list.count a.k (rw c.reach.ensures at c.if-reach-k.false))
 
 pub word-requires : goal.word-requires
 word-requires c = let a = c.args in number_in a.file.now a.list.at a.list.count a.k (rw c.reach.ensures at c.if-reach-k.false)
@@ -23,4 +23,4 @@ word-requires c = let a = c.args in number_in a.file.now a.list.at a.list.count 
 pub returns : goal.returns
 returns c =
     let a = c.args in
-    c.word.ensures.0 ∙ sym (number_at a.file.now a.list.at a.list.count a.k (rw c.reach.ensures at c.if-reach-k.false))
+    c.from.ensures ∙ c.word.ensures ∙ sym (number_at a.file.now a.list.at a.list.count a.k (rw c.reach.ensures at c.if-reach-k.false))

@@ -1,10 +1,6 @@
 -- `case_file::numbers` meets its contract: the invariant `Copying` says what is left, one law a turn and one at the end. Assumes nothing.
-use Prim.Native.Nat.{ℕ, ◌+◌, ◌*◌, ◌<◌}
-use mathlib.Core.Path.{◌≡◌, refl, sym, ◌∙◌}
-use mathlib.Core.List.{List}
-use native.Mathlib.Omega.{arith}
+use Rattle.std.proofs.Common.{ℕ, ◌+◌, ◌*◌, ◌<◌, ◌≡◌, refl, sym, ◌∙◌, List, length, arith}
 use borrow.Author.Tests.{lt-leb}
-use lib.ListN.{length}
 use Rattle.case_file.specs.Layout.{numbers_at}
 use Rattle.case_file.proofs.NumberLaws.{copying_next, copied, number_in, number_at}
 use Rattle.case_file.proofs.numbers.Goals as goal
@@ -23,39 +19,26 @@ returns-then-buffer-n c =
     (record { value = refl; buffer_after = refl })
 
 pub loop-k-init : goal.loop-k-init
-loop-k-init c = record { within = omega arith; long = refl; left = refl }
+loop-k-init c = record { left = refl }
 
 pub overflow_mul-k : goal.overflow_mul-k
 overflow_mul-k c =
     omega (arith, inside c.args.file.now c.args.list.at c.args.list.count c.loop-k.k c.loop-k-test.true c.reach-n.ensures)
 
-pub overflow_add-at : goal.overflow_add-at
-overflow_add-at c =
+pub overflow_add-list : goal.overflow_add-list
+overflow_add-list c =
     omega (arith, inside c.args.file.now c.args.list.at c.args.list.count c.loop-k.k c.loop-k-test.true c.reach-n.ensures)
 
 pub word-requires : goal.word-requires
 word-requires c = inside c.args.file.now c.args.list.at c.args.list.count c.loop-k.k c.loop-k-test.true c.reach-n.ensures
 
-pub overflow_cast-buffer : goal.overflow_cast-buffer
-overflow_cast-buffer c = omega (arith, c.word.ensures.1)
-
-pub offset_bounds-buffer-k : goal.offset_bounds-buffer-k
-offset_bounds-buffer-k c =
-    omega (arith, inside c.args.file.now c.args.list.at c.args.list.count c.loop-k.k c.loop-k-test.true c.reach-n.ensures)
-
-pub bounds-buffer-k : goal.bounds-buffer-k
-bounds-buffer-k c = omega (arith, c.loop-k-test.true, c.if-buffer-n.false, c.reach-n.ensures, c.loop-k.invariant.long)
-
 pub loop-k-preserved : goal.loop-k-preserved
 loop-k-preserved c =
     let a = c.args in
     copying_next c.loop-k.invariant c.word.result (below c.loop-k-test.true c.reach-n.ensures)
-    (c.word.ensures.0 ∙ sym (number_at a.file.now a.list.at a.list.count c.loop-k.k (below c.loop-k-test.true c.reach-n.ensures)))
-
-pub shape_of-buffer : goal.shape_of-buffer
-shape_of-buffer c = c.loop-k.invariant.long
+    (c.word.ensures ∙ sym (number_at a.file.now a.list.at a.list.count c.loop-k.k (below c.loop-k-test.true c.reach-n.ensures)))
 
 pub returns : goal.returns
 returns c =
-    let w = copied c.loop-k.invariant c.reach-n.ensures c.loop-k-test.false c.if-buffer-n.false in
+    let w = copied c.loop-k.invariant c.reach-n.ensures (omega arith) c.if-buffer-n.false in
     record { value = w.0; buffer_after = w.1 }
