@@ -1,17 +1,15 @@
 // What is wrong with a case file: the first part, from the front, that is not as SPEC 5.1 to 5.3 have it, and at which byte.
 #![tactic(auto)]
 
-ghost use Rattle.std.specs.Prelude.{◌≡◌};
+ghost use Rattle.std.specs.Prelude.{◌≡◌, ◌+◌, ◌<◌, length, MatchOption};
 ghost use Rattle.case_file.specs.Sound.{decode_of};
 ghost use Rattle.flaws.specs.Flaws.{flaw_of, part_of, lists_of, calls_of, call_of, behind_of, count_of, is_sound, sound_of};
 
-use case_file::{File, Span, Step};
+use case_file::Span;
 
 // A number is the byte at which the part stands; the count of given walls stands at byte 5 of every file.
-#[derive(Clone, Copy)]
+#[derive(Clone, Copy, Debug, PartialEq, Eq)]
 pub enum Flaw {
-    // None: the file is sound.
-    Nothing,
     // It has more bytes than a file may have.
     Long,
     // It ends before its version, length, height and width.
@@ -39,34 +37,33 @@ fn count_at(file: &[u8], at: usize) -> usize
     case_file::number(file, Span { at, count: 1 }, 0)
 }
 
-// The byte behind the list of numbers whose count stands at a byte; 0 where the file has no room for it.
-fn behind(file: &[u8], at: usize) -> usize
+// How many bytes stand behind a count at a byte, if the file does not end before it or in it.
+fn room(file: &[u8], at: usize) -> Option<usize>
+    ensures { MatchOption result (length file.now < at + 2) (λ left. at + 2 + left ≡ length file.now) }
+{
+    file.len().checked_sub(2)?.checked_sub(at)
+}
+
+// The byte behind the list of numbers whose count stands at a byte, if the file has room for it.
+fn behind(file: &[u8], at: usize) -> Option<usize>
     ensures { result ≡ behind_of file.now at }
 {
-    if file.len() < 2 {
-        return 0;
-    }
-    if file.len() - 2 < at {
-        return 0;
-    }
+    let left = room(file, at)?;
     let count = count_at(file, at);
-    if (file.len() - 2 - at) / 2 < count {
-        return 0;
+    if left / 2 < count {
+        return None;
     }
-    at + 2 + 2 * count
+    Some(at + 2 + 2 * count)
 }
 
 // What is wrong with the call at a byte, which is none that is sound.
 fn call(file: &[u8], at: usize) -> Flaw
     ensures { result ≡ call_of file.now at }
 {
-    if file.len() <= at {
-        return Flaw::Cut(at);
+    match file.get(at) {
+        Some(&kind) if 3 < kind => Flaw::Kind(at),
+        _ => Flaw::Cut(at),
     }
-    if 3 < file[at] {
-        return Flaw::Kind(at);
-    }
-    Flaw::Cut(at)
 }
 
 // The calls from a byte on, so many of them.
@@ -74,13 +71,11 @@ fn calls(file: &[u8], at: usize, count: usize) -> Flaw
     ensures { result ≡ calls_of count file.now at }
 {
     let mut next = at;
-    let mut k = 0;
-    while k < count {
-        let Step::Call(_, behind) = case_file::call_at(file, next) else {
+    for _ in 0..count {
+        let Some((_, behind)) = case_file::call_at(file, next) else {
             return call(file, next);
         };
         next = behind;
-        k += 1;
     }
     Flaw::Behind(next)
 }
@@ -89,18 +84,13 @@ fn calls(file: &[u8], at: usize, count: usize) -> Flaw
 fn lists(file: &[u8]) -> Flaw
     ensures { result ≡ lists_of file.now }
 {
-    let clues_at = behind(file, 5);
-    if clues_at == 0 {
+    let Some(clues_at) = behind(file, 5) else {
         return Flaw::Walls;
-    }
-    let calls_at = behind(file, clues_at);
-    if calls_at == 0 {
+    };
+    let Some(calls_at) = behind(file, clues_at) else {
         return Flaw::Clues(clues_at);
-    }
-    if file.len() < 2 {
-        return Flaw::Calls(calls_at);
-    }
-    if file.len() - 2 < calls_at {
+    };
+    if room(file, calls_at).is_none() {
         return Flaw::Calls(calls_at);
     }
     calls(file, calls_at + 2, count_at(file, calls_at))
@@ -126,12 +116,12 @@ fn part(file: &[u8]) -> Flaw
 }
 
 // What is wrong with a file: nothing exactly where `case_file::decode` says that it is sound.
-pub fn find(file: &[u8]) -> Flaw
+pub fn find(file: &[u8]) -> Option<Flaw>
     ensures value { result ≡ flaw_of file.now }
     ensures result_value { is_sound result ≡ sound_of (decode_of file.now) }
 {
-    let File::Unsound = case_file::decode(file) else {
-        return Flaw::Nothing;
-    };
-    part(file)
+    match case_file::decode(file) {
+        Ok(_) => None,
+        Err(_) => Some(part(file)),
+    }
 }
