@@ -1,106 +1,115 @@
--- Stores one behind the other, and the loops that write a word and the entries. Assumes nothing.
-use Prim.Native.Nat.{ℕ, suc, ◌+◌, ◌*◌, ◌-◌, ◌/◌, ◌%◌, ◌≤◌, ◌<◌}
+-- What is written to a pen one part after the other: digits, entries and whole lines. Assumes nothing.
+use Prim.Native.Nat.{ℕ, ◌+◌, ◌*◌, ◌-◌, ◌/◌, ◌%◌, ◌≤◌, ◌<◌}
 use mathlib.Core.Path.{◌≡◌, refl, sym, ap, ◌∙◌}
 use mathlib.Core.List.{List, [], ◌∷◌, ◌++◌}
 use native.Mathlib.Omega.{arith}
-use native.Mathlib.Numerals.{add-one}
-use native.Mathlib.Nat.{zero-add}
-use lib.ListN.{length, get_or, set, drop, length-set, length-append, drop_of_length-le}
-use lib.Seq.{drop-cons, sets, length-sets}
+use lib.ListN.{length, get_or, take, length-append}
+use lib.Seq.{sets, length-sets, take_all}
+use Rattle.std.proofs.Common.{append_assoc, append-nil}
+use Rattle.std.proofs.lemmas.List.{take_more}
 use mathlib.Core.Logic.{◌≢◌, inl, inr}
 use Rattle.lists.specs.Lists.{gather, In}
+use Rattle.lists.proofs.ListLaws.{in_get_d}
 use Rattle.lists.proofs.SetsLaws.{sets_append}
-use Rattle.answers.specs.Answers.{listed_of, written}
-use Rattle.answers.specs.declared.Listed.{Listed}
-use Rattle.answers.specs.declared.Listed.TheVariants as case
+use mir.Val.{Fits}
+use mir.Syntax.{w16}
+use Rattle.std.specs.Prelude.{Result, Ok, Err}
+use Rattle.answers.specs.Answers.{written}
+use Rattle.answers.specs.Refusals.{Lists}
+use Rattle.answers.specs.declared.Refusal.{Refusal}
+use Rattle.answers.specs.declared.Refusal.TheVariants.{ShortBuffer}
+use Rattle.lines.specs.declared.pen.Pen.{Pen}
+use Rattle.lines.specs.Pen.{Writes, words_of}
 use Rattle.lines.specs.declared.Line.TheVariants.{Decided, Undone, Clear, Shape, Room, Refused}
 use Rattle.lines.specs.Decimal.{digits_of, decimal_of}
-use Rattle.lines.specs.Line.{spaced_of, line_of, needed, line_into}
+use Rattle.lines.specs.Line.{feed, spaced_of, line_of, needed, line_into}
 use Rattle.lines.specs.declared.Line.{Line}
 use borrow.Author.Tests.{le-leb, lt-leb}
 use Rattle.lines.proofs.DecimalLaws.{digits_one, digits_more, digits_few, digits_most}
 
+pub writes_length : {xs : List ℕ} {p q : Pen} → Writes xs p q → length q.buffer.now ≡ length p.buffer.now
+writes_length {xs} {p} w = ap length w.buffer_after ∙ length-sets p.buffer.now p.len xs
+
+pub writes_none : {p : Pen} → Writes [] p p
+writes_none = record { len_after = omega arith; buffer_after = refl; same_reference = refl }
+
+pub writes_both : {xs ys : List ℕ} {p q r : Pen} → Writes xs p q → Writes ys q r → Writes (xs ++ ys) p r
+writes_both {xs} {ys} {p} v w = record {
+  len_after = simp length-append (omega (arith, v.len_after, w.len_after));
+  buffer_after = rw (w.buffer_after, v.len_after, v.buffer_after) (sym (sets_append xs ys p.buffer.now p.len));
+  same_reference = w.same_reference ∙ v.same_reference;
+}
+
 -- a digit behind the others
-module _ (places n at : ℕ) (buffer : List ℕ) (z : places ≢ 0) where
-  pub one_digit : n < 10 → (at + 1 ≡ at + length (digits_of places n)) × (set buffer at (48 + n % 10) ≡ sets buffer at (digits_of places n))
-  one_digit h = rw (digits_one places n z h) (refl, refl)
+module _ (places n : ℕ) (z : places ≢ 0) where
+  pub one_digit : {p q : Pen} → n < 10 → Writes ((48 + n % 10) ∷ []) p q → Writes (digits_of places n) p q
+  one_digit h w = rw (digits_one places n z h) w
 
-  pub more_digits : 10 ≤ n → at + length (digits_of places n) ≡ at + length (digits_of (places - 1) (n / 10)) + 1
-  more_digits h = rw (digits_more places n z h) (simp length-append (omega arith))
+  pub last_digit : {p q r : Pen} → 10 ≤ n → Writes (digits_of (places - 1) (n / 10)) p q → Writes ((48 + n % 10) ∷ []) q r → Writes (digits_of places n) p r
+  last_digit h v w = rw (digits_more places n z h) (writes_both v w)
 
-  pub last_digit : {mid : List ℕ} {last : ℕ} → 10 ≤ n → last ≡ at + length (digits_of (places - 1) (n / 10)) → mid ≡ sets buffer at (digits_of (places - 1) (n / 10))
-      → (last + 1 ≡ at + length (digits_of places n)) × (set mid last (48 + n % 10) ≡ sets buffer at (digits_of places n))
-  last_digit h e m =
-      (rw (more_digits h, e), rw (digits_more places n z h, m, e) (sym (sets_append (digits_of (places - 1) (n / 10)) ((48 + n % 10) ∷ []) buffer at)))
+  pub one_length : n < 10 → length (digits_of places n) ≡ 1
+  one_length h = ap length (digits_one places n z h)
 
-pub spaced_next : (list : List ℕ) (i : ℕ) → i < length list → spaced_of (drop i list) ≡ (32 ∷ decimal_of (get_or list i 0)) ++ spaced_of (drop (i + 1) list)
+  pub more_length : 10 ≤ n → length (digits_of places n) ≡ length (digits_of (places - 1) (n / 10)) + 1
+  more_length h = ap length (digits_more places n z h) ∙ length-append (digits_of (places - 1) (n / 10)) ((48 + n % 10) ∷ [])
+
+pub spaced_none : {p : Pen} → Writes (spaced_of []) p p
 unfolding spaced_of gather
-spaced_next list i h = rw (add-one, drop-cons list i 0 h)
-
-pub spaced_end : (list : List ℕ) (i : ℕ) → length list ≤ i → spaced_of (drop i list) ≡ []
-unfolding spaced_of gather
-spaced_end list i h = rw (drop_of_length-le list h)
+spaced_none = writes_none
 
 -- an entry has at most five digits
 pub entry_digits : (e : ℕ) → e < 65536 → length (decimal_of e) ≤ 5
 entry_digits e h = digits_few 4 20 e (omega arith)
 
--- The loop that writes the entries, by what is left to write.
-pub record Spacing (list buffer₀ : List ℕ) (at : ℕ) (buffer : List ℕ) (next i : ℕ) : Type 0 where
-  pub within : i ≤ length list
-  pub long : length buffer ≡ length buffer₀
-  pub most : next ≤ at + 6 * i
-  pub count : next + length (spaced_of (drop i list)) ≡ at + length (spaced_of list)
-  pub left : sets buffer next (spaced_of (drop i list)) ≡ sets buffer₀ at (spaced_of list)
+-- The loop that writes the entries, of which it has written the first i.
+pub record Spacing (list : List ℕ) (before now : Pen) (i : ℕ) : Type 0 where
+  pub most : now.len ≤ before.len + 6 * i
+  pub written_so_far : Writes (spaced_of (take i list)) before now
 
-module _ {list buffer₀ : List ℕ} {at : ℕ} {buffer : List ℕ} {next i : ℕ} (f : Spacing list buffer₀ at buffer next i) where
-  pub spacing_next : {e behind : ℕ} {mid : List ℕ} → i < length list → e ≡ get_or list i 0 → e < 65536
-      → behind ≡ next + 1 + length (decimal_of e) → mid ≡ sets (set buffer next 32) (next + 1) (decimal_of e)
-      → Spacing list buffer₀ at mid behind (i + 1)
-  spacing_next {e} {behind} {mid} h x s b m =
-      let l : length mid ≡ length buffer = ap length m ∙ length-sets (set buffer next 32) (next + 1) (decimal_of e) ∙ simp length-set in
-      let q : spaced_of (drop i list) ≡ (32 ∷ decimal_of e) ++ spaced_of (drop (i + 1) list) = rw x (spaced_next list i h) in
-      record {
-        within = omega arith;
-        long = l ∙ f.long;
-        most = omega (arith, f.most, entry_digits e s);
-        count = omega (arith, f.count, simp length-append at (ap length q));
-        left =
-            rw (m, b, add-one) (sym (sets_append (decimal_of e) (spaced_of (drop (i + 1) list)) (set buffer next 32) (suc next)))
-            ∙ rw q at f.left;
-      }
+spaced_append : (xs ys : List ℕ) → spaced_of (xs ++ ys) ≡ spaced_of xs ++ spaced_of ys
+unfolding spaced_of gather
+spaced_append [] ys = refl
+spaced_append (x ∷ xs) ys = ap (λ l. (32 ∷ decimal_of x) ++ l) (spaced_append xs ys) ∙ sym (append_assoc (32 ∷ decimal_of x) (spaced_of xs) (spaced_of ys))
 
-  pub spacing_end : length list ≤ i → next ≡ at + length (spaced_of list)
-  spacing_end h = omega (arith, f.count, ap length (spaced_end list i h))
+spaced_one : (x : ℕ) → spaced_of (x ∷ []) ≡ 32 ∷ decimal_of x
+unfolding spaced_of gather
+spaced_one x = append-nil (32 ∷ decimal_of x)
 
-  pub spacing_all : length list ≤ i → buffer ≡ sets buffer₀ at (spaced_of list)
-  spacing_all h = rw (spaced_end list i h) at f.left
+spaced_more : (list : List ℕ) (i : ℕ) → i < length list → spaced_of (take (i + 1) list) ≡ spaced_of (take i list) ++ (32 ∷ decimal_of (get_or list i 0))
+spaced_more list i h =
+    ap spaced_of (take_more list i 0 h) ∙ spaced_append (take i list) (get_or list i 0 ∷ []) ∙ ap (λ l. spaced_of (take i list) ++ l) (spaced_one (get_or list i 0))
 
--- What has been written so far: xs, in the first places.
-pub record Wrote (buffer₀ xs buffer : List ℕ) (at : ℕ) : Type 0 where
-  pub count : at ≡ length xs
-  pub all : buffer ≡ sets buffer₀ 0 xs
+module _ {list : List ℕ} {before now : Pen} {i : ℕ} (f : Spacing list before now i) where
+  pub spacing_next : {e : ℕ} {q r : Pen} → i < length list → e ≡ get_or list i 0 → e < 65536 → Writes (32 ∷ []) now q → Writes (decimal_of e) q r
+      → Spacing list before r (i + 1)
+  spacing_next {e} h x s v w = record {
+    most = omega (arith, f.most, v.len_after, w.len_after, entry_digits e s);
+    written_so_far = rw (spaced_more list i h, ← x) (writes_both f.written_so_far (writes_both v w));
+  }
 
-pub wrote : (buffer₀ : List ℕ) {buffer : List ℕ} {at : ℕ} (xs : List ℕ) → at ≡ length xs → buffer ≡ sets buffer₀ 0 xs → Wrote buffer₀ xs buffer at
-wrote buffer₀ xs e m = record { count = e; all = m }
+  pub spacing_end : length list ≤ i → Writes (spaced_of list) before now
+  spacing_end h = rw (take_all i list h) at f.written_so_far
 
-pub wrote_more : {buffer₀ xs buffer buffer' : List ℕ} {at r : ℕ} (ys : List ℕ) → Wrote buffer₀ xs buffer at → r ≡ at + length ys → buffer' ≡ sets buffer at ys
-    → Wrote buffer₀ (xs ++ ys) buffer' r
-wrote_more {buffer₀} {xs} ys w e m = record {
-  count = rw (e, w.count) (sym (length-append xs ys));
-  all = rw (m, w.all, w.count) (sym (rw zero-add at (sets_append xs ys buffer₀ 0)));
-}
+-- the words, and the feed that ends them
+pub words_feed : (line : Line) (list : List ℕ) → line_of line list ≡ words_of line list ++ feed
+words_feed Decided list = refl
+words_feed Undone list = refl
+words_feed Clear list = refl
+words_feed Shape list = refl
+words_feed (Room k) list = refl
+words_feed (Refused k) list = refl
 
 -- The ways out of `write_line`.
 module _ (line : Line) (list buffer : List ℕ) where
-  abbrev Answers : Listed → List ℕ → Type 0
-  Answers r last = let o = line_into line list (length buffer) in (r ≡ listed_of o) × (last ≡ written o buffer)
+  abbrev Answers : Result ℕ Refusal → List ℕ → Type 0
+  Answers r last = let o = line_into line list (length buffer) in Lists o r × (last ≡ written o buffer)
 
-  pub unprinted : length buffer < needed list → Answers (case.Refused 6) buffer
+  pub unprinted : length buffer < needed list → Answers (Err ShortBuffer) buffer
   unprinted h = rw (lt-leb (needed list) (length buffer) h) (refl, refl)
 
-  pub printed : {r : ℕ} {last : List ℕ} → needed list ≤ length buffer → r ≡ length (line_of line list) → last ≡ sets buffer 0 (line_of line list) → Answers (case.List r) last
-  printed h e m = rw (le-leb (needed list) (length buffer) h) (ap case.List e, m)
+  pub printed : {r : ℕ} {last : List ℕ} → needed list ≤ length buffer → r ≡ length (line_of line list) → last ≡ sets buffer 0 (line_of line list) → Answers (Ok r) last
+  printed h e m = rw (le-leb (needed list) (length buffer) h) (rw e refl, m)
 
 -- every line that the program prints fits a buffer that is long enough
 pub entries_fit : (list : List ℕ) → ((e : ℕ) → In e list → e < 65536) → length (spaced_of list) ≤ 6 * length list
@@ -108,6 +117,9 @@ unfolding spaced_of gather
 entries_fit [] s = omega arith
 entries_fit (e ∷ list) s =
     simp length-append (omega (arith, entry_digits e (s e (inl refl)), entries_fit list (λ x m. s x (inr m))))
+
+pub spaced_short : (list : List ℕ) → ((i : ℕ) → Fits w16 (get_or list i 0)) → length (spaced_of list) ≤ 6 * length list
+spaced_short list fits = entries_fit list (λ e m. let o = in_get_d 0 e list m in omega (arith, fits o.0, o.2))
 
 -- a refusal's number has 8 bits
 abbrev pub Small : Line → Type 0
