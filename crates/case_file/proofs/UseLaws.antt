@@ -10,6 +10,7 @@ use Rattle.lists.proofs.Cases.{le_or_lt}
 use Rattle.case_file.specs.declared.Call.{Call}
 use Rattle.case_file.specs.declared.Layout.{Layout}
 use Rattle.std.specs.Prelude.{Some, Ok, Err}
+use Rattle.answers.specs.declared.Refusal.{Refusal}
 use Rattle.answers.specs.declared.Refusal.TheVariants.{UnsoundFile}
 use Rattle.case_file.specs.Sound.{Case, numbers_of, call_of, calls_of, call_list_of, decode_of}
 use Rattle.case_file.specs.Layout.{word_at, numbers_at, size_of, step_at, layout_of, file_of}
@@ -27,12 +28,12 @@ accepted bs l q = go (decode_of bs) refl
     go (some f) e = let z : Ok l ≡ Ok (layout_of f) = rw e at q in (f, e, cc)
 
 -- a refused file is not sound
-pub refused : (bs : List ℕ) → Err UnsoundFile ≡ file_of (decode_of bs) → decode_of bs ≡ none
-refused bs q = go (decode_of bs) refl
+pub refused : (bs : List ℕ) (r : Refusal) → Err r ≡ file_of (decode_of bs) → decode_of bs ≡ none
+refused bs r q = go (decode_of bs) refl
   where
     go : (o : Option Case) → decode_of bs ≡ o → decode_of bs ≡ none
     go none e = e
-    go (some f) e = let z : Err UnsoundFile ≡ Ok (layout_of f) = rw e at q in let y : ◌≡◌ {A = ℕ} 0 1 = cc in absurd (omega arith)
+    go (some f) e = let z : Err r ≡ Ok (layout_of f) = rw e at q in let y : ◌≡◌ {A = ℕ} 0 1 = cc in absurd (omega arith)
 
 numbers_known : (bs : List ℕ) (at : ℕ) (xs s : List ℕ) → numbers_of (drop at bs) ≡ some (xs, s)
     → (s ≡ drop (at + 2 + 2 * length xs) bs) × (numbers_at bs (at + 2) (length xs) ≡ xs)

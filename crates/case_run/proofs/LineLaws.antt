@@ -14,9 +14,10 @@ use Rattle.limits.specs.Limits.{most_entries, longest_line}
 use Rattle.lists.specs.Lists.{In, gather}
 use Rattle.lists.proofs.ListLaws.{in_get_d}
 use Rattle.hand_over.specs.Sorted.{sorted_once}
-use Rattle.answers.specs.declared.Listed.{Listed as Answer}
-use Rattle.answers.specs.declared.Listed.TheVariants as case
-use Rattle.answers.specs.Answers.{listed_of, written}
+use Rattle.std.specs.Prelude.{Ok, Err}
+use Rattle.answers.specs.declared.Refusal.{Refusal}
+use Rattle.answers.specs.Answers.{written}
+use Rattle.answers.specs.Refusals.{Lists}
 use Rattle.hand_over.specs.HandOver.{hand_over}
 use Rattle.hand_over.proofs.SortedLaws.{met, no_longer}
 use Rattle.hand_over.proofs.HandOverLaws.{given, refused}
@@ -74,13 +75,13 @@ pub record Listed (list : List ℕ) (n : ℕ) (buf : List ℕ) : Type 0 where
   pub is : take n buf ≡ sorted_once list
 
 module _ (list : List ℕ) (few : length list ≤ 9216) where
-  pub never_refused : (h : Answer) (k : ℕ) → h ≡ case.Refused k → h ≡ listed_of (hand_over list (length blank)) → ⊥
-  never_refused h k q e = let o = refused list (length blank) k (rw q at e) in omega (arith, o.0, blank_length)
+  pub never_refused : (r : Refusal) → Lists (hand_over list (length blank)) (Err r) → ⊥
+  never_refused r e = let o = refused list (length blank) r e in omega (arith, o.0, blank_length)
 
-  pub listed : (h : Answer) (n : ℕ) (buf : List ℕ) → h ≡ case.List n → h ≡ listed_of (hand_over list (length blank)) → buf ≡ written (hand_over list (length blank)) blank
+  pub listed : (n : ℕ) (buf : List ℕ) → Lists (hand_over list (length blank)) (Ok n) → buf ≡ written (hand_over list (length blank)) blank
       → Listed list n buf
-  listed h n buf k e m =
-      let o = given list (length blank) n (rw k at e) in
+  listed n buf e m =
+      let o = given list (length blank) n e in
       let s : buf ≡ sets blank 0 (sorted_once list) = rw (le-leb (length list) (length blank) o.0) at m in
       let t : take n buf ≡ sorted_once list = rw (s, o.1) (front blank (sorted_once list) (omega (arith, o.0, no_longer list))) in
       record { within = omega (arith, ap length s, length-sets blank 0 (sorted_once list), o.0, o.1, no_longer list); long = o.1 ∙ ap length (sym t); few = omega (arith, o.1, no_longer list); is = t }

@@ -10,8 +10,8 @@ use lib.ListN.{length, take, drop, length-replicate, length-drop, length-take, r
 use lib.Seq.{sets, length-sets}
 use Rattle.answers.specs.Answers.{written}
 use Rattle.case_file.specs.declared.Layout.{Layout}
-use Rattle.case_file.specs.declared.File.{File}
-use Rattle.case_file.specs.declared.File.TheVariants as file
+use Rattle.std.specs.Prelude.{Result, Ok, Err}
+use Rattle.answers.specs.declared.Refusal.{Refusal}
 use Rattle.case_file.specs.Sound.{Case, words_of, decode_of}
 use Rattle.case_file.specs.declared.Span.{Span}
 use Rattle.case_file.specs.Layout.{numbers_at, numbers_into, span_of, layout_of, file_of}
@@ -26,8 +26,8 @@ use Rattle.case_run.specs.CaseRun.{opened, opened_as, opened_of}
 pub not_sound : (m : Made) → m ≡ make_of 0 0 [] [] → ◌≡◌ {A = Opened} (opened 11 m.puzzle 0 0) (opened_of none)
 not_sound m e = ap (λ (x : Made). opened 11 x.puzzle 0 0) e
 
-pub refused_file : (bs : List ℕ) (h : File) (o : Opened) → h ≡ file.Unsound → h ≡ file_of (decode_of bs) → o ≡ opened_of none → o ≡ opened_of (decode_of bs)
-refused_file bs h o k q e = rw (refused bs (sym k ∙ q)) e
+pub refused_file : (bs : List ℕ) (r : Refusal) (o : Opened) → Err r ≡ file_of (decode_of bs) → o ≡ opened_of none → o ≡ opened_of (decode_of bs)
+refused_file bs r o q e = rw (refused bs r q) e
 
 -- the program's places for walls and for clues: as many as a file of 60,003 bytes can have
 unfoldable pub places : List ℕ
@@ -72,9 +72,9 @@ module _ (bs : List ℕ) (f : Case) (e : decode_of bs ≡ some f) where
     made_in : (m : Made) → m ≡ make_of l.height l.width f.walls f.clues → opened_as m l.calls.at l.calls.count ≡ opened_of (some f)
     made_in m = rw s (λ q. ap (λ (d : Made). opened_as d (layout_of f).calls.at (layout_of f).calls.count) q)
 
-module _ (bs : List ℕ) (h : File) (l : Layout) (k : h ≡ file.Sound l) (q : h ≡ file_of (decode_of bs)) where
+module _ (bs : List ℕ) (l : Layout) (q : Ok l ≡ file_of (decode_of bs)) where
   pub sound : (f : Case) × (decode_of bs ≡ some f) × (l ≡ layout_of f)
-  sound = accepted bs l (sym k ∙ q)
+  sound = accepted bs l q
 
   pub walls_read : (buf : List ℕ) → InPlaces bs l.walls buf → Read l.walls.count buf sound.0.walls
   walls_read = walls_in bs sound.0 sound.1 l sound.2

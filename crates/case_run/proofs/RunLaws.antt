@@ -11,7 +11,7 @@ use lib.Dec.{leb}
 use lib.ListN.{length, take, drop, set, length-append, drop_of_length-le, length-drop}
 use lib.Seq.{sets, length-sets, take-length}
 use Rattle.case_file.specs.declared.Call.{Call}
-use Rattle.case_file.specs.declared.Step.TheVariants as step
+use Rattle.std.specs.Prelude.{Some, None}
 use Rattle.case_file.specs.Sound.{call_of}
 use Rattle.case_file.specs.Layout.{size_of, step_at}
 use Rattle.case_file.proofs.ListLaws.{Whole, call_cases, step_unsound}
@@ -34,15 +34,16 @@ unfolding calls_in
 calls_some n r s c e = rw e
 
 -- what the cursor's step tells
-pub stepped : (bs : List ℕ) (at next : ℕ) (c : Call) → step.Call c next ≡ step_at at (call_of (drop at bs))
+pub stepped : (bs : List ℕ) (at next : ℕ) (c : Call) → Some (c, next) ≡ step_at at (call_of (drop at bs))
     → (next ≡ at + size_of c) × (call_of (drop at bs) ≡ some (c, drop next bs)) × (next ≤ length bs)
 stepped bs at next c q =
     ⊎_elim
-    (λ (e : call_of (drop at bs) ≡ none). let f : step.Call c next ≡ step.Unsound = simp e at q in let z : ◌≡◌ {A = ℕ} 0 1 = cc in absurd (omega arith))
+    (λ (e : call_of (drop at bs) ≡ none). let f : Some (c, next) ≡ None = simp e at q in let z : ◌≡◌ {A = ℕ} 0 1 = cc in absurd (omega arith))
     (λ (o : Whole bs at).
-    let f : step.Call c next ≡ step.Call o.0 (at + size_of o.0) = simp o.1 at q in
-    let d : c ≡ o.0 = cc in
-    let n : next ≡ at + size_of o.0 = cc in
+    let f : Some (c, next) ≡ Some (o.0, at + size_of o.0) = simp o.1 at q in
+    let g : ◌≡◌ {A = Call × ℕ} (c, next) (o.0, at + size_of o.0) = cc in
+    let d : c ≡ o.0 = ap (λ (x : Call × ℕ). x.0) g in
+    let n : next ≡ at + size_of o.0 = ap (λ (x : Call × ℕ). x.1) g in
     rw (d, n) (refl, o.1, o.2))
     (call_cases bs at)
 
@@ -53,6 +54,11 @@ ran_from p at done len cs = record { code = 0; puzzle = run_of p cs; at = at + b
 ran_same : {k : ℕ} (p : Puzzle) {a b c d e f : ℕ} → a ≡ b → c ≡ d → e ≡ f
     → ◌≡◌ {A = Ran} (record { code = k; puzzle = p; at = a; done = c; len = e }) (record { code = k; puzzle = p; at = b; done = d; len = f })
 ran_same p x y z = rw (x, y, z)
+
+-- all calls are done
+pub all_done : {p : Puzzle} {at done count len : ℕ} {r : Ran} → done ≡ count → ◌≡◌ {A = Ran} (record { code = 0; puzzle = p; at = at; done = done; len = len }) r
+    → ◌≡◌ {A = Ran} (record { code = 0; puzzle = p; at = at; done = count; len = len }) r
+all_done e q = rw (sym e) q
 
 module _ (p : Puzzle) (c : Call) (cs : List Call) where
   abbrev next : Puzzle
@@ -153,10 +159,10 @@ module _ {p : Puzzle} {bs : List ℕ} {at count : ℕ} {out₀ : List ℕ} {puzz
   unfolding calls_in
   counted h = let z : count - done ≡ 0 = omega arith in ended (ap (λ n. calls_in n (drop next bs)) z)
 
-  pub stopped : step.Unsound ≡ step_at next (call_of (drop next bs)) → Ended
+  pub stopped : None ≡ step_at next (call_of (drop next bs)) → Ended
   stopped q = ended (calls_none (count - done) (drop next bs) (step_unsound bs next q))
 
-  pub running_next : (c : Call) (behind : ℕ) (t : Turn) {out' : List ℕ} → done < count → step.Call c behind ≡ step_at next (call_of (drop next bs)) → Turned t puzzle c
+  pub running_next : (c : Call) (behind : ℕ) (t : Turn) {out' : List ℕ} → done < count → Some (c, behind) ≡ step_at next (call_of (drop next bs)) → Turned t puzzle c
       → out' ≡ sets out len (line_by puzzle c) → Running p bs at count out₀ t.puzzle behind (done + 1) (len + t.len) out'
   running_next c behind t {out'} h q k e =
       let s = stepped bs next behind c q in

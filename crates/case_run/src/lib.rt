@@ -11,8 +11,7 @@ ghost use Rattle.case_file.specs.declared.Call.TheVariants.{Undo, Decide, Ask};
 ghost use Rattle.lines.specs.Line.{line_of};
 ghost use Rattle.case_run.specs.CaseRun.{opened_of, check_line, code_line, line_by, printed_by, code_in, done_in, ran_of, Counts, Turned};
 
-use answers::Listed;
-use case_file::{Call, File, Step};
+use case_file::Call;
 use lines::Line;
 use puzzle::{Answer, Check, Puzzle};
 
@@ -49,13 +48,10 @@ pub struct Ran {
 fn unsound() -> Opened
     ensures { result ≡ opened_of none }
 {
-    let walls = [0u16; 1];
-    let clues = [0u16; 1];
-    let made = puzzle::make(0, 0, &walls[..0], &clues[..0]);
-    let p = made.puzzle;
+    let made = puzzle::make(0, 0, &[], &[]);
     Opened {
         code: 11,
-        puzzle: p,
+        puzzle: made.puzzle,
         at: 0,
         count: 0,
     }
@@ -65,13 +61,13 @@ fn unsound() -> Opened
 pub fn open(file: &[u8]) -> Opened
     ensures { result ≡ opened_of (decode_of file.now) }
 {
-    let File::Sound(layout) = case_file::decode(file) else {
+    let Ok(layout) = case_file::decode(file) else {
         return unsound();
     };
     let mut walls = [0u16; 30000];
-    case_file::numbers(file, layout.walls, &mut walls);
+    let _ = case_file::numbers(file, layout.walls, &mut walls);
     let mut clues = [0u16; 30000];
-    case_file::numbers(file, layout.clues, &mut clues);
+    let _ = case_file::numbers(file, layout.clues, &mut clues);
     let wall_count = layout.walls.count;
     let clue_count = layout.clues.count;
     let made = puzzle::make(
@@ -80,18 +76,17 @@ pub fn open(file: &[u8]) -> Opened
         &walls[..wall_count],
         &clues[..clue_count],
     );
-    let p = made.puzzle;
     if made.code != 0 {
         return Opened {
             code: made.code,
-            puzzle: p,
+            puzzle: made.puzzle,
             at: 0,
             count: 0,
         };
     }
     Opened {
         code: 0,
-        puzzle: p,
+        puzzle: made.puzzle,
         at: layout.calls.at,
         count: layout.calls.count,
     }
@@ -103,8 +98,7 @@ fn bare_line(line: Line, out: &mut [u8]) -> usize
     ensures counts { Counts result (line_of line []) }
     ensures out_after { out.new ≡ sets out.old 0 (line_of line []) }
 {
-    let none = [0u16; 1];
-    lines::put_line(line, &none[..0], out)
+    lines::put_line(line, &[], out)
 }
 
 // The line of a decide or an undo, by its number.
@@ -136,7 +130,7 @@ fn fault_line(check: Check, list: &[u16], out: &mut [u8]) -> usize
     ensures out_after { out.new ≡ sets out.old 0 (line_of (check_line check) (sorted_once list.now)) }
 {
     let mut entries = [0u16; limits::ENTRIES];
-    let Listed::List(n) = hand_over::hand_over(list, &mut entries) else {
+    let Ok(n) = hand_over::hand_over(list, &mut entries) else {
         return 0;
     };
     let line = check_line(check);
@@ -165,8 +159,10 @@ fn undo_call(p: Puzzle, out: &mut [u8]) -> Turn
 {
     let made = puzzle::undo(p);
     let len = code_line(Line::Undone, made.code, out);
-    let left = made.puzzle;
-    Turn { puzzle: left, len }
+    Turn {
+        puzzle: made.puzzle,
+        len,
+    }
 }
 
 // A decide, and its line.
@@ -177,8 +173,10 @@ fn decide_call(p: Puzzle, border: usize, wall: bool, out: &mut [u8]) -> Turn
 {
     let made = puzzle::decide(p, border, wall);
     let len = code_line(Line::Decided, made.code, out);
-    let left = made.puzzle;
-    Turn { puzzle: left, len }
+    Turn {
+        puzzle: made.puzzle,
+        len,
+    }
 }
 
 // One call on a puzzle, and its line.
@@ -204,34 +202,38 @@ pub fn run_calls(file: &[u8], at: usize, count: usize, p: Puzzle, out: &mut [u8]
     ensures out_after { out.new ≡ sets out.old 0 (printed_by p (done_in count (drop at file.now) (length out.old))) }
     ensures len_in_bounds { result.len ≤ length out.old }
 {
-    let mut puzzle = p;
-    let mut next = at;
-    let mut done = 0;
-    let mut len = 0;
     if out.len() / limits::LINE < count {
         return Ran {
             code: 6,
             puzzle: p,
-            at: at,
+            at,
             done: 0,
             len: 0,
         };
     }
-    while done < count {
-        let Step::Call(call, behind) = case_file::call_at(file, next) else {
-            break;
+    let mut puzzle = p;
+    let mut next = at;
+    let mut len = 0;
+    for done in 0..count {
+        let Some((call, behind)) = case_file::call_at(file, next) else {
+            return Ran {
+                code: 0,
+                puzzle,
+                at: next,
+                done,
+                len,
+            };
         };
         let turn = do_call(puzzle, call, &mut out[len..]);
         puzzle = turn.puzzle;
         next = behind;
-        done += 1;
         len += turn.len;
     }
     Ran {
         code: 0,
-        puzzle: puzzle,
+        puzzle,
         at: next,
-        done: done,
-        len: len,
+        done: count,
+        len,
     }
 }

@@ -6,28 +6,28 @@ use Rattle.case_run.proofs.fault_line.Goals as goal
 
 pub returns-in_default : goal.returns-in_default
 unfolding blank
-returns-in_default c = absurd (never_refused c.args.list.now c.requires.0 c.hand_over.result c.in_default.field-0 c.in_default.is c.hand_over.ensures.value)
+returns-in_default c = absurd (never_refused c.args.list.now c.requires.0 c.in_default.field-0 c.in_default.ensures.value)
 
 pub slice_bounds-entries-end : goal.slice_bounds-entries-end
 unfolding blank
 slice_bounds-entries-end c =
-    let handed : Listed c.args.list.now c.in-List.n c.hand_over.new.buffer = listed c.args.list.now c.requires.0 c.hand_over.result c.in-List.n c.hand_over.new.buffer c.in-List.is c.hand_over.ensures.value c.hand_over.ensures.buffer_after in
+    let handed : Listed c.args.list.now c.in-Ok.n c.hand_over.new.buffer = listed c.args.list.now c.requires.0 c.in-Ok.n c.hand_over.new.buffer c.in-Ok.ensures.value c.hand_over.ensures.buffer_after in
     handed.within
 
 pub slice_bounds-put_line-end : goal.slice_bounds-put_line-end
 unfolding blank
 slice_bounds-put_line-end c =
-    let handed : Listed c.args.list.now c.in-List.n c.hand_over.new.buffer = listed c.args.list.now c.requires.0 c.hand_over.result c.in-List.n c.hand_over.new.buffer c.in-List.is c.hand_over.ensures.value c.hand_over.ensures.buffer_after in
+    let handed : Listed c.args.list.now c.in-Ok.n c.hand_over.new.buffer = listed c.args.list.now c.requires.0 c.in-Ok.n c.hand_over.new.buffer c.in-Ok.ensures.value c.hand_over.ensures.buffer_after in
     handed.long
 
 pub put_line-requires : goal.put_line-requires
 unfolding blank
 put_line-requires c =
-    let handed : Listed c.args.list.now c.in-List.n c.hand_over.new.buffer = listed c.args.list.now c.requires.0 c.hand_over.result c.in-List.n c.hand_over.new.buffer c.in-List.is c.hand_over.ensures.value c.hand_over.ensures.buffer_after in
+    let handed : Listed c.args.list.now c.in-Ok.n c.hand_over.new.buffer = listed c.args.list.now c.requires.0 c.in-Ok.n c.hand_over.new.buffer c.in-Ok.ensures.value c.hand_over.ensures.buffer_after in
     omega (arith, handed.few, handed.long, c.requires.1)
 
 pub returns : goal.returns
 unfolding blank
 returns c =
-    let handed : Listed c.args.list.now c.in-List.n c.hand_over.new.buffer = listed c.args.list.now c.requires.0 c.hand_over.result c.in-List.n c.hand_over.new.buffer c.in-List.is c.hand_over.ensures.value c.hand_over.ensures.buffer_after in
+    let handed : Listed c.args.list.now c.in-Ok.n c.hand_over.new.buffer = listed c.args.list.now c.requires.0 c.in-Ok.n c.hand_over.new.buffer c.in-Ok.ensures.value c.hand_over.ensures.buffer_after in
     let f = c.args.list.now in let w = fault_written f c.shared_slice_known-1.given c.requires.0 c.args.check c.check_line-line.result _ c.args.out.now c.check_line-line.ensures handed.is (c.put_line.ensures.value, c.put_line.ensures.buffer_after) in record { counts = w.0; out_after = w.1 }

@@ -2,7 +2,7 @@
 use mathlib.Core.Path.{sym, ◌∙◌}
 use native.Mathlib.Omega.{arith}
 use Rattle.case_run.specs.CaseRun.{line_by}
-use Rattle.case_run.proofs.RunLaws.{running, no_room, part_room, part_long, part_back, counted, stopped, running_next}
+use Rattle.case_run.proofs.RunLaws.{running, no_room, part_room, part_long, part_back, all_done, counted, stopped, running_next}
 use Rattle.case_run.proofs.run_calls.Goals as goal
 
 pub returns-then-out-count : goal.returns-then-out-count
@@ -24,22 +24,13 @@ pub overflow_add-len : goal.overflow_add-len
 overflow_add-len c =
     omega (arith, part_room c.loop-done.invariant c.loop-done-test.true, c.loop-done.invariant.long, c.do_call-turn.ensures.turned.fits, c.well_formed.1.1.1.1.0)
 
-pub loop-done-smaller : goal.loop-done-smaller
-loop-done-smaller c = omega (arith, c.loop-done-test.true)
-
 pub loop-done-preserved : goal.loop-done-preserved
 loop-done-preserved c =
     let r = c.loop-done.invariant in
-    running_next r _ _ c.do_call-turn.result c.loop-done-test.true (sym c.in-Call.is ∙ c.call_at.ensures) c.do_call-turn.ensures.turned (part_back r (line_by c.loop-done.puzzle c.in-Call.call) _ c.loop-done-test.true c.do_call-turn.ensures.out_after)
-
-pub shape_of-out-after-loop-done : goal.shape_of-out-after-loop-done
-shape_of-out-after-loop-done c = c.loop-done.invariant.long
-
-pub returns-after-loop-done : goal.returns-after-loop-done
-returns-after-loop-done c = let w = counted c.loop-done.invariant c.loop-done-test.false in record { value = w.0; out_after = w.1.0; len_in_bounds = w.1.1 }
-
-pub shape_of-out-in_default : goal.shape_of-out-in_default
-shape_of-out-in_default c = c.loop-done.invariant.long
+    running_next r _ _ c.do_call-turn.result c.loop-done-test.true c.in-Some.ensures c.do_call-turn.ensures.turned (part_back r (line_by c.loop-done.puzzle c.in-Some.call) _ c.loop-done-test.true c.do_call-turn.ensures.out_after)
 
 pub returns-in_default : goal.returns-in_default
 returns-in_default c = let w = stopped c.loop-done.invariant (sym c.in_default.is ∙ c.call_at.ensures) in record { value = w.0; out_after = w.1.0; len_in_bounds = w.1.1 }
+
+pub returns : goal.returns
+returns c = let w = counted c.loop-done.invariant (omega arith) in record { value = all_done (omega (arith, c.loop-done.invariant.within)) w.0; out_after = w.1.0; len_in_bounds = w.1.1 }

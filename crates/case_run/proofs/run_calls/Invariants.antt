@@ -5,6 +5,3 @@ use Rattle.case_run.proofs.run_calls.Given as goal
 
 abbrev pub invariant-loop-done : goal.invariant-loop-done
 invariant-loop-done l = Running l.initial.puzzle l.file l.at l.count l.initial.out l.puzzle l.next l.done l.len l.out
-
-abbrev pub decreases-loop-done : goal.decreases-loop-done
-decreases-loop-done l = l.count - l.done
