@@ -10,7 +10,7 @@ use lib.ListN.{length, take, drop, length-replicate, length-drop, length-take, r
 use lib.Seq.{sets, length-sets}
 use Rattle.answers.specs.Answers.{written}
 use Rattle.case_file.specs.declared.Layout.{Layout}
-use Rattle.std.specs.Prelude.{Result, Ok, Err}
+use Rattle.std.specs.Prelude.{Ok, Err}
 use Rattle.answers.specs.declared.Refusal.{Refusal}
 use Rattle.case_file.specs.Sound.{Case, words_of, decode_of}
 use Rattle.case_file.specs.declared.Span.{Span}

@@ -11,9 +11,11 @@ use lib.ListN.{length}
 use lib.Seq.{sets}
 use Rattle.lists.specs.Lists.{gather}
 use Rattle.lists.proofs.SetsLaws.{sets_append}
-use Rattle.answers.specs.declared.Listed.{Listed}
-use Rattle.answers.specs.declared.Listed.TheVariants as answer
-use Rattle.answers.specs.Answers.{Outcome, refused, listed, listed_of, written}
+use Rattle.answers.specs.Answers.{Outcome, refused, listed, written}
+use Rattle.answers.specs.Refusals.{Lists}
+use Rattle.std.specs.Prelude.{Result, Ok, Err}
+use Rattle.answers.specs.declared.Refusal.{Refusal}
+use Rattle.answers.specs.declared.Refusal.TheVariants.{Size, ZeroSeed, ShortBuffer}
 use Rattle.grid.specs.declared.Grid.{Grid}
 use Rattle.grid.specs.Grid.{grid, sizes_ok, border_count}
 use Rattle.case_file.specs.Sound.{Case}
@@ -69,31 +71,31 @@ module _ (seed h w n : ℕ) (buffer : List ℕ) where
   abbrev outcome : Outcome
   outcome = generated seed h w n (length buffer)
 
-  abbrev Told : Listed → List ℕ → Type 0
-  Told r buffer' = (r ≡ listed_of outcome) × (buffer' ≡ written outcome buffer)
+  abbrev Told : Result ℕ Refusal → List ℕ → Type 0
+  Told r buffer' = Lists outcome r × (buffer' ≡ written outcome buffer)
 
-  told : (o : Outcome) → outcome ≡ o → Told (listed_of o) (written o buffer)
-  told o e = rw e (refl, refl)
+  told : (o : Outcome) (r : Result ℕ Refusal) → Lists o r → outcome ≡ o → Told r (written o buffer)
+  told o r q e = rw e (q, refl)
 
-  pub sizes_told : sizes_ok (grid h w) ≡ false → Told (answer.Refused 1) buffer
-  sizes_told e = told (refused 1) (rw e refl)
+  pub sizes_told : sizes_ok (grid h w) ≡ false → Told (Err Size) buffer
+  sizes_told e = told (refused 1) (Err Size) refl (rw e refl)
 
   module _ (ok : sizes_ok (grid h w) ≡ true) where
-    pub seed_told : seed ≡ 0 → Told (answer.Refused 13) buffer
-    seed_told e = told (refused 13) (rw (ok, eq-eqb seed 0 e) refl)
+    pub seed_told : seed ≡ 0 → Told (Err ZeroSeed) buffer
+    seed_told e = told (refused 13) (Err ZeroSeed) refl (rw (ok, eq-eqb seed 0 e) refl)
 
     module _ (z : seed ≢ 0) where
       abbrev drawn_case : Case
       drawn_case = case_of seed (grid h w) n
 
-      by_length : fits drawn_case (length buffer) ≡ false → Told (answer.Refused 6) buffer
-      by_length e = told (refused 6) (rw (ok, ne_eqb seed 0 z, e) refl)
+      by_length : fits drawn_case (length buffer) ≡ false → Told (Err ShortBuffer) buffer
+      by_length e = told (refused 6) (Err ShortBuffer) refl (rw (ok, ne_eqb seed 0 z, e) refl)
 
-      too_long : 60000 < length (rest drawn_case) → Told (answer.Refused 6) buffer
+      too_long : 60000 < length (rest drawn_case) → Told (Err ShortBuffer) buffer
       too_long l = by_length (rw (lt-leb (length (rest drawn_case)) 60000 l) refl)
 
       -- more calls than a file has bytes for them
-      pub count_told : 59990 < n → Told (answer.Refused 6) buffer
+      pub count_told : 59990 < n → Told (Err ShortBuffer) buffer
       count_told l = too_long (omega (arith, rest_long seed (grid h w) n, length_least (border_count (grid h w)) n seed))
 
       -- the calls' bytes, as they were counted
@@ -101,19 +103,21 @@ module _ (seed h w n : ℕ) (buffer : List ℕ) where
         counted_so : bytes ≡ calls_length (border_count (grid h w)) n seed
         counted_so = f ∙ ap (λ (b : ℕ). calls_length b n seed) e
 
-        pub length_told : 59990 < bytes → Told (answer.Refused 6) buffer
+        pub length_told : 59990 < bytes → Told (Err ShortBuffer) buffer
         length_told l = too_long (omega (arith, rest_long seed (grid h w) n, counted_so))
 
         short : bytes ≤ 59990 → leb (length (rest drawn_case)) 60000 ≡ true
         short m = le-leb (length (rest drawn_case)) 60000 (omega (arith, rest_long seed (grid h w) n, counted_so))
 
-        pub places_told : bytes ≤ 59990 → length buffer < 13 + bytes → Told (answer.Refused 6) buffer
+        pub places_told : bytes ≤ 59990 → length buffer < 13 + bytes → Told (Err ShortBuffer) buffer
         places_told m l =
             by_length (rw (short m, lt-leb (length (encode drawn_case)) (length buffer) (omega (arith, file_long seed (grid h w) n, counted_so))) refl)
 
         -- the file, its head written first
         pub file_told : (buffer' : List ℕ) → bytes ≤ 59990 → 13 + bytes ≤ length buffer
-            → buffer' ≡ sets (sets buffer 0 (head (grid h w) n bytes)) 13 (gather call (calls_from borders n seed)) → Told (answer.List (13 + bytes)) buffer'
+            → buffer' ≡ sets (sets buffer 0 (head (grid h w) n bytes)) 13 (gather call (calls_from borders n seed)) → Told (Ok (13 + bytes)) buffer'
         file_told buffer' m l q =
-            let t = told (listed (encode drawn_case)) (file_accepted seed h w n (length buffer) ok z (omega (arith, counted_so)) (omega (arith, counted_so))) in
-            (ap answer.List (omega (arith, file_long seed (grid h w) n, counted_so)) ∙ t.0, q ∙ rw (counted_so, e) (file_stored seed (grid h w) n buffer) ∙ t.1)
+            let long : 13 + bytes ≡ length (encode drawn_case) = omega (arith, file_long seed (grid h w) n, counted_so) in
+            let k : Lists (listed (encode drawn_case)) (Ok (13 + bytes)) = rw long refl in
+            let t = told (listed (encode drawn_case)) (Ok (13 + bytes)) k (file_accepted seed h w n (length buffer) ok z (omega (arith, counted_so)) (omega (arith, counted_so))) in
+            (t.0, q ∙ rw (counted_so, e) (file_stored seed (grid h w) n buffer) ∙ t.1)

@@ -1,22 +1,16 @@
 -- The loops over the calls that are left: one law a turn. Assumes nothing.
-use Prim.Native.Nat.{ℕ, suc, ◌+◌, ◌-◌, ◌*◌, ◌/◌, ◌%◌, ◌≤◌, ◌<◌}
+use Prim.Native.Nat.{ℕ, suc, ◌+◌, ◌-◌, ◌*◌, ◌≤◌, ◌<◌}
 use mathlib.Core.Path.{◌≡◌, refl, sym, ap, ◌∙◌}
-use mathlib.Core.Bool.{Bool}
 use mathlib.Core.List.{List, [], ◌++◌}
 use native.Mathlib.Omega.{arith}
-use native.Mathlib.Numerals.{add-one}
-use lib.ListN.{length, set}
+use lib.ListN.{length}
 use lib.Seq.{sets, length-sets}
-use Rattle.lists.specs.Choice.{pick}
 use Rattle.lists.specs.Lists.{gather}
 use Rattle.lists.proofs.SetsLaws.{sets_append}
-use Rattle.case_file.specs.declared.Call.{Call}
-use Rattle.case_file.specs.declared.Call.TheVariants.{Undo, Decide, Ask}
 use Rattle.case_file.specs.Encode.{call}
-use Rattle.generator.specs.declared.Drawn.{Drawn}
-use Rattle.generator.specs.Generator.{draw_from, calls_from, BorderBelow}
+use Rattle.generator.specs.Generator.{Drawn, draw_from, calls_from, BorderBelow}
 use Rattle.generator.specs.Writing.{calls_length}
-use Rattle.generator.proofs.DrawLaws.{draw_exists, below_more, call_least, length_next, length_none, length_most}
+use Rattle.generator.proofs.DrawLaws.{draw_exists, below_more, length_next, length_none, length_most}
 
 calls_next : (borders n state : ℕ) → gather call (calls_from borders (suc n) state) ≡ call (draw_from borders state).call ++ gather call (calls_from borders n (draw_from borders state).state)
 unfolding calls_from gather
@@ -90,25 +84,3 @@ module _ {borders count seed : ℕ} {file₀ file : List ℕ} {state left at : �
       let z : left ≡ 0 = omega arith in
       let q : sets file at (gather call (calls_from borders 0 state)) ≡ sets file₀ 13 (gather call (calls_from borders count seed)) = rw z at f.rest in
       sym (ap (sets file at) (calls_none borders state)) ∙ q
-
--- A CALL's bytes, stored one by one; the byte behind them
-abbrev Stored : Call → List ℕ → ℕ → ℕ → List ℕ → Type 0
-Stored c file at behind file' = (behind ≡ at + length (call c)) × (file' ≡ sets file at (call c))
-
-module _ (c : Call) (file : List ℕ) (at : ℕ) where
-  pub undo_stored : c ≡ Undo → Stored c file at (at + 1) (set file at 0)
-  undo_stored e = rw e (refl, refl)
-
-  pub ask_stored : c ≡ Ask → Stored c file at (at + 1) (set file at 3)
-  ask_stored e = rw e (refl, refl)
-
-  pub decide_stored : (b : ℕ) (wall : Bool) (kind : ℕ) → c ≡ Decide b wall → kind ≡ pick wall 2 1
-      → Stored c file at (at + 3) (set (set (set file at kind) (at + 1) (b / 256)) (at + 2) (b % 256))
-  decide_stored b wall kind e k = let q : at + 2 ≡ suc (suc at) = omega arith in rw (e, k, add-one at, q) (refl, refl)
-
-  -- its places
-  pub decide_room : (b : ℕ) (wall : Bool) → c ≡ Decide b wall → BorderBelow 65536 c × (at + length (call c) ≤ length file) → (b < 65536) × (at + 3 ≤ length file)
-  decide_room b wall e h = rw e at h
-
-  pub first_room : at + length (call c) ≤ length file → at < length file
-  first_room h = omega (arith, call_least c)

@@ -10,7 +10,6 @@ use Rattle.case_file.specs.declared.Call.{Call}
 use Rattle.case_file.specs.declared.Call.TheVariants.{Undo, Decide, Ask}
 use Rattle.case_file.specs.Sound.{Case}
 use Rattle.case_file.specs.Encode.{rest, encode}
-use Rattle.generator.specs.declared.Drawn.{Drawn}
 
 -- THE STATE, of 32 bits (SPEC 11.1)
 -- s xor (s shifted left k), bits beyond 32 dropped
@@ -26,6 +25,10 @@ unfoldable pub next_state : ℕ → ℕ
 next_state s = xor_left 5 (xor_right 17 (xor_left 13 s))
 
 -- THE CALLS: one that is drawn, and the state after it
+pub record Drawn : Type 0 where
+  pub call : Call
+  pub state : ℕ
+
 abbrev pub drawn : Call → ℕ → Drawn
 drawn c s = record { call = c; state = s }
 

@@ -1,5 +1,4 @@
 -- `case_run::run_calls` meets its contract: the invariant `Running` says what is left of the run; one law a call. Assumes nothing.
-use Prim.Native.Nat.{◌-◌}
 use Rattle.case_run.proofs.RunLaws.{Running}
 use Rattle.case_run.proofs.run_calls.Given as goal
 
