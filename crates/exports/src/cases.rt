@@ -1,7 +1,8 @@
 // A case file from a seed; a case file's puzzle, and its calls on that puzzle. The bytes of the file are lent.
 ghost use Rattle.std.specs.Prelude.{◌≡◌, ◌≤◌, length, drop};
 ghost use Rattle.std.proofs.lemmas.List.Edits.{sets};
-ghost use Rattle.answers.specs.Answers.{listed_of, plain_listed, written};
+ghost use Rattle.answers.specs.Answers.{written};
+ghost use Rattle.answers.specs.Refusals.{listed_plain};
 ghost use Rattle.case_file.specs.Sound.{decode_of};
 ghost use Rattle.case_run.specs.CaseRun.{opened_of, printed_by, code_in, done_in, ran_of};
 ghost use Rattle.generator.specs.Generator.{generated};
@@ -18,10 +19,10 @@ pub extern "C" fn sendai_case_generate(
     count: usize,
     buffer: &mut [u8],
 ) -> Plain
-    ensures value { result ≡ plain_listed (listed_of (generated seed height width count (length buffer.old))) }
+    ensures value { result ≡ listed_plain (generated seed height width count (length buffer.old)) }
     ensures buffer_after { buffer.new ≡ written (generated seed height width count (length buffer.old)) buffer.old }
 {
-    answers::of_listed(generator::generate(seed, height, width, count, buffer))
+    Plain::from(generator::generate(seed, height, width, count, buffer))
 }
 
 #[unsafe(no_mangle)]

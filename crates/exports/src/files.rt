@@ -1,12 +1,12 @@
 // The case file's readers, with a layout and a call as numbers. A list of the file is named by its first byte and its count.
 ghost use Rattle.std.specs.Prelude.{◌≡◌, length, drop, get_or};
-ghost use Rattle.answers.specs.Answers.{listed_of, written, plain_listed};
+ghost use Rattle.answers.specs.Answers.{written};
+ghost use Rattle.answers.specs.Refusals.{listed_plain};
 ghost use Rattle.case_file.specs.Sound.{decode_of, call_of};
 ghost use Rattle.case_file.specs.Layout.{file_of, numbers_at, numbers_into, span_of, step_at};
 ghost use Rattle.as_numbers.specs.Files.{parts_of, step_fields};
 
 use answers::Plain;
-use as_numbers::files;
 use as_numbers::files::{CallFields, Parts};
 use case_file::Span;
 
@@ -14,14 +14,14 @@ use case_file::Span;
 pub extern "C" fn sendai_file_decode(file: &[u8]) -> Parts
     ensures { result ≡ parts_of (file_of (decode_of file.now)) }
 {
-    files::parts_of(case_file::decode(file))
+    Parts::from(case_file::decode(file))
 }
 
 #[unsafe(no_mangle)]
 pub extern "C" fn sendai_file_call(file: &[u8], at: usize) -> CallFields
     ensures { result ≡ step_fields (step_at at (call_of (drop at file.now))) }
 {
-    files::step_fields(case_file::call_at(file, at))
+    CallFields::from(case_file::call_at(file, at))
 }
 
 // The k-th number of a list, counted from 0; 0 where there is none.
@@ -40,8 +40,8 @@ pub extern "C" fn sendai_file_numbers(
     count: usize,
     buffer: &mut [u16],
 ) -> Plain
-    ensures value { result ≡ plain_listed (listed_of (numbers_into file.now (span_of at count) (length buffer.old))) }
+    ensures value { result ≡ listed_plain (numbers_into file.now (span_of at count) (length buffer.old)) }
     ensures buffer_after { buffer.new ≡ written (numbers_into file.now (span_of at count) (length buffer.old)) buffer.old }
 {
-    answers::of_listed(case_file::numbers(file, Span { at, count }, buffer))
+    Plain::from(case_file::numbers(file, Span { at, count }, buffer))
 }
