@@ -38,6 +38,11 @@ use Rattle.enumerate.specs.Search.{Written, written, Searching, searched, no_ent
 use Rattle.enumerate.proofs.Extensions.{in_extensions, over_long}
 use Rattle.enumerate.proofs.Writing.{all_from}
 use Rattle.enumerate.proofs.Codes.{enough_places}
+use Rattle.answers.specs.declared.Refusal.{Refusal}
+use Rattle.answers.specs.declared.Refusal.TheVariants.{Size, Record, Missing, Decided, NothingToUndo, ShortBuffer, Unsorted, ClueCount, LargeClue, NotJoined, UnsoundFile, ManyUndecided, ZeroSeed, Repeated}
+use Rattle.answers.specs.Refusals.{number_of}
+use Rattle.borders.specs.declared.Borders.{Borders}
+use Rattle.borders.specs.Fits.{Fits}
 
 -- THE SEARCH
 entries_long : length no_entries ≡ most_entries
@@ -95,9 +100,9 @@ module _ (p : Puzzle) (r : Ready p) where
       wall true q k = eqb-true (get_or (book_of p).states e 0) 2 k
       wall false q k = absurd (true≢false (sym q))
 
-  module _ (states_long : length (book_of p).states ≡ most_borders) {n : ℕ} (m : n ≡ borders_of p) where
+  module _ (states_long : borders_of p ≤ length (book_of p).states) {n : ℕ} (m : n ≡ borders_of p) where
     pub cut_fits : n ≤ length (book_of p).states
-    cut_fits = omega (arith, border_count_le (grid_of p) r.limits)
+    cut_fits = omega arith
 
     pub cut_long : n ≡ length (take n (book_of p).states)
     cut_long = sym (length-take-le n (book_of p).states cut_fits)
@@ -116,6 +121,27 @@ module _ (p : Puzzle) (r : Ready p) where
           long = rw (each_border p) at long;
         })
 
+-- what a puzzle's borders tell of its states
+pub told_long : (p : Puzzle) (b : Borders) → b.grid ≡ grid_of p → b.states.now ≡ (book_of p).states → borders_of p ≤ length (book_of p).states
+told_long p b q k = let f : Fits (grid_of p) (book_of p).states = rw (← q, ← k) b.fits in f.borders
+
+-- no refusal has the number 0
+pub refusal_ne0 : (e : Refusal) → number_of e ≢ 0
+refusal_ne0 Size = λ q. omega arith
+refusal_ne0 Record = λ q. omega arith
+refusal_ne0 Missing = λ q. omega arith
+refusal_ne0 Decided = λ q. omega arith
+refusal_ne0 NothingToUndo = λ q. omega arith
+refusal_ne0 ShortBuffer = λ q. omega arith
+refusal_ne0 Unsorted = λ q. omega arith
+refusal_ne0 ClueCount = λ q. omega arith
+refusal_ne0 LargeClue = λ q. omega arith
+refusal_ne0 NotJoined = λ q. omega arith
+refusal_ne0 UnsoundFile = λ q. omega arith
+refusal_ne0 ManyUndecided = λ q. omega arith
+refusal_ne0 ZeroSeed = λ q. omega arith
+refusal_ne0 Repeated = λ q. omega arith
+
 -- THE CALL
 refused_by : (code n : ℕ) (boards : List (List ℕ)) (cap : ℕ) (buf : List ℕ) → code ≡ n → n ≢ 0 → (Refused n ≡ (answered code boards cap buf).answer) × (buf ≡ (answered code boards cap buf).buffer)
 refused_by code n boards cap buf q z = rw (q, ne_eqb n 0 z) (refl, refl)
@@ -127,9 +153,6 @@ accepted_by code boards boards' cap buf buf' x q m e = rw (q, ← m) e
 module _ (p : Puzzle) (cap : ℕ) (buf : List ℕ) {code : ℕ} (q : code ≡ puzzle_code p) where
   abbrev Answered : Boards → List ℕ → Type 0
   Answered x buf' = (x ≡ (boards_of p cap buf).answer) × (buf' ≡ (boards_of p cap buf).buffer)
-
-  pub bad_puzzle : code ≢ 0 → Answered (Refused code) buf
-  bad_puzzle z = refused_by (boards_code p cap buf) code (rights_of p) cap buf (sym (first_refuses (places_code (states_in p) cap (length buf)) q z)) z
 
   -- with the states as the code cuts them
   module _ (z : code ≡ 0) {states : List ℕ} (m : states ≡ states_in p) {short : ℕ} (k : short ≡ places_code states cap (length buf)) where

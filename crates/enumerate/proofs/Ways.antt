@@ -2,7 +2,7 @@
 use Prim.Native.Nat.{ℕ, ◌+◌, ◌*◌, ◌≤◌, ◌<◌}
 use mathlib.Core.Path.{◌≡◌, refl, ap, sym, ◌∙◌}
 use mathlib.Core.Logic.{⊎_elim, ◌≢◌}
-use mathlib.Core.Bool.{true}
+use mathlib.Core.Bool.{true, false, true≢false}
 use mathlib.Core.List.{List, [], ◌∷◌, ◌++◌}
 use mathlib.Core.Option.{Option, none, some}
 use native.Mathlib.Omega.{arith}
@@ -16,15 +16,13 @@ use Rattle.grid.specs.declared.Grid.{Grid}
 use Rattle.grid.specs.Grid.{border_count}
 use Rattle.borders.specs.Entry.{Standing}
 use Rattle.borders.specs.Border.{state_of, StatesOk}
-use Rattle.puzzle.specs.declared.Answer.{Answer}
-use Rattle.puzzle.specs.declared.Answer.TheVariants.{Clear}
+use Rattle.std.specs.Prelude.{None, is_some, position, eqb}
 use Rattle.puzzle.specs.Fault.{Found, fault_of}
-use Rattle.puzzle.specs.Puzzle.{says}
+use Rattle.puzzle.specs.Puzzle.{told}
 use Rattle.demand_3.proofs.FaultLaws.{fault_listed, fault_again}
-use Rattle.demand_3.proofs.Asks.{clear_none}
 use Rattle.enumerate.specs.Boards.{extensions, is_nothing, is_right, rights}
 use Rattle.enumerate.specs.Search.{first_undecided, Written, add, add_all, Searching, Trying, searched}
-use Rattle.enumerate.proofs.Undecided.{first_most, first_zero, one_less}
+use Rattle.enumerate.proofs.Undecided.{first_zero, one_less, none_undecided}
 use Rattle.enumerate.proofs.Extensions.{Over, in_extensions, over_stands, over_full, full_alone, split_first}
 use Rattle.enumerate.proofs.Writing.{all_append, fits_all, no_more}
 
@@ -58,29 +56,27 @@ module _ (g : Grid) (given clues s : List ℕ) where
 
 -- CHOOSING A BORDER
 -- what an ask without a refusal tells
-told_clear : (f : Option Found) (r : Answer) → r ≡ says 0 f → r ≡ Clear → f ≡ none
-told_clear f r q z = clear_none f (sym q ∙ z)
+told_clear : (f : Option Found) → is_some (told f) ≡ false → f ≡ none
+told_clear none q = refl
+told_clear (some x) q = absurd (true≢false q)
 
-told_fault : (f : Option Found) (r : Answer) → r ≡ says 0 f → (r ≡ Clear → ⊥) → (x : Found) × (f ≡ some x)
-told_fault none r q k = absurd (k q)
-told_fault (some x) r q k = (x, refl)
+told_fault : (f : Option Found) → is_some (told f) ≡ true → (x : Found) × (f ≡ some x)
+told_fault none q = absurd (true≢false (sym q))
+told_fault (some x) q = (x, refl)
 
 module _ {g : Grid} {given clues s list : List ℕ} {w : Written} (a : Searching g given clues s list w) where
   pub cap_met : w.tally.more ≡ true → w ≡ searched g given clues s w
   cap_met q = sym (no_more w (rights g given clues s) (omega (arith, a.fits.met q)) q)
 
-  pub branch_cut : (r : Answer) → r ≡ says 0 (fault_of g given clues s) → (r ≡ Clear → ⊥) → w ≡ searched g given clues s w
+  pub branch_cut : is_some (told (fault_of g given clues s)) ≡ true → w ≡ searched g given clues s w
   unfolding add_all
-  branch_cut r q k =
-      let f = told_fault (fault_of g given clues s) r q k in
+  branch_cut q =
+      let f = told_fault (fault_of g given clues s) q in
       sym (ap (add_all w) (cut g given clues s a.each a.ok f.0 f.1))
 
-  pub board_kept : (r : Answer) → r ≡ says 0 (fault_of g given clues s) → r ≡ Clear → (e : ℕ) → e ≡ first_undecided s → e ≡ length s → add w s ≡ searched g given clues s w
+  pub board_kept : is_some (told (fault_of g given clues s)) ≡ false → position (λ x. eqb x 0) s ≡ None → add w s ≡ searched g given clues s w
   unfolding add_all
-  board_kept r q k e p z = sym (ap (add_all w) (alone g given clues s (told_clear (fault_of g given clues s) r q k) (sym p ∙ z)))
-
-  pub to_try : (e : ℕ) → e ≡ first_undecided s → e ≢ length s → Trying e s
-  to_try e p z = record { first = p; exists = omega (arith, first_most s) }
+  board_kept q p = sym (ap (add_all w) (alone g given clues s (told_clear (fault_of g given clues s) q) (none_undecided s p)))
 
   -- the same board with another list, of the same length
   pub other_list : (list' : List ℕ) → length list' ≡ length list → Searching g given clues s list' w

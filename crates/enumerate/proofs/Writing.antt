@@ -1,6 +1,6 @@
 -- Boards written one by one: two lists in turn are one list, places are enough for all, and in the end the first boards stand one behind the
 -- other. Assumes nothing.
-use Prim.Native.Nat.{ℕ, zero, suc, ◌+◌, ◌*◌, ◌≤◌, ◌<◌}
+use Prim.Native.Nat.{◌-◌, ℕ, zero, suc, ◌+◌, ◌*◌, ◌≤◌, ◌<◌}
 use mathlib.Core.Path.{◌≡◌, refl, ap, sym, ◌∙◌}
 use mathlib.Core.Logic.{inl, inr, ⊎_elim}
 use mathlib.Core.Bool.{Bool, true, false}
@@ -15,6 +15,8 @@ use lib.Seq.{sets, length-sets}
 use Rattle.lists.specs.Lists.{In, gather}
 use Rattle.lists.proofs.Cases.{le_or_lt}
 use Rattle.lists.proofs.SetsLaws.{sets_append}
+use borrow.Rule.Slice.PartMut.{put_mid}
+use Rattle.lists.proofs.Bridges.{part_sets}
 use Rattle.enumerate.specs.Search.{Written, written, add, add_all, Fits}
 
 pub all_append : (w : Written) (a b : List (List ℕ)) → add_all w (a ++ b) ≡ add_all (add_all w a) b
@@ -38,6 +40,13 @@ place n w f h = go w.tally.count w.tally.cap (length w.boards) h f.long
   where
     go : (k cap l : ℕ) → k < cap → cap * n ≤ l → k * n + n ≤ l
     go k cap l h f = omega (arith, suc-mul k n, mul-le-mul_right {m = suc k} {n = cap} n (omega arith))
+
+-- a board that is copied there
+pub placed : (w : Written) (b : List ℕ) → Fits (length b) w → w.tally.count < w.tally.cap → (ys : List ℕ) → ys ≡ b
+    → put_mid (w.tally.count * length b) (w.tally.count * length b + length b - w.tally.count * length b) w.boards ys ≡ sets w.boards (w.tally.count * length b) b
+placed w b f h ys q =
+    let k : w.tally.count * length b + length b - w.tally.count * length b ≡ length b = omega arith in
+    rw (q, k) (part_sets w.boards b (w.tally.count * length b) (place (length b) w f h))
 
 fits_add : (n : ℕ) (w : Written) (b : List ℕ) → Fits n w → Fits n (add w b)
 fits_add n w b f =

@@ -1,5 +1,5 @@
 -- All right boards that extend a started puzzle (SPEC 10.1 to 10.4): which they are, and what the call answers and writes. Assumes nothing.
-use Rattle.std.specs.Prelude.{ℕ, ◌*◌, Bool, true, false, List, [], ◌∷◌, ◌++◌, map, eqb, ltb, leb, length, take}
+use Rattle.std.specs.Prelude.{ℕ, ◌*◌, Bool, true, false, List, [], ◌∷◌, ◌++◌, map, eqb, ltb, leb, length, take, Result, Ok, Err}
 use Rattle.std.proofs.Math.Option.{Option, none, some}
 use Rattle.std.proofs.lemmas.List.Edits.{sets}
 use Rattle.lists.specs.Choice.{pick}
@@ -10,6 +10,9 @@ use Rattle.ledger.specs.Books.{state_at}
 use Rattle.puzzle.specs.declared.Puzzle.{Puzzle}
 use Rattle.puzzle.specs.Fault.{Found, fault_of}
 use Rattle.puzzle.specs.Puzzle.{states_of, grid_of, book_of, borders_of, given_of, clues_of, puzzle_code}
+use Rattle.answers.specs.declared.Refusal.{Refusal}
+use Rattle.answers.specs.Refusals.{number_of}
+use Rattle.enumerate.specs.declared.Listing.{Listing}
 use Rattle.enumerate.specs.declared.Boards.{Boards}
 use Rattle.enumerate.specs.declared.Boards.TheVariants.{Listed, Refused}
 
@@ -56,6 +59,14 @@ places_code states cap places = pick (leb (count 0 states) most_undecided) (pick
 -- questions 1, 2, 12 and 6: the number of the one that refuses the call, or 0
 abbrev pub boards_code : Puzzle → ℕ → List ℕ → ℕ
 boards_code p cap buf = first_code (puzzle_code p) (places_code (states_in p) cap (length buf))
+
+-- an answer, as the case that std's words come to
+abbrev pub said : Listing → Boards
+said l = Listed l.count l.more
+
+abbrev pub answer_in : Result Listing Refusal → Boards
+answer_in (Ok l) = said l
+answer_in (Err refusal) = Refused (number_of refusal)
 
 -- what is answered, and what the buffer that is lent holds then
 pub record Enumerated : Type 0 where

@@ -1,5 +1,5 @@
 -- The search's own terms: the next border, boards that are written one by one, and what the two functions ask and promise. Assumes nothing.
-use Rattle.std.specs.Prelude.{ℕ, suc, ◌+◌, ◌*◌, ◌≤◌, ◌<◌, ◌≡◌, true, List, [], ◌∷◌, eqb, ltb, length, take, replicate}
+use Rattle.std.specs.Prelude.{ℕ, suc, ◌+◌, ◌*◌, ◌≤◌, ◌<◌, ◌≡◌, true, List, [], ◌∷◌, eqb, ltb, length, replicate}
 use Rattle.std.proofs.lemmas.List.Edits.{sets}
 use Rattle.limits.specs.Limits.{most_entries}
 use Rattle.lists.specs.Choice.{pick}
@@ -10,7 +10,6 @@ use Rattle.rooms.specs.Rooms.{room_count}
 use Rattle.rooms.specs.Lent.{Given}
 use Rattle.room_checks.specs.RoomChecks.{Finding}
 use Rattle.enumerate.specs.declared.Tally.{Tally}
-use Rattle.enumerate.specs.declared.Start.{Start}
 use Rattle.enumerate.specs.Boards.{rights}
 
 -- the first undecided border, or how many borders there are
@@ -72,7 +71,3 @@ pub record Started (g : Grid) (given clues states : List ℕ) (cap : ℕ) (board
   pub each : length states ≡ border_count g
   pub ok : StatesOk g states
   pub long : cap * border_count g ≤ length boards
-
--- the right boards over these states; given walls and clues are the first places of their slices
-abbrev pub rights_at : Start → List ℕ → List ℕ → List ℕ → List (List ℕ)
-rights_at s given clues states = rights s.grid (take s.given given) (take s.clues clues) states

@@ -2,18 +2,28 @@
 // an ask finds a fault.
 #![tactic(auto)]
 
-ghost use Rattle.std.specs.Prelude.{◌≡◌, ◌+◌, ◌*◌, ◌≤◌, length, take};
+ghost use Rattle.std.specs.Prelude.{◌≡◌, ◌*◌, ◌≤◌, length, eqb, position};
+ghost use Rattle.answers.specs.Refusals.{code_of};
 ghost use Rattle.lists.specs.Lists.{count};
-ghost use Rattle.enumerate.specs.Boards.{places_code, listing, boards_of};
-ghost use Rattle.enumerate.specs.Search.{first_undecided, Fits, written, add, Searching, Trying, searched, Started, rights_at};
+ghost use Rattle.enumerate.specs.Boards.{places_code, listing, boards_of, said, answer_in, rights};
+ghost use Rattle.enumerate.specs.Search.{Fits, written, add, Searching, Trying, searched, Started};
 
+use answers::Refusal;
+use borders::Borders;
 use grid::Grid;
-use puzzle::{Answer, Puzzle};
+use puzzle::Puzzle;
 
 // More undecided borders are refused: a search may have to look at 2 to their number boards.
 const UNDECIDED: usize = 24;
 
-// What is answered: how many boards were written and whether there are more, or refused with the question's number.
+// What is answered: how many boards were written, and whether there are more.
+#[derive(Clone, Copy)]
+pub struct Listing {
+    pub count: usize,
+    pub more: bool,
+}
+
+// The same, or refused with the question's number. For callers that still hand in a record by value.
 #[derive(Clone, Copy)]
 pub enum Boards {
     Listed(usize, bool),
@@ -28,49 +38,26 @@ struct Tally {
     more: bool,
 }
 
-// A board's size, and the border whose values are tried.
+// What a board is right by: its size, its given walls, and the clues of its rooms.
 #[derive(Clone, Copy)]
-struct Trial {
+struct Rules<'a> {
     grid: Grid,
-    border: usize,
-}
-
-// What a search starts with: a board's size, how many of the places given are given walls and clues, and how many boards may be written.
-#[derive(Clone, Copy)]
-struct Start {
-    grid: Grid,
-    given: usize,
-    clues: usize,
-    cap: usize,
+    given: &'a [u16],
+    clues: &'a [u16],
 }
 
 // How many borders are undecided.
 fn count_undecided(states: &[u8]) -> usize
     ensures { result ≡ count 0 states.now }
 {
-    let mut n = 0;
-    let mut i = 0;
-    while i < states.len() {
-        if states[i] == 0 {
-            n += 1;
-        }
-        i += 1;
-    }
-    n
+    states.iter().filter(|&&state| state == 0).count()
 }
 
-// The first undecided border, or how many borders there are.
-fn first_undecided(states: &[u8]) -> usize
-    ensures { result ≡ first_undecided states.now }
+// The first undecided border.
+fn first_undecided(states: &[u8]) -> Option<usize>
+    ensures { result ≡ position (λ s. eqb s 0) states.now }
 {
-    let mut i = 0;
-    while i < states.len() {
-        if states[i] == 0 {
-            return i;
-        }
-        i += 1;
-    }
-    i
+    states.iter().position(|&state| state == 0)
 }
 
 // Writes a board behind those that are written, or notes that there is one more than the cap.
@@ -78,154 +65,131 @@ fn keep(board: &[u8], boards: &mut [u8], tally: Tally) -> Tally
     requires { Fits (length board.now) (written tally boards.old) }
     ensures { written result boards.new ≡ add (written tally boards.old) board.now }
 {
-    let at = tally.count;
-    if at < tally.cap {
-        lists::put(board, boards, at * board.len());
+    if tally.count < tally.cap {
+        let start = tally.count * board.len();
+        boards[start..start + board.len()].copy_from_slice(board);
         return Tally {
-            cap: tally.cap,
-            count: at + 1,
-            more: tally.more,
+            count: tally.count + 1,
+            ..tally
         };
     }
     Tally {
-        cap: tally.cap,
-        count: at,
         more: true,
+        ..tally
     }
 }
 
 // Goes on from a board as it stands: nothing more is written once there is one more than the cap or where an ask finds a fault, a full board
 // is kept, and else the first undecided border is tried.
 #[cycle(choose_border_try_values)]
-fn choose_border<'a>(
-    g: Grid,
-    given: &'a [u16],
-    clues: &'a [u16],
+fn choose_border(
+    rules: Rules<'_>,
     states: &mut [u8],
     list: &mut [u16],
     boards: &mut [u8],
     tally: Tally,
 ) -> Tally
-    requires { Searching g given.now clues.now states.old list.old (written tally boards.old) }
+    requires { Searching rules.grid rules.given.now rules.clues.now states.old list.old (written tally boards.old) }
     ensures states_unchanged { states.new ≡ states.old }
-    ensures boards_after { written result boards.new ≡ searched g given.now clues.now states.old (written tally boards.old) }
+    ensures boards_after { written result boards.new ≡ searched rules.entry.grid rules.entry.given.now rules.entry.clues.now states.old (written tally boards.old) }
 {
     if tally.more {
         return tally;
     }
-    let found = puzzle::fault_of(g, given, states, clues, list);
-    let Answer::Clear = found else {
+    let stands = Borders {
+        grid: rules.grid,
+        states,
+    };
+    if puzzle::fault_of(stands, rules.given, rules.clues, list).is_some() {
         return tally;
-    };
-    let border = first_undecided(states);
-    if border == states.len() {
-        return keep(states, boards, tally);
     }
-    let trial = Trial {
-        grid: g,
-        border: border,
-    };
-    try_values(trial, given, clues, states, list, boards, tally)
+    match first_undecided(states) {
+        None => keep(states, boards, tally),
+        Some(border) => try_values(rules, border, states, list, boards, tally),
+    }
 }
 
 // Tries the two values of the first undecided border, Connected and then Wall, and leaves it undecided again.
 #[cycle(choose_border_try_values)]
-fn try_values<'a>(
-    trial: Trial,
-    given: &'a [u16],
-    clues: &'a [u16],
+fn try_values(
+    rules: Rules<'_>,
+    border: usize,
     states: &mut [u8],
     list: &mut [u16],
     boards: &mut [u8],
     tally: Tally,
 ) -> Tally
-    requires trying { Trying trial.border states.old }
-    requires searching { Searching trial.grid given.now clues.now states.old list.old (written tally boards.old) }
+    requires trying { Trying border states.old }
+    requires searching { Searching rules.grid rules.given.now rules.clues.now states.old list.old (written tally boards.old) }
     ensures states_unchanged { states.new ≡ states.old }
-    ensures boards_after { written result boards.new ≡ searched trial.grid given.now clues.now states.old (written tally boards.old) }
+    ensures boards_after { written result boards.new ≡ searched rules.entry.grid rules.entry.given.now rules.entry.clues.now states.old (written tally boards.old) }
 {
-    let g = trial.grid;
-    let border = trial.border;
     states[border] = 1;
-    let connected = choose_border(g, given, clues, states, list, boards, tally);
+    let connected = choose_border(rules, states, list, boards, tally);
     states[border] = 2;
-    let wall = choose_border(g, given, clues, states, list, boards, connected);
+    let wall = choose_border(rules, states, list, boards, connected);
     states[border] = 0;
     wall
 }
 
-// Questions 12 and 6: the number of the one that refuses, or 0. The product of cap and borders may be too large for a number, so the places
-// are divided instead.
-fn places_code(states: &[u8], cap: usize, places: usize) -> u8
-    ensures { result ≡ places_code states.now cap places }
+// Questions 12 and 6. The product of cap and borders may be too large for a number, so the places are divided instead.
+fn check_places(states: &[u8], cap: usize, places: usize) -> Result<(), Refusal>
+    ensures { code_of result ≡ places_code states.now cap places }
 {
     if UNDECIDED < count_undecided(states) {
-        return 12;
+        return Err(Refusal::ManyUndecided);
     }
-    if states.len() == 0 {
-        return 0;
+    if states.is_empty() {
+        return Ok(());
     }
     if places / states.len() < cap {
-        return 6;
+        return Err(Refusal::ShortBuffer);
     }
-    0
+    Ok(())
 }
 
 // The right boards over these states, by a search from the start. The lists of its asks have an array of their own.
-fn search<'a>(
-    s: Start,
-    given: &'a [u16],
-    clues: &'a [u16],
-    states: &mut [u8],
-    boards: &mut [u8],
-) -> Boards
-    requires given_in_bounds { (s.given ≤ length given.now) × (s.clues ≤ length clues.now) }
-    requires started { Started s.grid (take s.given given.now) (take s.clues clues.now) states.old s.cap boards.old }
-    ensures value { result ≡ (listing (rights_at s given.now clues.now states.old) s.cap boards.old).answer }
-    ensures boards_after { boards.new ≡ (listing (rights_at s given.now clues.now states.old) s.cap boards.old).buffer }
+fn search(rules: Rules<'_>, states: &mut [u8], cap: usize, boards: &mut [u8]) -> Listing
+    requires { Started rules.grid rules.given.now rules.clues.now states.old cap boards.old }
+    ensures value { said result ≡ (listing (rights rules.entry.grid rules.entry.given.now rules.entry.clues.now states.old) cap boards.old).answer }
+    ensures boards_after { boards.new ≡ (listing (rights rules.entry.grid rules.entry.given.now rules.entry.clues.now states.old) cap boards.old).buffer }
 {
-    let walls = s.given;
-    let rooms = s.clues;
     let mut list = [0u16; limits::ENTRIES];
     let none = Tally {
-        cap: s.cap,
+        cap,
         count: 0,
         more: false,
     };
-    let all = choose_border(
-        s.grid,
-        &given[..walls],
-        &clues[..rooms],
-        states,
-        &mut list,
-        boards,
-        none,
-    );
-    Boards::Listed(all.count, all.more)
+    let Tally { count, more, .. } = choose_border(rules, states, &mut list, boards, none);
+    Listing { count, more }
 }
 
 // Writes the right full boards on which the puzzle's decided borders stand, in rising order and as many as the cap, a byte for each border,
 // and tells how many it wrote and whether there are more.
+pub fn list_right_boards(p: &Puzzle, cap: usize, buffer: &mut [u8]) -> Result<Listing, Refusal>
+    ensures value { answer_in result ≡ (boards_of p.now cap buffer.old).answer }
+    ensures buffer_after { buffer.new ≡ (boards_of p.now cap buffer.old).buffer }
+{
+    p.check()?;
+    let grid = p.borders().grid;
+    let mut states = p.board.book.states;
+    let states = &mut states[..grid.border_count()];
+    check_places(states, cap, buffer.len())?;
+    let rules = Rules {
+        grid,
+        given: p.given(),
+        clues: p.clues(),
+    };
+    Ok(search(rules, states, cap, buffer))
+}
+
+// The same of a record by value.
 pub fn right_boards(p: Puzzle, cap: usize, buffer: &mut [u8]) -> Boards
     ensures value { result ≡ (boards_of p cap buffer.old).answer }
     ensures buffer_after { buffer.new ≡ (boards_of p cap buffer.old).buffer }
 {
-    let code = puzzle::puzzle_code(p);
-    if code != 0 {
-        return Boards::Refused(code);
+    match list_right_boards(&p, cap, buffer) {
+        Ok(Listing { count, more }) => Boards::Listed(count, more),
+        Err(refusal) => Boards::Refused(u8::from(refusal)),
     }
-    let g = p.board.grid;
-    let n = grid::border_count(g);
-    let mut states = p.board.book.states;
-    let short = places_code(&states[..n], cap, buffer.len());
-    if short != 0 {
-        return Boards::Refused(short);
-    }
-    let s = Start {
-        grid: g,
-        given: p.given_len,
-        clues: p.clues_len,
-        cap: cap,
-    };
-    search(s, &p.given, &p.clues, &mut states[..n], buffer)
 }

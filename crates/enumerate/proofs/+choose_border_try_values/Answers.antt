@@ -1,33 +1,24 @@
 -- The two functions of the search, which call each other, meet their contracts: a law of `Ways` for each way through. Assumes nothing.
-use mathlib.Core.Path.{refl, ◌∙◌}
+use mathlib.Core.Path.{refl, ap, sym, ◌∙◌}
+use Rattle.std.specs.Prelude.{is_some}
 use native.Mathlib.Omega.{arith}
 use Rattle.enumerate.specs.Search.{written}
-use Rattle.enumerate.proofs.Ways.{cap_met, branch_cut, board_kept, to_try, other_list, decided, second, less, less_again, undone, both_tried}
+use Rattle.enumerate.proofs.Undecided.{some_undecided}
+use Rattle.enumerate.proofs.Ways.{cap_met, branch_cut, board_kept, other_list, decided, second, less, less_again, undone, both_tried}
 use Rattle.enumerate.proofs.+choose_border_try_values.Goals as goal
 
 -- CHOOSING A BORDER
 pub choose_border-returns-then-tally-clause-boards_after : goal.choose_border-returns-then-tally-clause-boards_after
 choose_border-returns-then-tally-clause-boards_after t c = cap_met c.requires c.if-tally.true
 
-pub choose_border-returns-in_default : goal.choose_border-returns-in_default
-choose_border-returns-in_default t c = record {
-  states_unchanged = refl;
-  boards_after = branch_cut c.requires c.fault_of-found.result c.fault_of-found.ensures.value c.in_default.not-Clear;
-}
+pub choose_border-returns-then-is_some-clause-boards_after : goal.choose_border-returns-then-is_some-clause-boards_after
+choose_border-returns-then-is_some-clause-boards_after t c = branch_cut c.requires (ap is_some (sym c.fault_of.ensures.value) ∙ sym c.is_some.ensures ∙ c.if-is_some.true)
 
-pub choose_border-returns-then-border-states-clause-boards_after : goal.choose_border-returns-then-border-states-clause-boards_after
-choose_border-returns-then-border-states-clause-boards_after t c =
-    c.keep.ensures
-    ∙ board_kept c.requires c.fault_of-found.result c.fault_of-found.ensures.value c.in-Clear.is _ c.first_undecided-border.ensures c.if-border-states.true
+pub choose_border-returns-in-None-clause-boards_after : goal.choose_border-returns-in-None-clause-boards_after
+choose_border-returns-in-None-clause-boards_after t c = c.keep.ensures ∙ board_kept c.requires (ap is_some (sym c.fault_of.ensures.value) ∙ sym c.is_some.ensures ∙ c.if-is_some.false) (sym c.first_undecided.ensures ∙ c.in-None.is)
 
 pub choose_border-try_values-requires : goal.choose_border-try_values-requires
-choose_border-try_values-requires t c = (
-  omega arith,
-  (
-    to_try c.requires _ c.first_undecided-border.ensures c.if-border-states.false,
-    other_list c.requires _ c.fault_of-found.auto.buffer,
-  ),
-)
+choose_border-try_values-requires t c = (omega arith, (some_undecided _ _ (sym c.first_undecided.ensures ∙ c.in-Some.is), other_list c.requires _ c.fault_of.auto.buffer))
 
 -- TRYING ITS VALUES
 pub try_values-choose_border-connected-requires : goal.try_values-choose_border-connected-requires
