@@ -1,15 +1,15 @@
 -- One turn and the end of each loop over a book's names, and over a stroke's entries. Assumes nothing.
-use Prim.Native.Nat.{ℕ, zero, suc, ◌+◌, ◌-◌, ◌*◌, ◌/◌, ◌%◌, ◌≤◌, ◌<◌}
+use Prim.Native.Nat.{ℕ, ◌+◌, ◌-◌, ◌*◌, ◌≤◌, ◌<◌}
 use mathlib.Core.Path.{◌≡◌, refl, ap, sym, subst, ◌∙◌}
-use mathlib.Core.Logic.{◌≢◌, inl, inr, ⊎_elim}
+use mathlib.Core.Logic.{inl, inr, ⊎_elim}
 use mathlib.Core.Bool.{Bool, true, false}
-use mathlib.Core.List.{List, [], ◌∷◌, ◌++◌, map}
+use mathlib.Core.List.{List, [], ◌∷◌, map}
 use native.Mathlib.Omega.{arith}
 use native.Mathlib.Numerals.{add-one}
 use borrow.Author.Tests.{lt-leb, lt-ltb, le-ltb, ltb-true}
 use lib.Dec.{eqb, ltb}
-use lib.ListN.{length, get_or, take, drop, set, replicate, drop_of_length-le, length-map, get_or-map, length-set, length-replicate, get_or-replicate}
-use lib.Seq.{drop-cons, sets, sets-eq, ext_get_or, get_or-take, length-take-le}
+use lib.ListN.{length, get_or, drop, set, replicate, drop_of_length-le, length-map, get_or-map, length-set, length-replicate}
+use lib.Seq.{drop-cons, sets}
 use borrow.Rule.Slice.PartMut.{put_mid, mid_of, mid_len}
 use Rattle.std.specs.Prelude.{max}
 use Rattle.limits.specs.Limits.{most_borders}
@@ -20,12 +20,12 @@ use Rattle.lists.proofs.ChoiceLaws.{both_true, true_both, same_truth}
 use Rattle.lists.proofs.ListLaws.{all_true, true_all, get_d_in, all_step}
 use Rattle.lists.proofs.Bridges.{part_sets, filled}
 use Rattle.ledger.specs.declared.Book.{Book}
-use Rattle.ledger.specs.Ledger.{Decision, decision_of, decisions, state_for}
-use Rattle.ledger.specs.Books.{book, half, name_of, names_from, names_of, names_in, borders_in, state_all, clear_all, placed, taken_from}
+use Rattle.ledger.specs.Ledger.{Decision, decision_of, decisions}
+use Rattle.ledger.specs.Books.{book, half, names_from, names_of, names_in, state_all, clear_all, placed, taken_from}
 use Rattle.ledger.specs.Marks.{fits_of, fit_all, all_below, new_names, mark_all, Marked, Named}
 use Rattle.ledger.proofs.MarkLaws.{new_names_lem}
-use Rattle.ledger.proofs.Loops.{new_or_not, misfit_below, both_both, and_true, fits_end, name_below}
-use Rattle.ledger.proofs.StrokeLoops.{states_turn, states_end, names_turn, names_end, clear_turn, clear_end}
+use Rattle.ledger.proofs.Loops.{new_or_not, misfit_below, both_both, and_true}
+use Rattle.ledger.proofs.StrokeLoops.{states_end, names_end, clear_turn, clear_end}
 
 -- the greatest so far and one more, of which `rest` is left to test
 greatest_below : (a b n : ℕ) → ltb (max a b) n ≡ both (ltb a n) (ltb b n)

@@ -1,7 +1,6 @@
 -- `ledger::mark_borders` meets its contract: the loop's invariant is `Walk`. Assumes nothing.
 use mathlib.Core.Path.{sym, ◌∙◌}
 use native.Mathlib.Omega.{arith}
-use Rattle.ledger.specs.Books.{half}
 use Rattle.ledger.proofs.Turns.{walk_out, border_below, walk_on, walk_end}
 use Rattle.ledger.proofs.mark_borders.Goals as goal
 
