@@ -1,80 +1,144 @@
 // Calls on a board: make, stroke, decide and undo; its record; groups, paths, boundary lists and the shape check.
-use crate::queue::Queue;
-use crate::script::Command;
-use crate::{queue, say};
+use crate::desk::Desk;
+use crate::text::{Record, Spaced, first};
 use answers::Plain;
-use board::{Board, Decided};
-use std::io::Stdout;
+use board::Board;
+use std::io;
+use std::io::Write;
 
-// Says the number of a call, and keeps its board.
-fn kept(out: Stdout, d: Decided) -> Board {
-    say::code(out, d.code);
-    d.board
+#[derive(Clone, Copy, Debug)]
+pub enum Call {
+    Make { height: usize, width: usize },
+    Stroke,
+    Decide { border: usize, wall: bool },
+    Undo,
+    Record { states: usize },
+    Groups { cells: usize, is_potential: bool },
+    Group { group: usize, is_potential: bool },
+    Ask(Question),
 }
 
-// A stroke of the entries that wait.
-pub fn stroke(out: Stdout, b: Board, q: Queue) -> Board {
-    let entries = q.items;
-    let n = queue::within(&entries, q.len);
-    kept(out, board::stroke(b, &entries[..n]))
+// What is answered by a list.
+#[derive(Clone, Copy, Debug)]
+pub enum Question {
+    Path { start: usize, target: usize },
+    Unit(usize),
+    PotentialUnit(usize),
+    Fault,
 }
 
-// The groups of n cells: each cell's group, the cells in turn and the starts.
-fn say_groups(out: Stdout, b: Board, is_potential: bool, n: usize) {
-    let mut cells = [0u16; limits::CELLS];
-    let g = groups::compute_connected_components(b, is_potential, &mut cells);
-    let i = g.info;
-    say::number(out, g.code as usize);
-    say::numbers(out, &i.ids, n);
-    say::text(out, b";");
-    say::numbers(out, &cells, n);
-    say::text(out, b";");
-    say::numbers(out, &i.starts, i.count);
-    say::text(out, b"\n");
-}
-
-// The cells that are handed out for a group.
-fn say_group(out: Stdout, b: Board, is_potential: bool, group: usize) {
-    let mut cells = [0u16; limits::CELLS];
-    let g = groups::compute_connected_components(b, is_potential, &mut cells);
-    let part = groups::group(g.info, &cells, group);
-    say::listing(out, part.len(), part, part.len());
-}
-
-// A list of a board, or its fault.
-fn list(b: Board, c: Command, buffer: &mut [u16]) -> Plain {
-    let call = c.call;
-    match call {
-        b'p' => answers::of_listed(path::reason_for_path(b, c.x, c.y, buffer)),
-        b'v' => answers::of_listed(boundary::reason_for_unit_and_its_boundary(b, c.x, buffer)),
-        b'w' => answers::of_listed(boundary::reason_for_potential_unit_boundary(b, c.x, buffer)),
-        _ => answers::of_answer(shape_check::find_inconsistency(b, buffer)),
+impl Call {
+    pub fn new(letter: u8, x: usize, y: usize) -> Option<Call> {
+        let is_potential = y == 1;
+        let call = match letter {
+            b'm' => Call::Make {
+                height: x,
+                width: y,
+            },
+            b's' => Call::Stroke,
+            b'd' => Call::Decide {
+                border: x,
+                wall: y == 2,
+            },
+            b'u' => Call::Undo,
+            b'r' => Call::Record { states: x },
+            b'g' => Call::Groups {
+                cells: x,
+                is_potential,
+            },
+            b'h' => Call::Group {
+                group: x,
+                is_potential,
+            },
+            b'p' => Call::Ask(Question::Path {
+                start: x,
+                target: y,
+            }),
+            b'v' => Call::Ask(Question::Unit(x)),
+            b'w' => Call::Ask(Question::PotentialUnit(x)),
+            b'a' => Call::Ask(Question::Fault),
+            _ => return None,
+        };
+        Some(call)
     }
 }
 
-fn ask(out: Stdout, b: Board, c: Command) {
-    let call = c.call;
-    match call {
-        b'r' => say::record(out, &b.book.states, c.x, &b.book.names, b.book.len),
-        b'g' => say_groups(out, b, c.y == 1, c.x),
-        b'h' => say_group(out, b, c.y == 1, c.x),
-        _ => {
-            let mut buffer = [0u16; limits::ENTRIES];
-            let a = list(b, c, &mut buffer);
-            say::plain(out, a, &buffer);
+impl Question {
+    // The board's answer, and its list in the buffer.
+    fn ask(self, board: &Board, buffer: &mut [u16]) -> Plain {
+        match self {
+            Question::Path { start, target } => answers::of_listed(path::reason_for_path(
+                *board, start, target, buffer,
+            )),
+            Question::Unit(unit) => answers::of_listed(boundary::reason_for_unit_and_its_boundary(
+                *board, unit, buffer,
+            )),
+            Question::PotentialUnit(unit) => answers::of_listed(
+                boundary::reason_for_potential_unit_boundary(*board, unit, buffer),
+            ),
+            Question::Fault => answers::of_answer(shape_check::find_inconsistency(*board, buffer)),
         }
     }
 }
 
-pub fn call(out: Stdout, b: Board, c: Command) -> Board {
-    let call = c.call;
-    match call {
-        b'm' => kept(out, board::make(c.x, c.y)),
-        b'd' => kept(out, board::decide(b, c.x, c.y == 2)),
-        b'u' => kept(out, board::undo(b)),
-        _ => {
-            ask(out, b, c);
-            b
-        }
+impl<W: Write + Drop> Desk<W> {
+    pub fn on_board(&mut self, call: Call) -> io::Result<()> {
+        let done = match call {
+            Call::Make { height, width } => return self.make_board(height, width),
+            Call::Stroke => self.board.stroke(&self.first),
+            Call::Decide { border, wall } => self.board.decide(border, wall),
+            Call::Undo => self.board.undo(),
+            Call::Record { states } => return self.say_board(states),
+            Call::Groups {
+                cells,
+                is_potential,
+            } => return self.say_groups(cells, is_potential),
+            Call::Group {
+                group,
+                is_potential,
+            } => return self.say_group(group, is_potential),
+            Call::Ask(question) => return self.ask_board(question),
+        };
+        self.say_done(done)
+    }
+
+    fn make_board(&mut self, height: usize, width: usize) -> io::Result<()> {
+        let made = board::make(height, width);
+        self.board = made.board;
+        self.say(made.code)
+    }
+
+    // The groups of so many cells: each cell's group, the cells in turn and the starts.
+    fn say_groups(&mut self, cells: usize, is_potential: bool) -> io::Result<()> {
+        let mut buffer = [0u16; limits::CELLS];
+        let grouping = groups::compute_connected_components(self.board, is_potential, &mut buffer);
+        let info = grouping.info;
+        let code = grouping.code;
+        let ids = Spaced(first(&info.ids, cells));
+        let turn = Spaced(first(&buffer, cells));
+        let starts = Spaced(first(&info.starts, info.count));
+        writeln!(self.out, "{code}{ids};{turn};{starts}")
+    }
+
+    // The cells that are handed out for a group.
+    fn say_group(&mut self, group: usize, is_potential: bool) -> io::Result<()> {
+        let mut buffer = [0u16; limits::CELLS];
+        let grouping = groups::compute_connected_components(self.board, is_potential, &mut buffer);
+        let part = groups::group(grouping.info, &buffer, group);
+        let len = part.len();
+        let cells = Spaced(part);
+        writeln!(self.out, "{len}{cells}")
+    }
+
+    fn say_board(&mut self, states: usize) -> io::Result<()> {
+        let book = &self.board.book;
+        let record = Record { book, states };
+        writeln!(self.out, "{record}")
+    }
+
+    fn ask_board(&mut self, question: Question) -> io::Result<()> {
+        let mut buffer = [0u16; limits::ENTRIES];
+        let answer = question.ask(&self.board, &mut buffer);
+        self.say_plain(answer, &buffer)
     }
 }

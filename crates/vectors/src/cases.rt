@@ -1,23 +1,54 @@
-// Case files drawn from a seed.
-use crate::{queue, say};
-use answers::Plain;
+// Case files drawn from a seed on the desk's size.
+use crate::desk::Desk;
+use crate::text::{Spaced, first};
 use grid::Grid;
-use std::io::Stdout;
+use std::io;
+use std::io::Write;
+
+#[derive(Clone, Copy, Debug)]
+pub enum Call {
+    Seed(u32),
+    File { calls: usize, room: usize },
+}
 
 // A seed by its upper and its lower 16 bits.
-pub fn seed(high: usize, low: usize) -> u32 {
+fn seed(high: usize, low: usize) -> u32 {
     (high % 65536 * 65536 + low % 65536) as u32
 }
 
-// A file of so many calls, lent so many bytes.
-fn generate_lent(seed: u32, g: Grid, count: usize, bytes: usize, buffer: &mut [u8]) -> Plain {
-    let n = queue::bytes_within(buffer, bytes);
-    answers::of_listed(generator::generate(seed, g.height, g.width, count, &mut buffer[..n]))
+impl Call {
+    pub fn new(letter: u8, x: usize, y: usize) -> Option<Call> {
+        let call = match letter {
+            b's' => Call::Seed(seed(x, y)),
+            b'g' => Call::File { calls: x, room: y },
+            _ => return None,
+        };
+        Some(call)
+    }
 }
 
-// The buffer takes files of some hundred calls.
-pub fn say_file(out: Stdout, seed: u32, g: Grid, count: usize, bytes: usize) {
-    let mut buffer = [0u8; limits::BORDERS];
-    let a = generate_lent(seed, g, count, bytes, &mut buffer);
-    say::file(out, a, &buffer);
+impl<W: Write + Drop> Desk<W> {
+    pub fn on_case(&mut self, call: Call) -> io::Result<()> {
+        match call {
+            Call::Seed(seed) => {
+                self.seed = seed;
+                self.say_done(Ok(()))
+            }
+            Call::File { calls, room } => self.say_file(calls, room),
+        }
+    }
+
+    // A file of so many calls, lent so many bytes; there is room for some hundred calls.
+    fn say_file(&mut self, calls: usize, room: usize) -> io::Result<()> {
+        let mut buffer = [0u8; limits::BORDERS];
+        let lent = &mut buffer[..room.min(limits::BORDERS)];
+        let Grid { height, width } = self.grid;
+        match generator::generate(self.seed, height, width, calls, lent) {
+            Ok(length) => {
+                let bytes = Spaced(first(&buffer, length));
+                writeln!(self.out, "0{bytes}")
+            }
+            Err(refusal) => self.say_refusal(refusal),
+        }
+    }
 }

@@ -1,132 +1,113 @@
-// Calls on a puzzle: make (its given walls and clues wait in two queues), stroke, decide, undo and ask; its board's record; its right boards.
-use crate::queue::Queue;
-use crate::script::Command;
-use crate::{queue, say};
-use answers::Plain;
-use enumerate::Boards;
-use grid::Grid;
-use puzzle::{Answer, Check, Made, Puzzle};
-use std::io::Stdout;
+// Calls on a puzzle: make (its given walls and clues wait in the two lists), stroke, decide, undo and ask; its board's record; its right boards.
+use crate::desk::Desk;
+use crate::text::{Record, Spaced, Word, first};
+use enumerate::Listing;
+use puzzle::{Check, Fault};
+use std::io;
+use std::io::Write;
 
-fn kept(out: Stdout, m: Made) -> Puzzle {
-    say::code(out, m.code);
-    m.puzzle
+#[derive(Clone, Copy, Debug)]
+pub enum Call {
+    Make { height: usize, width: usize },
+    Stroke,
+    Decide { border: usize, wall: bool },
+    Undo,
+    Ask { room: usize },
+    Record { states: usize },
+    Boards { most: usize, room: usize },
 }
 
-pub fn make(out: Stdout, height: usize, width: usize, first: Queue, second: Queue) -> Puzzle {
-    let given = first.items;
-    let clues = second.items;
-    let m = queue::within(&given, first.len);
-    let n = queue::within(&clues, second.len);
-    kept(out, puzzle::make(height, width, &given[..m], &clues[..n]))
-}
-
-// A stroke of the entries that wait.
-pub fn stroke(out: Stdout, p: Puzzle, q: Queue) -> Puzzle {
-    let entries = q.items;
-    let n = queue::within(&entries, q.len);
-    kept(out, puzzle::stroke(p, &entries[..n]))
-}
-
-// Which check found a fault.
-fn say_check(out: Stdout, check: Check) {
-    match check {
-        Check::Shape => say::text(out, b"shape "),
-        Check::Room(room) => {
-            say::text(out, b"room ");
-            say::number(out, room);
-            say::text(out, b" ");
-        }
+impl Call {
+    pub fn new(letter: u8, x: usize, y: usize) -> Option<Call> {
+        let call = match letter {
+            b'm' => Call::Make {
+                height: x,
+                width: y,
+            },
+            b's' => Call::Stroke,
+            b'd' => Call::Decide {
+                border: x,
+                wall: y == 2,
+            },
+            b'u' => Call::Undo,
+            b'a' => Call::Ask { room: x },
+            b'r' => Call::Record { states: x },
+            b'b' => Call::Boards { most: x, room: y },
+            _ => return None,
+        };
+        Some(call)
     }
 }
 
-fn of_answer(out: Stdout, answer: Answer) -> Plain {
-    match answer {
-        Answer::Clear => Plain {
-            code: 0,
-            fault: false,
-            length: 0,
-        },
-        Answer::Fault(check, length) => {
-            say_check(out, check);
-            Plain {
-                code: 0,
-                fault: true,
-                length,
+impl<W: Write + Drop> Desk<W> {
+    pub fn on_puzzle(&mut self, call: Call) -> io::Result<()> {
+        let done = match call {
+            Call::Make { height, width } => return self.make_puzzle(height, width),
+            Call::Stroke => self.puzzle.stroke(&self.first),
+            Call::Decide { border, wall } => self.puzzle.decide(border, wall),
+            Call::Undo => self.puzzle.undo(),
+            Call::Ask { room } => return self.ask_puzzle(room),
+            Call::Record { states } => return self.say_puzzle(states),
+            Call::Boards { most, room } => return self.say_boards(most, room),
+        };
+        self.say_done(done)
+    }
+
+    fn make_puzzle(&mut self, height: usize, width: usize) -> io::Result<()> {
+        let made = puzzle::make(height, width, &self.first, &self.second);
+        self.puzzle = made.puzzle;
+        self.say(made.code)
+    }
+
+    // An ask that is lent so many places: which check found a fault, and the fault.
+    fn ask_puzzle(&mut self, room: usize) -> io::Result<()> {
+        let mut buffer = [0u16; limits::ENTRIES];
+        let lent = &mut buffer[..room.min(limits::ENTRIES)];
+        let asked = self.puzzle.ask(lent);
+        match asked {
+            Ok(None) => self.say_done(Ok(())),
+            Ok(Some(Fault { check, len })) => {
+                let list = Spaced(first(&buffer, len));
+                match check {
+                    Check::Shape => writeln!(self.out, "shape 0 fault{list}"),
+                    Check::Room(room) => writeln!(self.out, "room {room} 0 fault{list}"),
+                }
             }
+            Err(refusal) => self.say_refusal(refusal),
         }
-        Answer::Refused(code) => Plain {
-            code,
-            fault: false,
-            length: 0,
-        },
     }
-}
 
-// An ask that is lent so many places.
-fn ask_lent(out: Stdout, p: Puzzle, places: usize, buffer: &mut [u16]) -> Plain {
-    let n = queue::within(buffer, places);
-    of_answer(out, puzzle::ask(p, &mut buffer[..n]))
-}
-
-fn ask(out: Stdout, p: Puzzle, places: usize) {
-    let mut buffer = [0u16; limits::ENTRIES];
-    let a = ask_lent(out, p, places, &mut buffer);
-    say::plain(out, a, &buffer);
-}
-
-fn say_record(out: Stdout, p: Puzzle, n: usize) {
-    let b = p.board;
-    say::record(out, &b.book.states, n, &b.book.names, b.book.len);
-}
-
-// How many digits a board has. A size beyond the limits has none, and its puzzle is refused anyway.
-fn borders(g: Grid) -> usize {
-    if !grid::sizes_ok(g) {
-        return 0;
+    fn say_puzzle(&mut self, states: usize) -> io::Result<()> {
+        let book = &self.puzzle.board.book;
+        let record = Record { book, states };
+        writeln!(self.out, "{record}")
     }
-    grid::border_count(g)
-}
 
-fn say_listed(out: Stdout, count: usize, more: bool, boards: &[u8], g: Grid) {
-    say::number(out, 0);
-    say::spaced(out, count);
-    say::spaced(out, if more { 1 } else { 0 });
-    say::words(out, boards, count, borders(g));
-    say::text(out, b"\n");
-}
-
-// The right boards, lent so many bytes.
-fn boards_lent(p: Puzzle, cap: usize, bytes: usize, buffer: &mut [u8]) -> Boards {
-    let n = queue::bytes_within(buffer, bytes);
-    enumerate::right_boards(p, cap, &mut buffer[..n])
-}
-
-// The buffer takes a board of the largest size, or many small ones.
-fn say_boards(out: Stdout, p: Puzzle, cap: usize, bytes: usize) {
-    let mut buffer = [0u8; limits::BORDERS];
-    match boards_lent(p, cap, bytes, &mut buffer) {
-        Boards::Listed(count, more) => say_listed(out, count, more, &buffer, p.board.grid),
-        Boards::Refused(code) => say::code(out, code),
+    // The right boards, lent so many bytes; there is room for a board of the largest size, or many small ones.
+    fn say_boards(&mut self, most: usize, room: usize) -> io::Result<()> {
+        let mut buffer = [0u8; limits::BORDERS];
+        let lent = &mut buffer[..room.min(limits::BORDERS)];
+        let listed = enumerate::list_right_boards(&self.puzzle, most, lent);
+        match listed {
+            Ok(Listing { count, more }) => {
+                let more = u8::from(more);
+                write!(self.out, "0 {count} {more}")?;
+                self.say_words(&buffer, count)
+            }
+            Err(refusal) => self.say_refusal(refusal),
+        }
     }
-}
 
-pub fn call(out: Stdout, p: Puzzle, c: Command) -> Puzzle {
-    let call = c.call;
-    match call {
-        b'd' => kept(out, puzzle::decide(p, c.x, c.y == 2)),
-        b'u' => kept(out, puzzle::undo(p)),
-        b'r' => {
-            say_record(out, p, c.x);
-            p
+    // So many words, each with a digit for each border of the puzzle.
+    fn say_words(&mut self, digits: &[u8], count: usize) -> io::Result<()> {
+        let n = self.puzzle.board.grid.border_count();
+        let mut left = digits;
+        for _ in 0..count {
+            let (digits, others) = left.split_at(n.min(left.len()));
+            let word = Word(digits);
+            write!(self.out, " {word}")?;
+            left = others;
         }
-        b'b' => {
-            say_boards(out, p, c.x, c.y);
-            p
-        }
-        _ => {
-            ask(out, p, c.x);
-            p
-        }
+        writeln!(self.out)
     }
 }

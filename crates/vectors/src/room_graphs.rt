@@ -1,58 +1,67 @@
-// Calls on a room graph: make (its edges wait in two queues), stroke, decide, undo and ask.
-use crate::queue::Queue;
-use crate::script::Command;
-use crate::{queue, say};
-use city_count::{CityCountConstraint, Decided};
-use std::io::Stdout;
+// Calls on a room graph: make (its edges wait in the two lists), stroke, decide, undo and ask.
+use crate::desk::Desk;
+use city_count::Decided;
+use std::io;
+use std::io::Write;
 
-fn kept(out: Stdout, d: Decided) -> CityCountConstraint {
-    say::code(out, d.code);
-    d.room
+#[derive(Clone, Copy, Debug)]
+pub enum Call {
+    Make { vertices: usize, count: u32 },
+    Stroke,
+    Decide { edge: usize, wall: bool },
+    Undo,
+    Ask,
 }
 
 // A number of 32 bits; a larger one counts as the largest.
 fn narrow(x: usize) -> u32 {
-    if 4294967295 < x {
-        return 4294967295;
+    u32::try_from(x).unwrap_or(u32::MAX)
+}
+
+impl Call {
+    pub fn new(letter: u8, x: usize, y: usize) -> Option<Call> {
+        let call = match letter {
+            b'm' => Call::Make {
+                vertices: x,
+                count: narrow(y),
+            },
+            b's' => Call::Stroke,
+            b'd' => Call::Decide {
+                edge: x,
+                wall: y == 2,
+            },
+            b'u' => Call::Undo,
+            b'a' => Call::Ask,
+            _ => return None,
+        };
+        Some(call)
     }
-    x as u32
 }
 
-pub fn make(
-    out: Stdout,
-    n: usize,
-    count: usize,
-    first: Queue,
-    second: Queue,
-) -> CityCountConstraint {
-    let us = first.items;
-    let vs = second.items;
-    let m = queue::within(&us, first.len);
-    let k = queue::within(&vs, second.len);
-    kept(out, city_count::make(n, &us[..m], &vs[..k], narrow(count)))
-}
-
-// A stroke of the entries that wait.
-pub fn stroke(out: Stdout, r: CityCountConstraint, q: Queue) -> CityCountConstraint {
-    let entries = q.items;
-    let n = queue::within(&entries, q.len);
-    kept(out, city_count::stroke(r, &entries[..n]))
-}
-
-fn ask(out: Stdout, r: CityCountConstraint) {
-    let mut buffer = [0u16; limits::BORDERS];
-    let a = answers::of_answer(city_count::ask(r, &mut buffer));
-    say::plain(out, a, &buffer);
-}
-
-pub fn call(out: Stdout, r: CityCountConstraint, c: Command) -> CityCountConstraint {
-    let call = c.call;
-    match call {
-        b'd' => kept(out, city_count::decide(r, c.x, c.y == 2)),
-        b'u' => kept(out, city_count::undo(r)),
-        _ => {
-            ask(out, r);
-            r
+impl<W: Write + Drop> Desk<W> {
+    pub fn on_room(&mut self, call: Call) -> io::Result<()> {
+        match call {
+            Call::Make { vertices, count } => self.keep_room(city_count::make(
+                vertices,
+                &self.first,
+                &self.second,
+                count,
+            )),
+            Call::Stroke => self.keep_room(city_count::stroke(self.room, &self.first)),
+            Call::Decide { edge, wall } => self.keep_room(city_count::decide(
+                self.room, edge, wall,
+            )),
+            Call::Undo => self.keep_room(city_count::undo(self.room)),
+            Call::Ask => {
+                let mut buffer = [0u16; limits::BORDERS];
+                let answer = answers::of_answer(city_count::ask(self.room, &mut buffer));
+                self.say_plain(answer, &buffer)
+            }
         }
+    }
+
+    fn keep_room(&mut self, decided: Decided) -> io::Result<()> {
+        self.room = decided.room;
+        self.say(decided.code)
     }
 }

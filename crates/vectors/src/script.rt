@@ -1,65 +1,65 @@
-// The script on standard input: a call a line, `bd 00017 00002`: the record, the call, and two numbers of five digits.
-ghost use Rattle.std.specs.Prelude.{◌<◌};
+// The script on standard input: a call a line, `bd 00017 00002`: the letters of the record and of the call, and two numbers.
+use crate::{boards, cases, grids, puzzles, room_graphs, unions, waiting};
+use std::error::Error;
+use std::fmt;
+use std::str::FromStr;
 
-use std::io::{Read, Stdin};
-
-#[derive(Clone, Copy)]
-pub struct Command {
-    pub record: u8,
-    pub call: u8,
-    pub x: usize,
-    pub y: usize,
+#[derive(Clone, Copy, Debug)]
+pub enum Command {
+    Grid(grids::Call),
+    Case(cases::Call),
+    Waiting(waiting::Call),
+    Board(boards::Call),
+    Union(unions::Call),
+    Room(room_graphs::Call),
+    Puzzle(puzzles::Call),
+    End,
 }
 
-fn byte(line: &[u8], at: usize) -> u8 {
-    if at < line.len() {
-        return line[at];
-    }
-    0
+// Why a line is no call.
+#[derive(Clone, Copy, Debug, PartialEq, Eq)]
+pub enum BadLine {
+    Record,
+    Call,
+    Number,
 }
 
-// A digit's number; any other byte counts as 0.
-fn digit(x: u8) -> usize
-    ensures { result < 10 }
-{
-    if x < 48 {
-        return 0;
-    }
-    if 57 < x {
-        return 0;
-    }
-    (x - 48) as usize
-}
-
-fn number(line: &[u8], at: usize) -> usize
-    requires { at < 15 }
-{
-    10000 * digit(byte(line, at))
-        + 1000 * digit(byte(line, at + 1))
-        + 100 * digit(byte(line, at + 2))
-        + 10 * digit(byte(line, at + 3))
-        + digit(byte(line, at + 4))
-}
-
-fn parsed(line: &[u8]) -> Command {
-    Command {
-        record: byte(line, 0),
-        call: byte(line, 1),
-        x: number(line, 3),
-        y: number(line, 9),
+impl fmt::Display for BadLine {
+    fn fmt<W: fmt::Write>(&self, f: &mut fmt::Formatter<W>) -> fmt::Result {
+        f.write_str(match self {
+            BadLine::Record => "no such record",
+            BadLine::Call => "no such call",
+            BadLine::Number => "not two numbers",
+        })
     }
 }
 
-// The next call. Where the script has no whole line left its record is 0.
-pub fn next(input: Stdin) -> Command {
-    let mut line = [0u8; 15];
-    if (&input).read_exact(&mut line).is_err() {
-        return Command {
-            record: 0,
-            call: 0,
-            x: 0,
-            y: 0,
+impl Error for BadLine {}
+
+fn number(word: Option<&str>) -> Result<usize, BadLine> {
+    let word = word.ok_or(BadLine::Number)?;
+    word.parse::<usize>().or(Err(BadLine::Number))
+}
+
+impl FromStr for Command {
+    type Err = BadLine;
+
+    fn from_str(line: &str) -> Result<Command, BadLine> {
+        let mut words = line.split_whitespace();
+        let name = words.next().unwrap_or("");
+        let x = number(words.next())?;
+        let y = number(words.next())?;
+        let command = match name.as_bytes() {
+            [b'.'] => Some(Command::End),
+            [b'g', call] => grids::Call::new(*call, x, y).map(Command::Grid),
+            [b'c', call] => cases::Call::new(*call, x, y).map(Command::Case),
+            [b'l', call] => waiting::Call::new(*call, x).map(Command::Waiting),
+            [b'b', call] => boards::Call::new(*call, x, y).map(Command::Board),
+            [b'u', call] => unions::Call::new(*call, x, y).map(Command::Union),
+            [b'r', call] => room_graphs::Call::new(*call, x, y).map(Command::Room),
+            [b'p', call] => puzzles::Call::new(*call, x, y).map(Command::Puzzle),
+            _ => return Err(BadLine::Record),
         };
+        command.ok_or(BadLine::Call)
     }
-    parsed(&line)
 }

@@ -1,36 +1,57 @@
 // Calls on a union: make, find, unite, and its parents.
-use crate::say;
-use crate::script::Command;
-use std::io::Stdout;
-use union_find::UnionFind;
+use crate::desk::Desk;
+use crate::text::{Spaced, first};
+use std::io;
+use std::io::Write;
 
-fn make(out: Stdout, n: usize) -> UnionFind {
-    let made = union_find::new(n);
-    say::code(out, made.code);
-    made.union
+#[derive(Clone, Copy, Debug)]
+pub enum Call {
+    Make { vertices: usize },
+    Find { vertex: usize },
+    Unite { one: usize, other: usize },
+    Parents,
 }
 
-fn find(out: Stdout, u: UnionFind, x: usize) -> UnionFind {
-    let found = union_find::find(u, x);
-    say::pair(out, found.code, found.root);
-    found.union
+impl Call {
+    pub fn new(letter: u8, x: usize, y: usize) -> Option<Call> {
+        let call = match letter {
+            b'm' => Call::Make { vertices: x },
+            b'f' => Call::Find { vertex: x },
+            b'u' => Call::Unite { one: x, other: y },
+            b'p' => Call::Parents,
+            _ => return None,
+        };
+        Some(call)
+    }
 }
 
-fn unite(out: Stdout, u: UnionFind, x: usize, y: usize) -> UnionFind {
-    let d = union_find::unite(u, x, y);
-    say::pair(out, d.code, if d.united { 1 } else { 0 });
-    d.union
-}
-
-pub fn call(out: Stdout, u: UnionFind, c: Command) -> UnionFind {
-    let call = c.call;
-    match call {
-        b'm' => make(out, c.x),
-        b'f' => find(out, u, c.x),
-        b'u' => unite(out, u, c.x, c.y),
-        _ => {
-            say::listing(out, u.n, &u.parent, u.n);
-            u
+impl<W: Write + Drop> Desk<W> {
+    pub fn on_union(&mut self, call: Call) -> io::Result<()> {
+        match call {
+            Call::Make { vertices } => {
+                let made = union_find::new(vertices);
+                self.union = made.union;
+                self.say(made.code)
+            }
+            Call::Find { vertex } => {
+                let found = union_find::find(self.union, vertex);
+                self.union = found.union;
+                let code = found.code;
+                let root = found.root;
+                writeln!(self.out, "{code} {root}")
+            }
+            Call::Unite { one, other } => {
+                let united = union_find::unite(self.union, one, other);
+                self.union = united.union;
+                let code = united.code;
+                let joined = u8::from(united.united);
+                writeln!(self.out, "{code} {joined}")
+            }
+            Call::Parents => {
+                let n = self.union.n;
+                let parents = Spaced(first(&self.union.parent, n));
+                writeln!(self.out, "{n}{parents}")
+            }
         }
     }
 }
