@@ -32,7 +32,6 @@ use Rattle.demand_3.specs.Run.{puzzle_after, reply_to}
 use Rattle.demand_3.proofs.FaultLaws.{fault_most}
 use Rattle.puzzle.proofs.Ready.{ready, Ready}
 use Rattle.case_run.specs.CaseRun.{blank, check_line, ask_line, line_by, Counts, Turned}
-use Rattle.case_run.specs.declared.Turn.{Turn}
 use Rattle.case_run.proofs.LineLaws.{blank_length}
 
 -- an answer that is a fault
@@ -98,11 +97,8 @@ module _ (p : Puzzle) (a : Answer) (buf' : List ℕ) (q : a ≡ (ask_of p blank)
   pub refused_line : (n : ℕ) → a ≡ Refused n → line_of (line.Refused n) [] ≡ line_by p Ask
   refused_line n e = by_refused n e ∙ line_is
 
--- ONE CALL of each kind, as the call that it is
-pub turned_as : (p : Puzzle) (c d : Call) (t : Turn) (buf : List ℕ) {buf' : List ℕ} → c ≡ d → Turned t p d × (buf' ≡ sets buf 0 (line_by p d)) → Turned t p c × (buf' ≡ sets buf 0 (line_by p c))
-turned_as p c d t buf q e = rw q e
-
-pub asked_turn : (p : Puzzle) (buf : List ℕ) {r : ℕ} {buf' : List ℕ} → Counts r (line_by p Ask) × (buf' ≡ sets buf 0 (line_by p Ask))
-    → Turned (record { puzzle = p; len = r }) p Ask × (buf' ≡ sets buf 0 (line_by p Ask))
+-- AN ASK, as the call that it is: it leaves the puzzle
+pub asked_turn : (p : Puzzle) (c : Call) (buf : List ℕ) {r : ℕ} {buf' : List ℕ} → c ≡ Ask → Counts r (line_by p Ask) × (buf' ≡ sets buf 0 (line_by p Ask))
+    → Turned r p p c × (buf' ≡ sets buf 0 (line_by p c))
 unfolding puzzle_after
-asked_turn p buf e = (record { turned = ap (λ n. record { puzzle = p; len = n }) e.0.count; fits = e.0.fits }, e.1)
+asked_turn p c buf z e = rw z (record { turned = refl; count = e.0.count; fits = e.0.fits }, e.1)

@@ -31,9 +31,8 @@ use Rattle.case_file.specs.declared.Call.TheVariants.{Undo, Decide}
 use Rattle.lists.proofs.SetsLaws.{front}
 use Rattle.puzzle.specs.declared.Puzzle.{Puzzle}
 use Rattle.puzzle.specs.declared.Made.{Made}
-use Rattle.puzzle.specs.Puzzle.{decide_of, undo_of}
+use Rattle.puzzle.specs.Puzzle.{answer as made, decide_of, undo_of}
 use Rattle.demand_3.specs.Run.{puzzle_after, reply_to}
-use Rattle.case_run.specs.declared.Turn.{Turn}
 use Rattle.puzzle.specs.declared.Check.{Check}
 use Rattle.puzzle.specs.declared.Check.TheVariants.{Shape, Room}
 use Rattle.case_run.specs.CaseRun.{as_call, check_line, code_line, line_by, blank, Counts, Turned}
@@ -103,25 +102,24 @@ module _ (list : List ℕ) (fits : (i : ℕ) → Fits w16 (get_or list i 0)) (fe
       (record { count = w.0; fits = omega (arith, w.0, fault_short k) }, w.1)
 
 -- A DECIDE OR AN UNDO by what the puzzle answers
-turned : (p : Puzzle) (c : Call) (well : Line) (buf : List ℕ) (m d : Made) {r : ℕ} {buf' : List ℕ} → m ≡ d → puzzle_after p (as_call c) ≡ d.puzzle → line_by p c ≡ code_line well d.code
-    → Counts r (code_line well m.code) × (buf' ≡ sets buf 0 (code_line well m.code))
-    → Turned (record { puzzle = m.puzzle; len = r }) p c × (buf' ≡ sets buf 0 (line_by p c))
-turned p c well buf m d q x y e =
-    let l : code_line well m.code ≡ line_by p c = ap (λ (z : Made). code_line well z.code) q ∙ sym y in
-    let k = by_line (code_line well m.code) (line_by p c) buf l e in
-    (record { turned = turn_same (ap (λ (z : Made). z.puzzle) q ∙ sym x) k.0.count; fits = k.0.fits }, k.1)
-  where
-    turn_same : {a b : Puzzle} {i j : ℕ} → a ≡ b → i ≡ j → ◌≡◌ {A = Turn} (record { puzzle = a; len = i }) (record { puzzle = b; len = j })
-    turn_same u v = rw (u, v)
+turned : (p after : Puzzle) (c : Call) (well : Line) (buf : List ℕ) (code : ℕ) (d : Made) {r : ℕ} {buf' : List ℕ} → made code after ≡ d
+    → puzzle_after p (as_call c) ≡ d.puzzle → line_by p c ≡ code_line well d.code
+    → Counts r (code_line well code) × (buf' ≡ sets buf 0 (code_line well code))
+    → Turned r after p c × (buf' ≡ sets buf 0 (line_by p c))
+turned p after c well buf code d q x y e =
+    let l : code_line well code ≡ line_by p c = ap (λ (z : Made). code_line well z.code) q ∙ sym y in
+    let k = by_line (code_line well code) (line_by p c) buf l e in
+    (record { turned = ap (λ (z : Made). z.puzzle) q ∙ sym x; count = k.0.count; fits = k.0.fits }, k.1)
 
-pub coded_undo : (p : Puzzle) (buf : List ℕ) {m : Made} {r : ℕ} {buf' : List ℕ} → m ≡ undo_of p
-    → Counts r (code_line line.Undone m.code) × (buf' ≡ sets buf 0 (code_line line.Undone m.code))
-    → Turned (record { puzzle = m.puzzle; len = r }) p Undo × (buf' ≡ sets buf 0 (line_by p Undo))
+pub coded_undo : (p after : Puzzle) (c : Call) (buf : List ℕ) {code r : ℕ} {buf' : List ℕ} → c ≡ Undo → made code after ≡ undo_of p
+    → Counts r (code_line line.Undone code) × (buf' ≡ sets buf 0 (code_line line.Undone code))
+    → Turned r after p c × (buf' ≡ sets buf 0 (line_by p c))
 unfolding puzzle_after reply_to
-coded_undo p buf {m} q e = turned p Undo line.Undone buf m (undo_of p) q refl refl e
+coded_undo p after c buf {code} z q e = rw z (turned p after Undo line.Undone buf code (undo_of p) q refl refl e)
 
-pub coded_decide : (p : Puzzle) (border : ℕ) (wall : Bool) (buf : List ℕ) {m : Made} {r : ℕ} {buf' : List ℕ} → m ≡ decide_of p border wall
-    → Counts r (code_line line.Decided m.code) × (buf' ≡ sets buf 0 (code_line line.Decided m.code))
-    → Turned (record { puzzle = m.puzzle; len = r }) p (Decide border wall) × (buf' ≡ sets buf 0 (line_by p (Decide border wall)))
+pub coded_decide : (p after : Puzzle) (c : Call) (border : ℕ) (wall : Bool) (buf : List ℕ) {code r : ℕ} {buf' : List ℕ} → c ≡ Decide border wall
+    → made code after ≡ decide_of p border wall
+    → Counts r (code_line line.Decided code) × (buf' ≡ sets buf 0 (code_line line.Decided code))
+    → Turned r after p c × (buf' ≡ sets buf 0 (line_by p c))
 unfolding puzzle_after reply_to
-coded_decide p border wall buf {m} q e = turned p (Decide border wall) line.Decided buf m (decide_of p border wall) q refl refl e
+coded_decide p after c border wall buf {code} z q e = rw z (turned p after (Decide border wall) line.Decided buf code (decide_of p border wall) q refl refl e)

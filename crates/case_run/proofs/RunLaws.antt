@@ -19,7 +19,6 @@ use Rattle.limits.specs.Limits.{longest_line}
 use Rattle.lists.proofs.SetsLaws.{sets_append}
 use Rattle.puzzle.specs.declared.Puzzle.{Puzzle}
 use Rattle.demand_3.specs.Run.{puzzle_after, run, replies}
-use Rattle.case_run.specs.declared.Turn.{Turn}
 use Rattle.case_run.specs.declared.Ran.{Ran}
 use Rattle.case_run.specs.CaseRun.{as_call, calls_in, bytes_of, lines_of, run_of, printed_by, line_by, code_in, done_in, ran_of, Turned}
 
@@ -162,22 +161,20 @@ module _ {p : Puzzle} {bs : List ℕ} {at count : ℕ} {out₀ : List ℕ} {puzz
   pub stopped : None ≡ step_at next (call_of (drop next bs)) → Ended
   stopped q = ended (calls_none (count - done) (drop next bs) (step_unsound bs next q))
 
-  pub running_next : (c : Call) (behind : ℕ) (t : Turn) {out' : List ℕ} → done < count → Some (c, behind) ≡ step_at next (call_of (drop next bs)) → Turned t puzzle c
-      → out' ≡ sets out len (line_by puzzle c) → Running p bs at count out₀ t.puzzle behind (done + 1) (len + t.len) out'
-  running_next c behind t {out'} h q k e =
+  pub running_next : (c : Call) (behind : ℕ) (after : Puzzle) {line : ℕ} {out' : List ℕ} → done < count → Some (c, behind) ≡ step_at next (call_of (drop next bs)) → Turned line after puzzle c
+      → out' ≡ sets out len (line_by puzzle c) → Running p bs at count out₀ after behind (done + 1) (len + line) out'
+  running_next c behind after {line} {out'} h q k e =
       let s = stepped bs next behind c q in
       let n : count - done ≡ suc (count - (done + 1)) = omega arith in
       let cs = calls_in (count - (done + 1)) (drop behind bs) in
       let calls : calls_in (count - done) (drop next bs) ≡ c ∷ cs = ap (λ m. calls_in m (drop next bs)) n ∙ calls_some (count - (done + 1)) (drop next bs) (drop behind bs) c s.1 in
       let ran : ran_from puzzle next done len (c ∷ cs) ≡ ran_of 0 p at (calls_in count (drop at bs)) = rw calls at r.ran in
       let lines : sets out len (printed_by puzzle (c ∷ cs)) ≡ sets out₀ 0 (printed_by p (calls_in count (drop at bs))) = rw calls at r.lines in
-      let tp : t.puzzle ≡ puzzle_after puzzle (as_call c) = ap (λ (x : Turn). x.puzzle) k.turned in
-      let tl : t.len ≡ length (line_by puzzle c) = ap (λ (x : Turn). x.len) k.turned in
       record {
         long = ap length e ∙ length-sets out len (line_by puzzle c) ∙ r.long;
         room = r.room;
         within = omega arith;
         short = omega (arith, r.short, k.fits);
-        ran = ran_next puzzle c cs tp tl next behind done len s.0 ∙ ran;
-        lines = lines_next puzzle c cs tp tl out out' len e ∙ lines;
+        ran = ran_next puzzle c cs k.turned k.count next behind done len s.0 ∙ ran;
+        lines = lines_next puzzle c cs k.turned k.count out out' len e ∙ lines;
       }

@@ -21,7 +21,6 @@ use Rattle.puzzle.specs.Puzzle.{zero_puzzle, make_of}
 use Rattle.demand_3.specs.Run as puzzle
 use Rattle.demand_3.specs.Run.{puzzle_after, run, Reply, coded, asked, reply_to, replies}
 use Rattle.case_run.specs.declared.Opened.{Opened}
-use Rattle.case_run.specs.declared.Turn.{Turn}
 use Rattle.case_run.specs.declared.Ran.{Ran}
 
 -- THE PUZZLE of a file
@@ -104,20 +103,16 @@ printed_by p cs = lines_of cs (replies p (map as_call cs))
 abbrev pub line_by : Puzzle → Call → List ℕ
 line_by p c = reply_line (well_line c) (reply_to p (as_call c))
 
-abbrev pub turn : Puzzle → List ℕ → Turn
-turn p l = record { puzzle = p; len = length l }
-
-abbrev pub turn_of : Puzzle → Call → Turn
-turn_of p c = turn (puzzle_after p (as_call c)) (line_by p c)
-
 -- what the functions that write one line answer: how many bytes it has, and that they are no more than that
 pub record Counts (r : ℕ) (l : List ℕ) : Type 0 where
   pub count : r ≡ length l
   pub fits : r ≤ longest_line
 
-pub record Turned (r : Turn) (p : Puzzle) (c : Call) : Type 0 where
-  pub turned : r ≡ turn_of p c
-  pub fits : r.len ≤ longest_line
+-- the same of a call: what it leaves of the puzzle p, and its line
+pub record Turned (r : ℕ) (after p : Puzzle) (c : Call) : Type 0 where
+  pub turned : after ≡ puzzle_after p (as_call c)
+  pub count : r ≡ length (line_by p c)
+  pub fits : r ≤ longest_line
 
 -- the calls that a run with a buffer of so many places does: all, or none where some line may not fit
 abbrev pub done_in : ℕ → List ℕ → ℕ → List Call

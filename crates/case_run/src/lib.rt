@@ -7,13 +7,15 @@ ghost use Rattle.std.proofs.lemmas.List.Edits.{sets};
 ghost use Rattle.limits.specs.Limits.{most_entries, longest_line};
 ghost use Rattle.hand_over.specs.Sorted.{sorted_once};
 ghost use Rattle.case_file.specs.Sound.{decode_of};
-ghost use Rattle.case_file.specs.declared.Call.TheVariants.{Undo, Decide, Ask};
+ghost use Rattle.case_file.specs.declared.Call.TheVariants.{Ask};
+ghost use Rattle.answers.specs.Refusals.{code_of};
 ghost use Rattle.lines.specs.Line.{line_of};
 ghost use Rattle.case_run.specs.CaseRun.{opened_of, check_line, code_line, line_by, printed_by, code_in, done_in, ran_of, Counts, Turned};
 
+use answers::Refusal;
 use case_file::Call;
 use lines::Line;
-use puzzle::{Answer, Check, Puzzle};
+use puzzle::{Check, Fault, Puzzle};
 
 // A file's puzzle, its first call's byte, and how many calls it has; or zeros, and the number that refuses the file (11) or its puzzle.
 #[repr(C)]
@@ -23,13 +25,6 @@ pub struct Opened {
     pub puzzle: Puzzle,
     pub at: usize,
     pub count: usize,
-}
-
-// What a call left: the puzzle, and how many bytes its line has.
-#[derive(Clone, Copy)]
-pub struct Turn {
-    pub puzzle: Puzzle,
-    pub len: usize,
 }
 
 // What a list of calls left: the puzzle, the byte behind the last call, how many calls were done, and how many bytes their lines have;
@@ -50,7 +45,7 @@ fn unsound() -> Opened
 {
     let made = puzzle::make(0, 0, &[], &[]);
     Opened {
-        code: 11,
+        code: u8::from(Refusal::UnsoundFile),
         puzzle: made.puzzle,
         at: 0,
         count: 0,
@@ -101,16 +96,16 @@ fn bare_line(line: Line, out: &mut [u8]) -> usize
     lines::put_line(line, &[], out)
 }
 
-// The line of a decide or an undo, by its number.
-fn code_line(well: Line, code: u8, out: &mut [u8]) -> usize
+// The line of a decide or an undo, or of why it is refused.
+fn done_line(well: Line, done: Result<(), Refusal>, out: &mut [u8]) -> usize
     requires { longest_line ≤ length out.old }
-    ensures counts { Counts result (code_line well code) }
-    ensures out_after { out.new ≡ sets out.old 0 (code_line well code) }
+    ensures counts { Counts result (code_line well (code_of done)) }
+    ensures out_after { out.new ≡ sets out.old 0 (code_line well (code_of done)) }
 {
-    if code == 0 {
-        return bare_line(well, out);
+    match done {
+        Ok(()) => bare_line(well, out),
+        Err(refusal) => bare_line(Line::Refused(u8::from(refusal)), out),
     }
-    bare_line(Line::Refused(code), out)
 }
 
 // The kind of line that tells which check found a fault.
@@ -129,7 +124,7 @@ fn fault_line(check: Check, list: &[u16], out: &mut [u8]) -> usize
     ensures counts { Counts result (line_of (check_line check) (sorted_once list.now)) }
     ensures out_after { out.new ≡ sets out.old 0 (line_of (check_line check) (sorted_once list.now)) }
 {
-    let mut entries = [0u16; limits::ENTRIES];
+    let mut entries = [0; limits::ENTRIES];
     let Ok(n) = hand_over::hand_over(list, &mut entries) else {
         return 0;
     };
@@ -138,60 +133,30 @@ fn fault_line(check: Check, list: &[u16], out: &mut [u8]) -> usize
 }
 
 // The line of an ask.
-fn ask_line(p: Puzzle, out: &mut [u8]) -> usize
+fn ask_line(puzzle: &Puzzle, out: &mut [u8]) -> usize
     requires { longest_line ≤ length out.old }
-    ensures counts { Counts result (line_by p Ask) }
-    ensures out_after { out.new ≡ sets out.old 0 (line_by p Ask) }
+    ensures counts { Counts result (line_by puzzle.now Ask) }
+    ensures out_after { out.new ≡ sets out.old 0 (line_by puzzle.now Ask) }
 {
-    let mut list = [0u16; limits::ENTRIES];
-    match puzzle::ask(p, &mut list) {
-        Answer::Clear => bare_line(Line::Clear, out),
-        Answer::Fault(check, n) => fault_line(check, &list[..n], out),
-        Answer::Refused(code) => bare_line(Line::Refused(code), out),
-    }
+    let mut list = [0; limits::ENTRIES];
+    let line = match puzzle.ask(&mut list) {
+        Ok(Some(Fault { check, len })) => return fault_line(check, &list[..len], out),
+        Ok(None) => Line::Clear,
+        Err(refusal) => Line::Refused(u8::from(refusal)),
+    };
+    bare_line(line, out)
 }
 
-// An undo, and its line.
-fn undo_call(p: Puzzle, out: &mut [u8]) -> Turn
+// One call on a puzzle, and its line: it answers how many bytes this has.
+fn do_call(puzzle: &mut Puzzle, call: Call, out: &mut [u8]) -> usize
     requires { longest_line ≤ length out.old }
-    ensures turned { Turned result p Undo }
-    ensures out_after { out.new ≡ sets out.old 0 (line_by p Undo) }
-{
-    let made = puzzle::undo(p);
-    let len = code_line(Line::Undone, made.code, out);
-    Turn {
-        puzzle: made.puzzle,
-        len,
-    }
-}
-
-// A decide, and its line.
-fn decide_call(p: Puzzle, border: usize, wall: bool, out: &mut [u8]) -> Turn
-    requires { longest_line ≤ length out.old }
-    ensures turned { Turned result p (Decide border wall) }
-    ensures out_after { out.new ≡ sets out.old 0 (line_by p (Decide border wall)) }
-{
-    let made = puzzle::decide(p, border, wall);
-    let len = code_line(Line::Decided, made.code, out);
-    Turn {
-        puzzle: made.puzzle,
-        len,
-    }
-}
-
-// One call on a puzzle, and its line.
-fn do_call(p: Puzzle, call: Call, out: &mut [u8]) -> Turn
-    requires { longest_line ≤ length out.old }
-    ensures turned { Turned result p call }
-    ensures out_after { out.new ≡ sets out.old 0 (line_by p call) }
+    ensures turned { Turned result puzzle.new puzzle.old call }
+    ensures out_after { out.new ≡ sets out.old 0 (line_by puzzle.old call) }
 {
     match call {
-        Call::Undo => undo_call(p, out),
-        Call::Decide(border, wall) => decide_call(p, border, wall, out),
-        Call::Ask => {
-            let len = ask_line(p, out);
-            Turn { puzzle: p, len }
-        }
+        Call::Undo => done_line(Line::Undone, puzzle.undo(), out),
+        Call::Decide(border, wall) => done_line(Line::Decided, puzzle.decide(border, wall), out),
+        Call::Ask => ask_line(puzzle, out),
     }
 }
 
@@ -224,10 +189,8 @@ pub fn run_calls(file: &[u8], at: usize, count: usize, p: Puzzle, out: &mut [u8]
                 len,
             };
         };
-        let turn = do_call(puzzle, call, &mut out[len..]);
-        puzzle = turn.puzzle;
+        len += do_call(&mut puzzle, call, &mut out[len..]);
         next = behind;
-        len += turn.len;
     }
     Ran {
         code: 0,

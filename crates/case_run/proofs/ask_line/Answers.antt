@@ -1,41 +1,54 @@
 -- `case_run::ask_line` meets its contract: a line for each answer. Assumes nothing.
+use Rattle.std.proofs.Common.{◌≡◌, refl}
+use Rattle.answers.specs.Refusals.{number_of}
+use Rattle.puzzle.specs.declared.Answer.TheVariants.{Clear, Fault, Refused}
+use Rattle.puzzle.specs.Puzzle.{ask_of}
 use Rattle.case_run.specs.CaseRun.{blank}
 use Rattle.case_run.proofs.LineLaws.{by_line}
 use Rattle.case_run.proofs.AskLaws.{Filled, fault_part, clear_line, fault_line, refused_line}
+use Rattle.case_run.proofs.ask_line.Goals.{in-Ok-None, in-Err}
 use Rattle.case_run.proofs.ask_line.Goals as goal
 
 pub slice_bounds-list-end : goal.slice_bounds-list-end
 unfolding blank
 slice_bounds-list-end c =
-    let part : Filled c.in-Fault.n c.ask.new.buffer = let a = c.args in
-    fault_part a.p c.in-Fault.check c.in-Fault.n c.ask.result c.ask.new.buffer c.in-Fault.is c.ask.ensures.value c.ask.auto.buffer in
-    part.within
+    let f = c.in-Ok-Some.field-0-0 in
+    let q = rw c.in-Ok-Some.field-0-is at c.in-Ok-Some.ensures.value in
+    (fault_part c.args.puzzle.now f.check f.len (Fault f.check f.len) c.ask.new.buffer refl q c.ask.auto.buffer).within
 
 pub slice_bounds-fault_line-end : goal.slice_bounds-fault_line-end
 unfolding blank
 slice_bounds-fault_line-end c =
-    let part : Filled c.in-Fault.n c.ask.new.buffer = let a = c.args in
-    fault_part a.p c.in-Fault.check c.in-Fault.n c.ask.result c.ask.new.buffer c.in-Fault.is c.ask.ensures.value c.ask.auto.buffer in
-    part.long
+    let f = c.in-Ok-Some.field-0-0 in
+    let q = rw c.in-Ok-Some.field-0-is at c.in-Ok-Some.ensures.value in
+    (fault_part c.args.puzzle.now f.check f.len (Fault f.check f.len) c.ask.new.buffer refl q c.ask.auto.buffer).long
 
 pub fault_line-requires : goal.fault_line-requires
 unfolding blank
 fault_line-requires c =
-    let part : Filled c.in-Fault.n c.ask.new.buffer = let a = c.args in
-    fault_part a.p c.in-Fault.check c.in-Fault.n c.ask.result c.ask.new.buffer c.in-Fault.is c.ask.ensures.value c.ask.auto.buffer in
-    (part.few, c.requires)
+    let f = c.in-Ok-Some.field-0-0 in
+    let q = rw c.in-Ok-Some.field-0-is at c.in-Ok-Some.ensures.value in
+    ((fault_part c.args.puzzle.now f.check f.len (Fault f.check f.len) c.ask.new.buffer refl q c.ask.auto.buffer).few, c.requires)
 
-pub returns-in-Clear : goal.returns-in-Clear
+pub returns-in-Ok-Some : goal.returns-in-Ok-Some
 unfolding blank
-returns-in-Clear c =
-    let a = c.args in let w = by_line _ _ a.out.now (clear_line a.p c.ask.result c.ask.new.buffer c.ask.ensures.value c.ask.ensures.buffer_after c.in-Clear.is) (c.bare_line.ensures.counts, c.bare_line.ensures.out_after) in record { counts = w.0; out_after = w.1 }
+returns-in-Ok-Some c =
+    let f = c.in-Ok-Some.field-0-0 in
+    let q = rw c.in-Ok-Some.field-0-is at c.in-Ok-Some.ensures.value in
+    let e = fault_line c.args.puzzle.now (Fault f.check f.len) c.ask.new.buffer q c.ask.ensures.buffer_after f.check f.len refl in
+    let w = by_line _ _ c.args.out.now e (c.fault_line.ensures.counts, c.fault_line.ensures.out_after) in
+    record { counts = w.0; out_after = w.1 }
 
-pub returns-in-Fault : goal.returns-in-Fault
+pub returns : goal.returns
 unfolding blank
-returns-in-Fault c =
-    let a = c.args in let w = by_line _ _ a.out.now (fault_line a.p c.ask.result c.ask.new.buffer c.ask.ensures.value c.ask.ensures.buffer_after _ _ c.in-Fault.is) (c.fault_line.ensures.counts, c.fault_line.ensures.out_after) in record { counts = w.0; out_after = w.1 }
-
-pub returns-in-Refused : goal.returns-in-Refused
-unfolding blank
-returns-in-Refused c =
-    let a = c.args in let w = by_line _ _ a.out.now (refused_line a.p c.ask.result c.ask.new.buffer c.ask.ensures.value c.ask.ensures.buffer_after _ c.in-Refused.is) (c.bare_line-in-Refused.ensures.counts, c.bare_line-in-Refused.ensures.out_after) in record { counts = w.0; out_after = w.1 }
+returns c =
+    elim c.match-ask.branch [
+      | in-Ok-None w ↦ (let q = rw w.in-Ok-None.field-0-is at w.in-Ok-None.ensures.value in
+          let e = clear_line c.args.puzzle.now Clear c.ask.new.buffer q c.ask.ensures.buffer_after refl in
+          let x = by_line _ _ c.args.out.now e (rw w.line-is at c.bare_line.ensures.counts, rw w.line-is at c.bare_line.ensures.out_after) in
+          record { counts = x.0; out_after = x.1 })
+      | in-Err w ↦ (let k = number_of w.in-Err.refusal in
+          let e = refused_line c.args.puzzle.now (Refused k) c.ask.new.buffer w.in-Err.ensures.value c.ask.ensures.buffer_after k refl in
+          let x = by_line _ _ c.args.out.now e (rw (w.line-is, w.from.ensures) at c.bare_line.ensures.counts, rw (w.line-is, w.from.ensures) at c.bare_line.ensures.out_after) in
+          record { counts = x.0; out_after = x.1 })
+    ]

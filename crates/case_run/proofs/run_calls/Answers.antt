@@ -17,17 +17,17 @@ slice_bounds-do_call-count c = omega (arith, part_room c.loop-done.invariant c.l
 pub slice_bounds-do_call-start : goal.slice_bounds-do_call-start
 slice_bounds-do_call-start c = omega (arith, part_room c.loop-done.invariant c.loop-done-test.true)
 
-pub do_call-turn-requires : goal.do_call-turn-requires
-do_call-turn-requires c = part_long c.loop-done.invariant c.loop-done-test.true
+pub do_call-len-requires : goal.do_call-len-requires
+do_call-len-requires c = part_long c.loop-done.invariant c.loop-done-test.true
 
 pub overflow_add-len : goal.overflow_add-len
 overflow_add-len c =
-    omega (arith, part_room c.loop-done.invariant c.loop-done-test.true, c.loop-done.invariant.long, c.do_call-turn.ensures.turned.fits, c.well_formed.1.1.1.1.0)
+    omega (arith, part_room c.loop-done.invariant c.loop-done-test.true, c.loop-done.invariant.long, c.do_call-len.ensures.turned.fits, c.well_formed.1.1.1.1.0)
 
 pub loop-done-preserved : goal.loop-done-preserved
 loop-done-preserved c =
     let r = c.loop-done.invariant in
-    running_next r _ _ c.do_call-turn.result c.loop-done-test.true c.in-Some.ensures c.do_call-turn.ensures.turned (part_back r (line_by c.loop-done.puzzle c.in-Some.call) _ c.loop-done-test.true c.do_call-turn.ensures.out_after)
+    running_next r _ _ _ c.loop-done-test.true c.in-Some.ensures c.do_call-len.ensures.turned (part_back r (line_by c.loop-done.puzzle c.in-Some.call) _ c.loop-done-test.true c.do_call-len.ensures.out_after)
 
 pub returns-in_default : goal.returns-in_default
 returns-in_default c = let w = stopped c.loop-done.invariant (sym c.in_default.is ∙ c.call_at.ensures) in record { value = w.0; out_after = w.1.0; len_in_bounds = w.1.1 }
