@@ -15,14 +15,22 @@ use Rattle.grid.specs.Grid.{cells, Cell}
 use Rattle.grid.proofs.Geometry.{cells_le}
 use Rattle.board.specs.declared.Board.{Board}
 use Rattle.board.specs.Board.{size_of, board_code}
-use Rattle.answers.specs.declared.Listed.{Listed}
-use Rattle.answers.specs.declared.Listed.TheVariants as case
+use Rattle.std.specs.Prelude.{Result, Ok, Err}
+use Rattle.std.specs.Result.{result_unwrap_or}
+use Rattle.answers.specs.declared.Refusal.{Refusal}
+use Rattle.answers.specs.declared.Refusal.TheVariants.{Size, Record, Missing, Decided, NothingToUndo, ShortBuffer, Unsorted, ClueCount, LargeClue, NotJoined, UnsoundFile, ManyUndecided, ZeroSeed, Repeated}
+use Rattle.answers.specs.Refusals.{number_of, Lists as Answered}
+use Rattle.borders.specs.Fits.{Fits}
 use Rattle.path.specs.Path.{Lists, search, path_of}
 use Rattle.path.specs.Trace.{Traced, Asks, Fresh, Back, Walks}
 use Rattle.path.specs.Answer.{joined, path_outcome}
-use Rattle.answers.specs.Answers.{Outcome, refused, listed, list_of, listed_of, written}
+use Rattle.answers.specs.Answers.{Outcome, refused, listed, list_of, written}
 use Rattle.path.proofs.Found.{new_none, old_some}
 use Rattle.path.proofs.PathLaws.{ended, leads_nowhere, path_short}
+
+-- what a search asks
+pub asks : {g : Grid} {states : List ℕ} {start target : ℕ} → Fits g states → Cell g start × Cell g target → Asks g states start target
+asks f k = record { limits = f.limits; states_long = f.borders; start_cell = k.0; target_cell = k.1 }
 
 -- THE SEARCH'S ARRAYS
 
@@ -88,24 +96,38 @@ module _ {g : Grid} {states : List ℕ} {start target : ℕ} (a : Asks g states 
 -- THE ANSWER
 
 -- this answer, with this in the buffer, is what comes of o
-abbrev pub Gives : Outcome → List ℕ → Listed → List ℕ → Type 0
-Gives o buffer r buffer' = (r ≡ listed_of o) × (buffer' ≡ written o buffer)
+abbrev pub Gives : Outcome → List ℕ → Result ℕ Refusal → List ℕ → Type 0
+Gives o buffer r buffer' = Answered o r × (buffer' ≡ written o buffer)
 
-pub gives_number : (o : Outcome) (n : ℕ) (buffer : List ℕ) → o ≡ refused n → Gives o buffer (case.Refused n) buffer
-gives_number o n buffer q = rw q (refl, refl)
+pub gives_number : (o : Outcome) (e : Refusal) (buffer : List ℕ) → o ≡ refused (number_of e) → Gives o buffer (Err e) buffer
+gives_number o e buffer q = rw q (refl, refl)
 
-pub gives_list : (o : Outcome) (p : List ℕ) (n : ℕ) (buffer buffer' : List ℕ) → o ≡ listed p → (n ≡ length p) × (buffer' ≡ sets buffer 0 p) → Gives o buffer (case.List n) buffer'
-gives_list o p n buffer buffer' q k = rw q (ap case.List k.0, k.1)
+pub gives_list : (o : Outcome) (p : List ℕ) (n : ℕ) (buffer buffer' : List ℕ) → o ≡ listed p → (n ≡ length p) × (buffer' ≡ sets buffer 0 p) → Gives o buffer (Ok n) buffer'
+gives_list o p n buffer buffer' q k = rw (q, k.0) (refl, k.1)
+
+-- no refusal has the number 0
+numbered : (e : Refusal) → 0 < number_of e
+numbered Size = omega arith
+numbered Record = omega arith
+numbered Missing = omega arith
+numbered Decided = omega arith
+numbered NothingToUndo = omega arith
+numbered ShortBuffer = omega arith
+numbered Unsorted = omega arith
+numbered ClueCount = omega arith
+numbered LargeClue = omega arith
+numbered NotJoined = omega arith
+numbered UnsoundFile = omega arith
+numbered ManyUndecided = omega arith
+numbered ZeroSeed = omega arith
+numbered Repeated = omega arith
 
 -- the same as a list and its length, of which there is none where nothing was found
-module _ (buffer buffer' : List ℕ) (r : Listed) where
-  pub length_told : (o : Option (List ℕ)) (n : ℕ) → Gives (joined o) buffer r buffer' → r ≡ case.List n → (n ≡ length (list_of o)) × (buffer' ≡ sets buffer 0 (list_of o))
-  length_told none n k q = absurd (let z : ◌≡◌ {A = ℕ} 0 1 = cc in omega arith)
-  length_told (some p) n k q = (cc, k.1)
-
-  pub nothing_told : (o : Option (List ℕ)) (n : ℕ) → Gives (joined o) buffer r buffer' → r ≡ case.Refused n → (0 ≡ length (list_of o)) × (buffer' ≡ sets buffer 0 (list_of o))
-  nothing_told none n k q = (refl, k.1)
-  nothing_told (some p) n k q = absurd (let z : ◌≡◌ {A = ℕ} 0 1 = cc in omega arith)
+pub length_told : (o : Option (List ℕ)) (r : Result ℕ Refusal) (buffer buffer' : List ℕ) → Gives (joined o) buffer r buffer' → (result_unwrap_or r 0 ≡ length (list_of o)) × (buffer' ≡ sets buffer 0 (list_of o))
+length_told none (Ok n) buffer buffer' k = absurd (let z : ◌≡◌ {A = ℕ} 0 10 = cc in omega arith)
+length_told none (Err e) buffer buffer' k = (refl, k.1)
+length_told (some p) (Ok n) buffer buffer' k = (cc, k.1)
+length_told (some p) (Err e) buffer buffer' k = absurd (let z : number_of e ≡ 0 = cc in omega (arith, numbered e))
 
 -- THE QUESTIONS IN THEIR ORDER
 

@@ -3,7 +3,7 @@ pub mod Found
 pub mod Search
 pub mod PathLaws
 pub mod Agreement
-pub mod Trace
+pub mod Looks
 pub mod Loop
 pub mod Walk
 pub mod Answers

@@ -19,7 +19,7 @@ use Rattle.path.specs.Path.{Lists, Search, is_new, look_all, look_round, search_
 use Rattle.path.specs.Trace.{Traced, Kept, Looking, LooksFrom, Follows, Asks, Fresh}
 use Rattle.path.proofs.Found.{Found, blank_set, blank_all, none_at, marked_cases}
 use Rattle.path.proofs.Search.{Searching, taken, starts}
-use Rattle.path.proofs.Trace.{slice_more}
+use Rattle.path.proofs.Looks.{slice_more}
 
 pub record Going (g : Grid) (states : List ℕ) (start target : ℕ) (f e q : List ℕ) (head tail : ℕ) : Type 0 where
   pub s : Search

@@ -15,10 +15,11 @@ use Rattle.limits.specs.Limits.{most_cells, most_borders}
 use Rattle.lists.proofs.Cases.{eq_or_ne}
 use Rattle.grid.specs.declared.Direction.{Direction}
 use Rattle.grid.specs.declared.Direction.TheVariants.{Up}
-use Rattle.grid.specs.declared.Beyond.{Beyond}
-use Rattle.grid.specs.declared.Beyond.TheVariants.{At}
+use Rattle.std.specs.Prelude as std
+use Rattle.grid.specs.declared.Neighbour.{Neighbour}
+use Rattle.grid.specs.Neighbours.{neighbour_in}
 use Rattle.grid.specs.declared.Grid.{Grid}
-use Rattle.grid.specs.Grid.{cells, Cell, Limits, goes_on, next, border, step_of}
+use Rattle.grid.specs.Grid.{cells, Cell, Limits, goes_on, next, border}
 use Rattle.grid.specs.Steps.{Step}
 use Rattle.grid.proofs.Geometry.{goes_step, border_lt, border_count_le, cells_le}
 use Rattle.borders.specs.Entry.{entry_of}
@@ -26,7 +27,7 @@ use Rattle.borders.specs.Border.{state_of, state_at, stands}
 use Rattle.path.specs.Path.{Search, is_new, mark, finds, look, looks}
 use Rattle.path.specs.Trace.{blank, Traced, Looking, LooksFrom, Follows}
 use Rattle.path.proofs.Found.{blank_set, new_none, marked_cases}
-use Rattle.grid.proofs.Told.{at_told}
+use Rattle.grid.proofs.Told.{some_told}
 
 -- one more at the queue's end
 pub slice_more : (f t : ℕ) (q : List ℕ) (x : ℕ) → f ≤ t → t < length q → slice f t q ++ (x ∷ []) ≡ slice f (t + 1) (set q t x)
@@ -115,9 +116,9 @@ module _ {g : Grid} {states : List ℕ} {c : ℕ} {f e q : List ℕ} {t : ℕ} (
   look_end z = nothing (λ p head s k. rw z)
 
   -- x lies beyond the border b
-  module _ {r : Beyond} {x b : ℕ} (is : r ≡ step_of g d c) (at : r ≡ At x b) where
+  module _ {r : std.Option Neighbour} {x b : ℕ} (is : r ≡ neighbour_in g d c) (at : r ≡ std.Some (record { cell = x; border = b })) where
     told : (goes_on g d c ≡ true) × (x ≡ next g d c) × (b ≡ border g d c)
-    told = at_told g d c is at
+    told = some_told g d c is at
 
     there : Step g d c x b
     there = rw (told.1, told.2) (goes_step g d c v.cell told.0)

@@ -1,23 +1,23 @@
--- `path::walk_back` meets its contract: the invariant `Walking`, one law of `Walk` for the start, a turn and the end. Assumes nothing.
+-- `path::Trace::walk_back` meets its contract: the invariant `Walking`, one law of `Walk` for the start, a turn and the end. Assumes nothing.
 use Prim.Native.Nat.{◌<◌}
 use native.Mathlib.Omega.{arith}
 use lib.ListN.{length}
 use Rattle.limits.specs.Limits.{most_cells}
 use Rattle.path.proofs.Walk.{walking_start, walking_fits, walking_on, walking_end}
-use Rattle.path.proofs.walk_back.Goals as goal
+use Rattle.path.proofs.Trace.walk_back.Goals as goal
 
 pub loop-cell-init : goal.loop-cell-init
 loop-cell-init c = walking_start c.requires
 
-pub offset_bounds-entries-cell : goal.offset_bounds-entries-cell
-offset_bounds-entries-cell c =
+pub offset_bounds-self-cell : goal.offset_bounds-self-cell
+offset_bounds-self-cell c =
     let fits : (c.loop-cell.cell < most_cells) × (c.loop-cell.n < length c.loop-cell.buffer) = walking_fits c.loop-cell.invariant c.loop-cell-test.true in
     omega (arith, fits.0)
 
-pub bounds-entries-cell : goal.bounds-entries-cell
-bounds-entries-cell c =
+pub bounds-self-cell : goal.bounds-self-cell
+bounds-self-cell c =
     let fits : (c.loop-cell.cell < most_cells) × (c.loop-cell.n < length c.loop-cell.buffer) = walking_fits c.loop-cell.invariant c.loop-cell-test.true in
-    omega (arith, fits.0, c.requires.entries_long)
+    omega (arith, fits.0)
 
 pub offset_bounds-buffer-n : goal.offset_bounds-buffer-n
 offset_bounds-buffer-n c =
@@ -34,15 +34,15 @@ overflow_add-n c =
     let fits : (c.loop-cell.cell < most_cells) × (c.loop-cell.n < length c.loop-cell.buffer) = walking_fits c.loop-cell.invariant c.loop-cell-test.true in
     omega (arith, fits.1, c.loop-cell.invariant.long)
 
-pub offset_bounds-finders-cell : goal.offset_bounds-finders-cell
-offset_bounds-finders-cell c =
+pub offset_bounds-self-cell-in-loop-cell : goal.offset_bounds-self-cell-in-loop-cell
+offset_bounds-self-cell-in-loop-cell c =
     let fits : (c.loop-cell.cell < most_cells) × (c.loop-cell.n < length c.loop-cell.buffer) = walking_fits c.loop-cell.invariant c.loop-cell-test.true in
     omega (arith, fits.0)
 
-pub bounds-finders-cell : goal.bounds-finders-cell
-bounds-finders-cell c =
+pub bounds-self-cell-in-loop-cell : goal.bounds-self-cell-in-loop-cell
+bounds-self-cell-in-loop-cell c =
     let fits : (c.loop-cell.cell < most_cells) × (c.loop-cell.n < length c.loop-cell.buffer) = walking_fits c.loop-cell.invariant c.loop-cell-test.true in
-    omega (arith, fits.0, c.requires.finders_long)
+    omega (arith, fits.0)
 
 pub loop-cell-smaller : goal.loop-cell-smaller
 loop-cell-smaller c =

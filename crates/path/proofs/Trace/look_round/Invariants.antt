@@ -1,0 +1,9 @@
+-- `path::Trace::look_round` meets its contract: at each turn the arrays have followed the looks in the directions before. Assumes nothing.
+use Rattle.grid.specs.Orders.{around}
+use Rattle.path.proofs.Looks.{Round}
+use Rattle.path.proofs.Trace.look_round.Given as goal
+
+abbrev pub invariant-loop-direction : goal.invariant-loop-direction
+invariant-loop-direction l =
+    let s = l.initial.self in
+    Round l.b.grid l.b.states.now l.cell around s.finders s.entries s.queue s.tail l.direction-index l.self.finders l.self.entries l.self.queue l.self.tail
