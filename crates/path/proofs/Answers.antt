@@ -2,14 +2,17 @@
 use Prim.Native.Nat.{ℕ, ◌*◌, ◌≤◌, ◌<◌}
 use mathlib.Core.Path.{◌≡◌, refl, ap, sym, ◌∙◌}
 use mathlib.Core.Logic.{◌≢◌, ⊎_elim}
+use mathlib.Core.Bool.{Bool, true, false}
 use mathlib.Core.List.{List, [], ◌∷◌}
+use lib.Dec.{eqb, ltb, leb}
 use mathlib.Core.Option.{Option, none, some, none-ne-some}
 use native.Mathlib.Omega.{arith}
-use borrow.Author.Tests.{eq-eqb, ne_eqb, lt-ltb, le-ltb, le-leb, lt-leb}
+use borrow.Author.Tests.{eq-eqb, ne_eqb, lt-ltb, le-leb}
 use lib.ListN.{get_or, length, replicate, length-replicate, get_or-replicate, get_or-eq_default}
 use lib.Seq.{sets}
 use Rattle.limits.specs.Limits.{most_cells}
-use Rattle.lists.proofs.Cases.{le_or_lt}
+use Rattle.lists.specs.Choice.{both, pick}
+use Rattle.lists.proofs.Cases.{le_or_lt, eq_or_ne}
 use Rattle.grid.specs.declared.Grid.{Grid}
 use Rattle.grid.specs.Grid.{cells, Cell}
 use Rattle.grid.proofs.Geometry.{cells_le}
@@ -17,6 +20,8 @@ use Rattle.board.specs.declared.Board.{Board}
 use Rattle.board.specs.Board.{size_of, board_code}
 use Rattle.std.specs.Prelude.{Result, Ok, Err}
 use Rattle.std.specs.Result.{result_unwrap_or}
+use Rattle.answers.specs.declared.Plain.{Plain}
+use Rattle.answers.specs.declared.Listed.TheVariants as case
 use Rattle.answers.specs.declared.Refusal.{Refusal}
 use Rattle.answers.specs.declared.Refusal.TheVariants.{Size, Record, Missing, Decided, NothingToUndo, ShortBuffer, Unsorted, ClueCount, LargeClue, NotJoined, UnsoundFile, ManyUndecided, ZeroSeed, Repeated}
 use Rattle.answers.specs.Refusals.{number_of, Lists as Answered}
@@ -24,7 +29,7 @@ use Rattle.borders.specs.Fits.{Fits}
 use Rattle.path.specs.Path.{Lists, search, path_of}
 use Rattle.path.specs.Trace.{Traced, Asks, Fresh, Back, Walks}
 use Rattle.path.specs.Answer.{joined, path_outcome}
-use Rattle.answers.specs.Answers.{Outcome, refused, listed, list_of, written}
+use Rattle.answers.specs.Answers.{Outcome, refused, clear, listed, list_of, listed_of, written}
 use Rattle.path.proofs.Found.{new_none, old_some}
 use Rattle.path.proofs.PathLaws.{ended, leads_nowhere, path_short}
 
@@ -124,33 +129,51 @@ numbered Repeated = omega arith
 
 -- the same as a list and its length, of which there is none where nothing was found
 pub length_told : (o : Option (List ℕ)) (r : Result ℕ Refusal) (buffer buffer' : List ℕ) → Gives (joined o) buffer r buffer' → (result_unwrap_or r 0 ≡ length (list_of o)) × (buffer' ≡ sets buffer 0 (list_of o))
-length_told none (Ok n) buffer buffer' k = absurd (let z : ◌≡◌ {A = ℕ} 0 10 = cc in omega arith)
+length_told none (Ok n) buffer buffer' k = absurd (let z : ◌≡◌ {A = ℕ} 0 10 = ap (λ (p : Plain). p.code) k.0 in omega arith)
 length_told none (Err e) buffer buffer' k = (refl, k.1)
-length_told (some p) (Ok n) buffer buffer' k = (cc, k.1)
-length_told (some p) (Err e) buffer buffer' k = absurd (let z : number_of e ≡ 0 = cc in omega (arith, numbered e))
+length_told (some p) (Ok n) buffer buffer' k = (ap (λ (p : Plain). p.length) k.0, k.1)
+length_told (some p) (Err e) buffer buffer' k = absurd (let z : number_of e ≡ 0 = ap (λ (p : Plain). p.code) k.0 in omega (arith, numbered e))
 
--- THE QUESTIONS IN THEIR ORDER
+-- A CALL that no question before the search refuses
 
 module _ (b : Board) (start target room code : ℕ) (q : code ≡ board_code b) where
-  pub refused_record : code ≢ 0 → path_outcome b start target room ≡ refused code
-  unfolding path_outcome
-  refused_record z = rw (← q, ne_eqb code 0 z)
-
   module _ (z : code ≡ 0) where
-    pub refused_start : cells (size_of b) ≤ start → path_outcome b start target room ≡ refused 3
-    unfolding path_outcome
-    refused_start h = rw (← q, z, le-ltb start (cells (size_of b)) h)
-
     module _ (s : start < cells (size_of b)) where
-      pub refused_target : cells (size_of b) ≤ target → path_outcome b start target room ≡ refused 3
-      unfolding path_outcome
-      refused_target h = rw (← q, z, lt-ltb start (cells (size_of b)) s, le-ltb target (cells (size_of b)) h)
-
       module _ (t : target < cells (size_of b)) where
-        pub refused_buffer : room < 9 * cells (size_of b) → path_outcome b start target room ≡ refused 6
-        unfolding path_outcome
-        refused_buffer h = rw (← q, z, lt-ltb start (cells (size_of b)) s, lt-ltb target (cells (size_of b)) t, lt-leb (9 * cells (size_of b)) room h)
-
         pub answered : 9 * cells (size_of b) ≤ room → path_outcome b start target room ≡ joined (path_of (size_of b) b.book.states start target)
         unfolding path_outcome
         answered h = rw (← q, z, lt-ltb start (cells (size_of b)) s, lt-ltb target (cells (size_of b)) t, le-leb (9 * cells (size_of b)) room h)
+
+-- no question has the number 0
+not_first : (n : ℕ) (o : Outcome) → o ≢ refused 0 → pick (eqb n 0) o (refused n) ≢ refused 0
+not_first n o h q =
+    ⊎_elim
+    (λ (z : n ≡ 0). h (rw z at q))
+    (λ (z : n ≢ 0). z (let w : refused n ≡ refused 0 = rw (ne_eqb n 0 z) at q in cc))
+    (eq_or_ne n 0)
+
+not_either : (t : Bool) (a b : Outcome) → a ≢ refused 0 → b ≢ refused 0 → pick t a b ≢ refused 0
+not_either true a b h k = h
+not_either false a b h k = k
+
+not_joined : (o : Option (List ℕ)) → joined o ≢ refused 0
+not_joined none q = absurd (let z : ◌≡◌ {A = ℕ} 10 0 = cc in omega arith)
+not_joined (some p) q = absurd (let z : ◌≡◌ {A = ℕ} 0 1 = cc in omega arith)
+
+numbered_outcome : (b : Board) (start target room : ℕ) → path_outcome b start target room ≢ refused 0
+unfolding path_outcome
+numbered_outcome b start target room =
+    let n = cells (size_of b) in
+    not_first (board_code b) _
+    (not_either (both (ltb start n) (ltb target n)) _ _
+    (not_either (leb (9 * n) room) _ _ (not_joined (path_of (size_of b) b.book.states start target)) (λ q. let z : ◌≡◌ {A = ℕ} 6 0 = cc in omega arith))
+    (λ q. let z : ◌≡◌ {A = ℕ} 3 0 = cc in omega arith))
+
+-- as a number
+list_told : (o : Outcome) (n : ℕ) → o ≢ refused 0 → Answered o (Ok n) → case.List n ≡ listed_of o
+list_told (refused k) n h q = absurd (h (ap refused (ap (λ (p : Plain). p.code) (sym q))))
+list_told clear n h q = ap case.List (ap (λ (p : Plain). p.length) q)
+list_told (listed l) n h q = ap case.List (ap (λ (p : Plain). p.length) q)
+
+pub path_told : (b : Board) (start target room n : ℕ) → Answered (path_outcome b start target room) (Ok n) → case.List n ≡ listed_of (path_outcome b start target room)
+path_told b start target room n = list_told (path_outcome b start target room) n (numbered_outcome b start target room)

@@ -98,12 +98,7 @@ impl Trace {
 }
 
 // The path list of two cells, written to the buffer's first places; refused where no Connected borders join them.
-fn list(
-    b: Borders<'_>,
-    start: usize,
-    target: usize,
-    buffer: &mut [u16],
-) -> Result<usize, Refusal>
+fn list(b: Borders<'_>, start: usize, target: usize, buffer: &mut [u16]) -> Result<usize, Refusal>
     requires cells { Cell b.grid start × Cell b.grid target }
     requires width_in_bounds { b.grid.height * b.grid.width ≤ length buffer.old }
     ensures value { Lists (joined (path_of b.entry.grid b.entry.states.now start target)) result }
@@ -132,3 +127,33 @@ pub fn list_joined(b: Borders<'_>, start: usize, target: usize, buffer: &mut [u1
     list(b, start, target, buffer).unwrap_or(0)
 }
 
+// The path list of two cells of a board: the entries from the target back to the start.
+#[tactic(auto, unfolding(crate::specs::Answer::path_outcome))]
+pub fn between(b: &Board, start: usize, target: usize, buffer: &mut [u16]) -> Result<usize, Refusal>
+    ensures value { Lists (path_outcome b.now start target (length buffer.old)) result }
+    ensures buffer_after { buffer.new ≡ written (path_outcome b.now start target (length buffer.old)) buffer.old }
+{
+    b.check()?;
+    let cells = b.grid.cell_count();
+    if cells <= start {
+        return Err(Refusal::Missing);
+    }
+    if cells <= target {
+        return Err(Refusal::Missing);
+    }
+    if buffer.len() < 9 * cells {
+        return Err(Refusal::ShortBuffer);
+    }
+    list(b.borders(), start, target, buffer)
+}
+
+// For callers that still hand in a record and take a refusal's number.
+pub fn reason_for_path(b: Board, start: usize, target: usize, buffer: &mut [u16]) -> Listed
+    ensures value { result ≡ listed_of (path_outcome b start target (length buffer.old)) }
+    ensures buffer_after { buffer.new ≡ written (path_outcome b start target (length buffer.old)) buffer.old }
+{
+    match between(&b, start, target, buffer) {
+        Ok(length) => Listed::List(length),
+        Err(refusal) => Listed::Refused(u8::from(refusal)),
+    }
+}

@@ -10,19 +10,16 @@ use Rattle.path.proofs.list.Goals as goal
 pub search_from-requires : goal.search_from-requires
 search_from-requires c = record { cells = c.requires.cells; fresh = fresh }
 
-pub offset_bounds-finders-target : goal.offset_bounds-finders-target
-offset_bounds-finders-target c = omega (arith, c.requires.cells.1, cells_le _ c.args.b.fits.limits)
+pub bounds-trace-target : goal.bounds-trace-target
+bounds-trace-target c = omega (arith, c.requires.cells.1, cells_le _ c.args.b.fits.limits)
 
-pub bounds-finders-target : goal.bounds-finders-target
-bounds-finders-target c = omega (arith, c.requires.cells.1, cells_le _ c.args.b.fits.limits)
-
-pub returns-then-finders-target-eq-NEW : goal.returns-then-finders-target-eq-NEW
-returns-then-finders-target-eq-NEW c = let w = gives_number _ NotJoined c.args.buffer.now (ap joined (not_found (asks c.args.b.fits c.requires.cells) c.search_from.ensures c.if-finders-target-eq-NEW.true)) in record { value = w.0; buffer_after = w.1 }
+pub returns-then-trace-target-eq-NEW : goal.returns-then-trace-target-eq-NEW
+returns-then-trace-target-eq-NEW c = let w = gives_number _ NotJoined c.args.buffer.now (ap joined (not_found (asks c.args.b.fits c.requires.cells) c.search_from.ensures c.if-trace-target-eq-NEW.true)) in record { value = w.0; buffer_after = w.1 }
 
 pub walk_back-requires : goal.walk_back-requires
 walk_back-requires c =
-    walks (asks c.args.b.fits c.requires.cells) c.search_from.ensures c.if-finders-target-eq-NEW.false c.args.buffer.now c.requires.width_in_bounds
+    walks (asks c.args.b.fits c.requires.cells) c.search_from.ensures c.if-trace-target-eq-NEW.false c.args.buffer.now c.requires.width_in_bounds
 
 pub returns : goal.returns
 returns c =
-    let o = found (asks c.args.b.fits c.requires.cells) c.search_from.ensures c.if-finders-target-eq-NEW.false in let w = gives_list _ o.0 _ c.args.buffer.now _ (ap joined o.1) (c.walk_back.ensures o.0 (found_back (asks c.args.b.fits c.requires.cells) c.search_from.ensures c.if-finders-target-eq-NEW.false)) in record { value = w.0; buffer_after = w.1 }
+    let o = found (asks c.args.b.fits c.requires.cells) c.search_from.ensures c.if-trace-target-eq-NEW.false in let w = gives_list _ o.0 _ c.args.buffer.now _ (ap joined o.1) (c.walk_back.ensures o.0 (found_back (asks c.args.b.fits c.requires.cells) c.search_from.ensures c.if-trace-target-eq-NEW.false)) in record { value = w.0; buffer_after = w.1 }

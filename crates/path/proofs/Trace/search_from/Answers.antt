@@ -1,28 +1,18 @@
 -- `path::Trace::search_from` meets its contract: the invariant `Going`, one law of `Loop` for the start, a turn and each of the two ends. Assumes nothing.
-use mathlib.Core.Path.{sym, ◌∙◌}
 use native.Mathlib.Omega.{arith}
 use Rattle.grid.proofs.Geometry.{cells_le}
 use Rattle.path.proofs.Answers.{asks}
 use Rattle.path.proofs.Loop.{going_start, going_end, going_found, going_look, going_on, head_fits}
 use Rattle.path.proofs.Trace.search_from.Goals as goal
 
-pub offset_bounds-finders-start : goal.offset_bounds-finders-start
-offset_bounds-finders-start c = omega (arith, (asks c.args.b.fits c.requires.cells).start_cell, cells_le _ (asks c.args.b.fits c.requires.cells).limits)
-
-pub bounds-finders-start : goal.bounds-finders-start
-bounds-finders-start c = omega (arith, (asks c.args.b.fits c.requires.cells).start_cell, cells_le _ (asks c.args.b.fits c.requires.cells).limits, c.requires.fresh.finders_long)
-
-pub bounds-queue-0 : goal.bounds-queue-0
-bounds-queue-0 c = omega (arith, c.requires.fresh.queue_long)
+pub bounds-self-start : goal.bounds-self-start
+bounds-self-start c = omega (arith, (asks c.args.b.fits c.requires.cells).start_cell, cells_le _ (asks c.args.b.fits c.requires.cells).limits, c.requires.fresh.finders_long)
 
 pub loop-head-init : goal.loop-head-init
 loop-head-init c = going_start (asks c.args.b.fits c.requires.cells) c.requires.fresh
 
-pub offset_bounds-queue-head : goal.offset_bounds-queue-head
-offset_bounds-queue-head c = omega (arith, head_fits (asks c.args.b.fits c.requires.cells) c.loop-head.invariant c.loop-head-test.true)
-
-pub bounds-queue-head : goal.bounds-queue-head
-bounds-queue-head c =
+pub bounds-self-head : goal.bounds-self-head
+bounds-self-head c =
     omega (arith, c.loop-head.invariant.kept.queue_long, head_fits (asks c.args.b.fits c.requires.cells) c.loop-head.invariant c.loop-head-test.true)
 
 pub returns-then-cell-target : goal.returns-then-cell-target
