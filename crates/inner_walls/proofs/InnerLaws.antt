@@ -11,70 +11,70 @@ use lib.Seq.{sets}
 use Rattle.limits.specs.Limits.{most_borders}
 use Rattle.lists.specs.Choice.{give}
 use Rattle.grid.specs.declared.Direction.{Direction}
-use Rattle.grid.specs.declared.Beyond.{Beyond}
-use Rattle.grid.specs.declared.Beyond.TheVariants.{At}
+use Rattle.std.specs.Prelude.{Option, Some, None}
+use Rattle.grid.specs.declared.Neighbour.{Neighbour}
+use Rattle.grid.specs.Neighbours.{neighbour_in}
+use Rattle.borders.specs.Fits.{Fits}
 use Rattle.grid.specs.declared.Grid.{Grid}
-use Rattle.grid.specs.Grid.{Cell, cells, step_of}
+use Rattle.grid.specs.Grid.{Cell, cells}
 use Rattle.grid.specs.Steps.{Step}
 use Rattle.grid.proofs.Geometry.{goes_step, border_lt, border_count_le}
 use Rattle.borders.specs.Entry.{wall_entry}
 use Rattle.borders.specs.Border.{state_at, stands}
 use Rattle.path.specs.Path.{path_list}
-use Rattle.path.specs.Trace.{Asks}
 use Rattle.path.proofs.PathLaws.{path_list_short}
-use Rattle.grid.proofs.Told.{at_told, end_told}
+use Rattle.grid.proofs.Told.{some_told, none_told}
 use Rattle.shape.specs.Shape.{inner_at}
-use Rattle.answers.specs.declared.Found.TheVariants.{Nothing, Fault}
-use Rattle.answers.specs.Answers.{Told}
+use Rattle.answers.specs.Answers.{Finds}
 use Rattle.inner_walls.specs.Asked.{Asked}
-use Rattle.inner_walls.proofs.FoundLaws.{told_nothing}
+use Rattle.inner_walls.proofs.FindLaws.{finds_none}
 
 -- an entry behind a list
 sets_last : (xs b : List ℕ) (at x : ℕ) → sets b at (xs ++ (x ∷ [])) ≡ set (sets b at xs) (at + length xs) x
 sets_last [] b at x = let q : at + 0 ≡ at = omega arith in rw q
 sets_last (y ∷ xs) b at x = let q : at + suc (length xs) ≡ suc at + length xs = omega arith in rw q (sets_last xs (set b at y) (suc at) x)
 
-module _ {g : Grid} {states ids b : List ℕ} (a : Asked g states ids b) {c : ℕ} (cell : Cell g c) (d : Direction) {r : Beyond} (is : r ≡ step_of g d c) where
-  pub at_end : ((x e : ℕ) → r ≡ At x e → ⊥) → Told (inner_at g states ids c d) b b Nothing
+module _ {g : Grid} {states ids b : List ℕ} (f : Fits g states) (a : Asked g ids b) {c : ℕ} (cell : Cell g c) (d : Direction) {r : Option Neighbour} (is : r ≡ neighbour_in g d c) where
+  pub at_end : r ≡ None → Finds (inner_at g states ids c d) b b None
   unfolding inner_at give stands
-  at_end k = told_nothing (rw (end_told g d c is k))
+  at_end k = finds_none (rw (none_told g d c is k))
 
-  module _ {n e : ℕ} (at : r ≡ At n e) where
+  module _ {n e : ℕ} (at : r ≡ Some (record { cell = n; border = e })) where
     there : Step g d c n e
-    there = let t = at_told g d c is at in rw (t.1, t.2) (goes_step g d c cell t.0)
+    there = let t = some_told g d c is at in rw (t.1, t.2) (goes_step g d c cell t.0)
 
     pub border_fits : e < length states
-    border_fits = omega (arith, border_lt g d c n e there, a.states_long)
+    border_fits = omega (arith, border_lt g d c n e there, f.borders)
 
     pub border_small : e < most_borders
-    border_small = omega (arith, border_lt g d c n e there, border_count_le g a.limits)
+    border_small = omega (arith, border_lt g d c n e there, border_count_le g f.limits)
 
     pub next_fits : n < length ids
     next_fits = omega (arith, there.cell', a.ids_long)
 
-    pub asks : Asks g states c n
-    asks = record { limits = a.limits; states_long = a.states_long; start_cell = cell; target_cell = there.cell' }
+    pub two_cells : Cell g c × Cell g n
+    two_cells = (cell, there.cell')
 
-    pub no_wall : get_or states e 0 ≢ 2 → Told (inner_at g states ids c d) b b Nothing
+    pub no_wall : get_or states e 0 ≢ 2 → Finds (inner_at g states ids c d) b b None
     unfolding inner_at give stands state_at
-    no_wall z = let t = at_told g d c is at in told_nothing (rw (t.0, ← t.2, ne_eqb (get_or states e 0) 2 z))
+    no_wall z = let t = some_told g d c is at in finds_none (rw (t.0, ← t.2, ne_eqb (get_or states e 0) 2 z))
 
     module _ (wall : get_or states e 0 ≡ 2) where
-      pub two_units : get_or ids c 0 ≢ get_or ids n 0 → Told (inner_at g states ids c d) b b Nothing
+      pub two_units : get_or ids c 0 ≢ get_or ids n 0 → Finds (inner_at g states ids c d) b b None
       unfolding inner_at give stands state_at
       two_units z =
-          let t = at_told g d c is at in
-          told_nothing (rw (t.0, ← t.2, wall, ← t.1, ne_eqb (get_or ids c 0) (get_or ids n 0) z))
+          let t = some_told g d c is at in
+          finds_none (rw (t.0, ← t.2, wall, ← t.1, ne_eqb (get_or ids c 0) (get_or ids n 0) z))
 
       module _ {k : ℕ} (long : k ≡ length (path_list g states c n)) where
         pub short : k < cells g
         short = omega (arith, path_list_short g states c n cell)
 
         pub wall_found : {b' : List ℕ} → get_or ids c 0 ≡ get_or ids n 0 → b' ≡ sets b 0 (path_list g states c n)
-            → Told (inner_at g states ids c d) b (set b' k (2 * e + 1)) (Fault (k + 1))
+            → Finds (inner_at g states ids c d) b (set b' k (2 * e + 1)) (Some (k + 1))
         unfolding inner_at give stands state_at
         wall_found same stored =
-            let t = at_told g d c is at in
+            let t = some_told g d c is at in
             let p : List ℕ = path_list g states c n in
             let found : inner_at g states ids c d ≡ some (p ++ (wall_entry e ∷ [])) = rw (t.0, ← t.2, wall, ← t.1, eq-eqb (get_or ids c 0) (get_or ids n 0) same) in
             rw found

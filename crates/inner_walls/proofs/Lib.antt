@@ -1,2 +1,2 @@
-pub mod FoundLaws
+pub mod FindLaws
 pub mod InnerLaws

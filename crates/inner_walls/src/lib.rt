@@ -6,71 +6,60 @@ ghost use Rattle.lists.specs.Lists.{first};
 ghost use Rattle.grid.specs.Orders.{forward};
 ghost use Rattle.grid.specs.Grid.{Cell};
 ghost use Rattle.shape.specs.Shape.{inner_at, inner_wall};
-ghost use Rattle.answers.specs.Answers.{Told};
+ghost use Rattle.answers.specs.Answers.{Finds};
 ghost use Rattle.inner_walls.specs.Asked.{Asked};
 
-use answers::Found;
-use grid::{Beyond, Direction, Grid};
+use borders::Borders;
+use grid::{Direction, Neighbour};
 
 // The Wall that a cell has in a direction, if it lies inside a unit: the path between its cells, and then that Wall.
-fn inner_at<'a>(
-    g: Grid,
-    states: &'a [u8],
-    ids: &'a [u16],
+fn inner_at(
+    b: Borders<'_>,
+    ids: &[u16],
     cell: usize,
     direction: Direction,
     buffer: &mut [u16],
-) -> Found
-    requires asked { Asked g states.now ids.now buffer.old }
-    requires cell { Cell g cell }
-    ensures { Told (inner_at g states.now ids.now cell direction) buffer.old buffer.new result }
+) -> Option<usize>
+    requires asked { Asked b.grid ids.now buffer.old }
+    requires cell { Cell b.grid cell }
+    ensures { Finds (inner_at b.entry.grid b.entry.states.now ids.now cell direction) buffer.old buffer.new result }
 {
-    let Beyond::At(next, border) = grid::step(g, cell, direction) else {
-        return Found::Nothing;
-    };
+    let Borders { grid, states, .. } = b;
+    let Neighbour { cell: next, border } = grid.step(cell, direction)?;
     if states[border] != 2 {
-        return Found::Nothing;
+        return None;
     }
     if ids[cell] != ids[next] {
-        return Found::Nothing;
+        return None;
     }
-    let n = path::list_joined(g, states, cell, next, buffer);
+    let n = path::list_joined(b, cell, next, buffer);
     buffer[n] = borders::entry(border, true);
-    Found::Fault(n + 1)
+    Some(n + 1)
 }
 
 // A cell's Walls: down before right.
-fn inner_cell<'a>(
-    g: Grid,
-    states: &'a [u8],
-    ids: &'a [u16],
-    cell: usize,
-    buffer: &mut [u16],
-) -> Found
-    requires asked { Asked g states.now ids.now buffer.old }
-    requires cell { Cell g cell }
-    ensures { Told (first (inner_at g states.now ids.now cell) forward) buffer.old buffer.new result }
+fn inner_cell(b: Borders<'_>, ids: &[u16], cell: usize, buffer: &mut [u16]) -> Option<usize>
+    requires asked { Asked b.grid ids.now buffer.old }
+    requires cell { Cell b.grid cell }
+    ensures { Finds (first (inner_at b.entry.grid b.entry.states.now ids.now cell) forward) buffer.old buffer.new result }
 {
-    let down = inner_at(g, states, ids, cell, Direction::Down, buffer);
-    if let Found::Fault(n) = down {
-        return Found::Fault(n);
+    for direction in grid::FORWARD {
+        if let Some(n) = inner_at(b, ids, cell, direction, buffer) {
+            return Some(n);
+        }
     }
-    inner_at(g, states, ids, cell, Direction::Right, buffer)
+    None
 }
 
 // All cells, row by row.
-pub fn inner_wall<'a>(g: Grid, states: &'a [u8], ids: &'a [u16], buffer: &mut [u16]) -> Found
-    requires { Asked g states.now ids.now buffer.old }
-    ensures { Told (inner_wall g states.now ids.now) buffer.old buffer.new result }
+pub fn inner_wall(b: Borders<'_>, ids: &[u16], buffer: &mut [u16]) -> Option<usize>
+    requires { Asked b.grid ids.now buffer.old }
+    ensures { Finds (inner_wall b.entry.grid b.entry.states.now ids.now) buffer.old buffer.new result }
 {
-    let n = g.height * g.width;
-    let mut cell = 0;
-    while cell < n {
-        let f = inner_cell(g, states, ids, cell, buffer);
-        if let Found::Fault(len) = f {
-            return Found::Fault(len);
+    for cell in 0..b.grid.cell_count() {
+        if let Some(n) = inner_cell(b, ids, cell, buffer) {
+            return Some(n);
         }
-        cell += 1;
     }
-    Found::Nothing
+    None
 }

@@ -1,13 +1,25 @@
--- `inner_walls::inner_cell` meets its contract: the first of two that finds a fault. Assumes nothing.
-use Rattle.lists.specs.Lists.{first}
-use Rattle.inner_walls.proofs.FoundLaws.{first_told, next_told, or_else_none}
+-- `inner_walls::inner_cell` meets its contract: the directions passed found nothing. Assumes nothing.
+use mathlib.Core.Path.{ap}
+use native.Mathlib.Omega.{arith}
+use lib.ListN.{length}
+use Rattle.inner_walls.proofs.FindLaws.{searched_none, search_fault, search_on, search_over}
 use Rattle.inner_walls.proofs.inner_cell.Goals as goal
 
-pub returns-in-Fault : goal.returns-in-Fault
-unfolding first
-returns-in-Fault c = first_told _ _ c.inner_at-down.ensures c.in-Fault.is
+pub loop-direction-init : goal.loop-direction-init
+loop-direction-init c = searched_none _ _ _ _
+
+pub inner_at-requires : goal.inner_at-requires
+inner_at-requires c =
+    let e = ap length c.loop-direction.invariant.same in
+    record { asked = record { ids_long = c.requires.asked.ids_long; room = omega (arith, c.requires.asked.room) }; cell = c.requires.cell }
+
+pub returns-in-Some : goal.returns-in-Some
+returns-in-Some c =
+    search_fault _ _ _ c.loop-direction.invariant (omega arith) c.inner_at.ensures c.in-Some.is
+
+pub loop-direction-preserved : goal.loop-direction-preserved
+loop-direction-preserved c =
+    search_on _ _ _ c.loop-direction.invariant (omega arith) c.inner_at.ensures c.in_default.is
 
 pub returns : goal.returns
-unfolding first
-returns c =
-    rw (or_else_none _) (next_told c.inner_at-down.ensures c.in_default.is c.inner_at.ensures)
+returns c = search_over _ _ _ c.loop-direction.invariant (omega arith)
