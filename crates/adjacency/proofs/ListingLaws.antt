@@ -20,11 +20,12 @@ use Rattle.borders.specs.Border.{stands}
 use Rattle.borders.proofs.BorderLaws.{stands_step}
 use Rattle.boundary.specs.Boundary.{ahead}
 use Rattle.groups.specs.Groups.{cells_of}
+use Rattle.groups.specs.Lent.{InTurn}
 use Rattle.groups.specs.Info.{end_of, group_part}
 use Rattle.groups.proofs.GroupLaws.{in_cells}
 use Rattle.groups.proofs.InfoLaws.{end_next}
 use Rattle.shape.specs.Shape.{behind, parted, wall_to}
-use Rattle.adjacency.specs.Adjacency.{Looks, Noted, Looked, Written, Unmarked, Listed, Listing, Adjacency, Marking}
+use Rattle.adjacency.specs.Adjacency.{Looks, Noted, Looked, Written, Unmarked, Listed, Room, Adjacency, Marking}
 
 -- ONE POTENTIAL UNIT
 
@@ -87,14 +88,11 @@ pub record Progress (g : Grid) (states pids : List ℕ) (count : ℕ) (first : L
   pub starts_long : length starts ≡ length starts₀
   pub list_long : length list ≡ length list₀
 
-module _ {g : Grid} {states pids : List ℕ} {count : ℕ} {first flat marks₀ starts₀ list₀ : List ℕ} (w : Listing g states pids count first flat marks₀ starts₀ list₀) where
+module _ {g : Grid} (states : List ℕ) {pids : List ℕ} {count : ℕ} {first flat marks₀ starts₀ list₀ : List ℕ} (turns : InTurn g pids count first flat) (w : Room g count marks₀ starts₀ list₀) where
   -- the first list begins at place 0
-  pub listing_first : Listing g states pids count first flat marks₀ (set starts₀ 0 0) list₀
-  listing_first =
+  pub first_room : Room g count marks₀ (set starts₀ 0 0) list₀
+  first_room =
       record {
-        limits = w.limits;
-        states_long = w.states_long;
-        turns = w.turns;
         marks_long = w.marks_long;
         starts_long = simp length-set w.starts_long;
         list_long = w.list_long;
@@ -125,9 +123,9 @@ module _ {g : Grid} {states pids : List ℕ} {count : ℕ} {first flat marks₀ 
         list_long = refl;
       }
 
-  module _ {marks starts list : List ℕ} {len p : ℕ} (a : At marks starts list len p) (h : p < count) {cs : List ℕ} (cells_are : cs ≡ group_part (cells g) count first flat p) where
-    own_cells : cs ≡ cells_of g pids p
-    own_cells = cells_are ∙ (w.turns.between p h).are
+  module _ {marks starts list : List ℕ} {len p : ℕ} (a : At marks starts list len p) (h : p < count) {cs : List ℕ} (own_cells : cs ≡ cells_of g pids p) where
+    cells_are : cs ≡ group_part (cells g) count first flat p
+    cells_are = own_cells ∙ sym (turns.between p h).are
 
     to : ℕ
     to = end_of (cells g) count first p
@@ -135,9 +133,9 @@ module _ {g : Grid} {states pids : List ℕ} {count : ℕ} {first flat marks₀ 
     how_many : get_or first p 0 + length cs ≡ to
     unfolding to
     how_many =
-        let b = w.turns.between p h in
+        let b = turns.between p h in
         let l : length cs ≡ end_of (cells g) count first p - get_or first p 0 =
-        ap length cells_are ∙ length-take-le (end_of (cells g) count first p - get_or first p 0) (drop (get_or first p 0) flat) (simp length-drop (omega (arith, b.within, w.turns.flat_long))) in
+        ap length cells_are ∙ length-take-le (end_of (cells g) count first p - get_or first p 0) (drop (get_or first p 0) flat) (simp length-drop (omega (arith, b.within, turns.flat_long))) in
         omega (arith, b.some)
 
     pub on_board_lem : (i : ℕ) → i < length cs → Cell g (get_or cs i 0)
@@ -145,15 +143,13 @@ module _ {g : Grid} {states pids : List ℕ} {count : ℕ} {first flat marks₀ 
         let z : i < length (cells_of g pids p) = rw own_cells at l in
         rw own_cells (in_cells g pids p (get_or (cells_of g pids p) i 0) (get_d_in 0 (cells_of g pids p) i z)).0
 
-    pub looks : Looks g states pids (4 * length cs) marks list len
+    pub looks : Looks g pids (4 * length cs) marks list len
     unfolding to
     looks =
         record {
-          limits = w.limits;
-          states_long = w.states_long;
-          pids_long = w.turns.ids_long;
-          small = λ c l. omega (arith, w.turns.small c l, w.marks_long, a.marks_long);
-          room = omega (arith, how_many, a.next_room h, (w.turns.between p h).within, w.list_long, a.list_long);
+          pids_long = turns.ids_long;
+          small = λ c l. omega (arith, turns.small c l, w.marks_long, a.marks_long);
+          room = omega (arith, how_many, a.next_room h, (turns.between p h).within, w.list_long, a.list_long);
         }
 
     module _ {marks' list' : List ℕ} {len' : ℕ} (l : Listed (parted g states pids cs) (4 * length cs) marks list len marks' list' len') where
@@ -197,7 +193,7 @@ module _ {g : Grid} {states pids : List ℕ} {count : ℕ} {first flat marks₀ 
                 let lower : k ≤ p = omega arith in
                 omega (arith, old k lower, new, a.lists.within k lower, a.end, l.more))
                 (eq_or_ne k (p + 1));
-            fits = unfold to in omega (arith, new, upto, (w.turns.between p h).within, w.list_long, a.list_long, l.list_long);
+            fits = unfold to in omega (arith, new, upto, (turns.between p h).within, w.list_long, a.list_long, l.list_long);
             has = λ k q z t.
                 ⊎_elim
                 (λ (e : k ≡ p). let r : parted g states pids (cells_of g pids k) q ≡ true → Has k q = rw e (has_new q) in r t)
@@ -228,7 +224,7 @@ module _ {g : Grid} {states pids : List ℕ} {count : ℕ} {first flat marks₀ 
             lists = all_lists;
             end = new;
             next_room = λ z. omega (arith, upto, end_next (cells g) count first p z);
-            room = omega (arith, upto, (w.turns.between p h).within);
+            room = omega (arith, upto, (turns.between p h).within);
             clear = l.clear;
             marks_long = l.marks_long ∙ a.marks_long;
             starts_long = simp length-set a.starts_long;

@@ -1,5 +1,5 @@
 -- Marks that are written by a list, and those of adjacent potential units. Assumes nothing.
-use Prim.Native.Nat.{ℕ, ◌+◌, ◌≤◌, ◌<◌}
+use Prim.Native.Nat.{ℕ, ◌+◌, ◌-◌, ◌≤◌, ◌<◌}
 use mathlib.Core.Path.{◌≡◌, refl, ap, sym, ◌∙◌}
 use mathlib.Core.Logic.{◌≢◌, ⊎_elim}
 use mathlib.Core.Bool.{Bool, true, false}
@@ -7,8 +7,8 @@ use mathlib.Core.List.{List}
 use native.Mathlib.Omega.{arith}
 use borrow.Author.Tests.{eqb-true, eq-eqb, ne_eqb, not-false}
 use lib.Dec.{eqb}
-use lib.ListN.{get_or, length, set, length-set, get_or-eq_default}
-use lib.Seq.{get_or-set_same, get_or-set_other}
+use lib.ListN.{get_or, length, set, take, drop, length-set, length-drop, get_or-eq_default}
+use lib.Seq.{get_or-set_same, get_or-set_other, get_or-take, get_or-drop, length-take-le}
 use Rattle.lists.specs.Choice.{either}
 use Rattle.lists.proofs.Cases.{eq_or_ne, le_or_lt, true_or_false, not_both}
 use Rattle.grid.specs.declared.Grid.{Grid}
@@ -33,6 +33,33 @@ module _ (list : List ℕ) (from mark : ℕ) (marks : List ℕ) where
             (eq_or_ne (get_or list j 0) x);
         other = λ q n. get_or-set_other marks' x q mark 0 (λ z. n i l (omega arith) (sym e ∙ sym z)) ∙ w.other q (λ j a b. n j a (omega arith));
         long = simp length-set w.long;
+      }
+
+-- what is written by a part of the list
+module _ (list : List ℕ) {from to : ℕ} (h : from ≤ to) (l : to ≤ length list) where
+  part_long : length (take (to - from) (drop from list)) ≡ to - from
+  part_long = length-take-le (to - from) (drop from list) (simp length-drop (omega arith))
+
+  part_at : (i : ℕ) → i < to - from → get_or (take (to - from) (drop from list)) i 0 ≡ get_or list (from + i) 0
+  part_at i k = get_or-take (to - from) (drop from list) i 0 k ∙ get_or-drop from list i 0
+
+  pub part_small : {n : ℕ} → ((i : ℕ) → from ≤ i → i < to → get_or list i 0 < n) → (i : ℕ) → i < length (take (to - from) (drop from list))
+      → get_or (take (to - from) (drop from list)) i 0 < n
+  part_small s i k =
+      let j : i < to - from = rw part_long at k in rw (part_at i j) (s (from + i) (omega arith) (omega arith))
+
+  pub part_written : {mark : ℕ} {marks marks' : List ℕ} → Written (take (to - from) (drop from list)) 0 (length (take (to - from) (drop from list))) mark marks marks'
+      → Written list from to mark marks marks'
+  part_written w =
+      record {
+        here = λ i a b.
+            let j : i - from < to - from = omega arith in
+            let e : from + (i - from) ≡ i = omega arith in
+            rw (part_at (i - from) j, e) at (w.here (i - from) (omega arith) (rw part_long j));
+        other = λ q n.
+            w.other q
+            (λ i a b z. let j : i < to - from = rw part_long at b in n (from + i) (omega arith) (omega arith) (sym (part_at i j) ∙ z));
+        long = w.long;
       }
 
 module _ (g : Grid) (states pids : List ℕ) (p q : ℕ) where

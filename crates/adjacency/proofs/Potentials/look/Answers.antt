@@ -1,0 +1,45 @@
+-- `adjacency::Potentials::look` meets its contract: one law of `LookLaws` for each way out. Assumes nothing.
+use Prim.Native.Nat.{◌<◌}
+use native.Mathlib.Omega.{arith}
+use lib.ListN.{length}
+use Rattle.adjacency.proofs.LookLaws.{at_end, border_fits, cell_fits, no_wall, unit_small, marked_before, found}
+use Rattle.adjacency.proofs.Potentials.look.Goals as goal
+
+pub returns-in_default : goal.returns-in_default
+returns-in_default c = at_end c.args.self.borders.fits c.requires.looks c.requires.cell _ c.step.ensures c.in_default.not-Some
+
+pub bounds-states-border : goal.bounds-states-border
+bounds-states-border c =
+    border_fits c.args.self.borders.fits c.requires.looks c.requires.cell _ c.step.ensures c.in-Some.is
+
+pub returns-then-states-border-ne2 : goal.returns-then-states-border-ne2
+returns-then-states-border-ne2 c =
+    no_wall c.args.self.borders.fits c.requires.looks c.requires.cell _ c.step.ensures c.in-Some.is c.if-states-border-ne2.true
+
+pub offset_bounds-self-next : goal.offset_bounds-self-next
+offset_bounds-self-next c =
+    let next_fits : (c.in-Some.field-0.cell < length c.args.self.groups.ids.now) = cell_fits c.args.self.borders.fits c.requires.looks c.requires.cell _ c.step.ensures c.in-Some.is in
+    omega (arith, next_fits)
+
+pub bounds-self-next : goal.bounds-self-next
+bounds-self-next c =
+    let next_fits : (c.in-Some.field-0.cell < length c.args.self.groups.ids.now) = cell_fits c.args.self.borders.fits c.requires.looks c.requires.cell _ c.step.ensures c.in-Some.is in
+    next_fits
+
+pub bounds-marks-at : goal.bounds-marks-at
+bounds-marks-at c =
+    let unit-fits : c.from-at.result < length c.args.marks.now = unit_small c.args.self.borders.fits c.requires.looks c.requires.cell _ c.step.ensures c.in-Some.is c.from-at.ensures in
+    unit-fits
+
+pub returns-then-marks-at-ne0 : goal.returns-then-marks-at-ne0
+returns-then-marks-at-ne0 c =
+    marked_before c.args.self.borders.fits c.requires.looks c.requires.cell _ c.step.ensures c.in-Some.is c.from-at.ensures c.if-states-border-ne2.false c.if-marks-at-ne0.true
+
+pub bounds-marks-at-2 : goal.bounds-marks-at-2
+bounds-marks-at-2 c =
+    let unit-fits : c.from-at.result < length c.args.marks.now = unit_small c.args.self.borders.fits c.requires.looks c.requires.cell _ c.step.ensures c.in-Some.is c.from-at.ensures in
+    unit-fits
+
+pub returns : goal.returns
+returns c =
+    found c.args.self.borders.fits c.requires.looks c.requires.cell _ c.step.ensures c.in-Some.is c.from-at.ensures c.if-states-border-ne2.false
