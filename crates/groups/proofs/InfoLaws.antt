@@ -5,10 +5,10 @@ use mathlib.Core.Logic.{◌≢◌}
 use mathlib.Core.Bool.{Bool, true, false}
 use mathlib.Core.List.{List, []}
 use native.Mathlib.Omega.{arith}
-use borrow.Author.Tests.{lt-ltb, le-ltb, le-leb, lt-leb, eq-eqb, ne_eqb, ltb-true, leb-true, eqb-true}
+use borrow.Author.Tests.{lt-ltb, le-ltb, le-leb, eq-eqb, ne_eqb, ltb-true, leb-true, eqb-true}
 use lib.Dec.{eqb, ltb, leb}
 use lib.ListN.{get_or, length, take}
-use lib.Seq.{sets, length-take-le}
+use lib.Seq.{length-take-le}
 use Rattle.std.proofs.lemmas.List.{get_or-take}
 use Rattle.limits.specs.Limits.{most_cells}
 use Rattle.lists.specs.Choice.{pick}
@@ -22,10 +22,8 @@ use Rattle.board.specs.declared.Board.{Board}
 use Rattle.board.specs.Board.{size_of, board_code}
 use Rattle.board.proofs.Laws.{board_ready}
 use Rattle.groups.specs.declared.GroupInfo.{GroupInfo}
-use Rattle.groups.specs.Groups.{group_ids, group_count}
-use Rattle.groups.specs.Turn.{in_turn}
 use Rattle.groups.specs.Lent.{Lent, Grouped, Slot}
-use Rattle.groups.specs.Info.{blank_places, grouping, zero_info, info_of, grouping_code, grouping_of, buffer_of, end_of, starts_rise, groups_exist, info_together, info_code, group_part, hand_out_of, hand_out_code, hand_out_start, address_of}
+use Rattle.groups.specs.Info.{blank_places, grouping, info_of, grouping_code, grouping_of, end_of, starts_rise, groups_exist, info_together, info_code, group_part, hand_out_of, hand_out_code, hand_out_start, address_of}
 
 -- A LOOP THAT TESTS ALL NUMBERS BELOW n
 
@@ -98,21 +96,9 @@ abbrev pub info : Grid → ℕ → List ℕ → List ℕ → GroupInfo
 info g count ids starts = record { grid = g; count = count; ids = ids; starts = starts }
 
 module _ (b : Board) (p : Bool) {code : ℕ} (told : code ≡ board_code b) where
-  pub grouping_refused : (places : ℕ) → code ≢ 0 → grouping code zero_info ≡ grouping_of b p places
-  grouping_refused places z = rw (← told, ne_eqb code 0 z, ne_eqb code 0 z)
-
-  pub buffer_refused : (buffer : List ℕ) → code ≢ 0 → buffer ≡ buffer_of b p buffer
-  buffer_refused buffer z = rw (← told, ne_eqb code 0 z, ne_eqb code 0 z)
-
   module _ (z : code ≡ 0) where
     pub sizes_fit : Limits (size_of b)
     sizes_fit = (board_ready b code told z).limits
-
-    pub grouping_short : (places : ℕ) → places < cells (size_of b) → grouping 6 zero_info ≡ grouping_of b p places
-    grouping_short places h = rw (← told, z, lt-leb (cells (size_of b)) places h)
-
-    pub buffer_short : (buffer : List ℕ) → length buffer < cells (size_of b) → buffer ≡ buffer_of b p buffer
-    buffer_short buffer h = rw (← told, z, lt-leb (cells (size_of b)) (length buffer) h)
 
     module _ (places : ℕ) (h : cells (size_of b) ≤ places) where
       accepted : grouping_code b places ≡ 0
@@ -127,10 +113,6 @@ module _ (b : Board) (p : Bool) {code : ℕ} (told : code ≡ board_code b) wher
         → info b.grid count ids' starts' ≡ info_of (size_of b) b.book.states p
     info_is e f w = rw (w.count_is, w.ids_are, w.starts_are, e, f)
 
-    pub buffer_is : (buffer buffer' : List ℕ) → cells (size_of b) ≤ length buffer
-        → buffer' ≡ sets buffer 0 (in_turn (cells (size_of b)) (group_ids (size_of b) b.book.states p) (group_count (size_of b) b.book.states p)) → buffer' ≡ buffer_of b p buffer
-    buffer_is buffer buffer' h e = e ∙ rw (accepted (length buffer) h)
-
 -- QUESTIONS 1 AND 2 OF A GROUP RECORD
 
 pub record Holds (i : GroupInfo) : Type 0 where
@@ -140,27 +122,6 @@ pub record Holds (i : GroupInfo) : Type 0 where
   pub exist : groups_exist (cells i.grid) i.count i.ids ≡ true
 
 module _ (i : GroupInfo) where
-  pub info_no_size : {t : Bool} → t ≡ sizes_ok i.grid → t ≡ false → 1 ≡ info_code i
-  info_no_size e z = rw (← e, z)
-
-  module _ {t : Bool} (e : t ≡ sizes_ok i.grid) (z : t ≡ true) where
-    pub info_limits : Limits i.grid
-    info_limits = limits i.grid (sym e ∙ z)
-
-    pub too_many : cells i.grid < i.count → 2 ≡ info_code i
-    too_many h = rw (← e, z, lt-leb i.count (cells i.grid) h)
-
-    module _ (h : i.count ≤ cells i.grid) {r : Bool} (f : r ≡ starts_rise (cells i.grid) i.count i.starts) where
-      pub not_rising : r ≡ false → 2 ≡ info_code i
-      not_rising q = rw (← e, z, le-leb i.count (cells i.grid) h, ← f, q)
-
-      module _ (q : r ≡ true) {s : Bool} (g : s ≡ groups_exist (cells i.grid) i.count i.ids) where
-        pub not_existing : s ≡ false → 2 ≡ info_code i
-        not_existing k = rw (← e, z, le-leb i.count (cells i.grid) h, ← f, q, ← g, k)
-
-        pub together : s ≡ true → 0 ≡ info_code i
-        together k = rw (← e, z, le-leb i.count (cells i.grid) h, ← f, q, ← g, k)
-
   pub holds : info_code i ≡ 0 → Holds i
   holds = go (sizes_ok i.grid) refl (info_together (cells i.grid) i.count i.ids i.starts) refl
     where
@@ -211,9 +172,6 @@ refused_part i buffer k p z =
     addressed x y = (x, y)
 
 module _ (i : GroupInfo) (buffer : List ℕ) (k : ℕ) (p : ℕ × ℕ) {code : ℕ} (told : code ≡ info_code i) where
-  pub hand_out_refused : code ≢ 0 → Handed i buffer k p [] p
-  hand_out_refused z = refused_part i buffer k p (rw (← told, ne_eqb code 0 z) z)
-
   module _ (z : code ≡ 0) where
     pub info_holds : Holds i
     info_holds = holds i (sym told ∙ z)
@@ -222,9 +180,6 @@ module _ (i : GroupInfo) (buffer : List ℕ) (k : ℕ) (p : ℕ × ℕ) {code : 
     no_group h = refused_part i buffer k p (rw (← told, z, le-ltb k i.count h) (omega arith))
 
     module _ (h : k < i.count) where
-      pub hand_out_short : length buffer < cells i.grid → Handed i buffer k p [] p
-      hand_out_short l = refused_part i buffer k p (rw (← told, z, lt-ltb k i.count h, lt-leb (cells i.grid) (length buffer) l) (omega arith))
-
       module _ (l : cells i.grid ≤ length buffer) where
         pub handed_slot : i.count ≤ length i.starts → Slot i.grid i.starts buffer i.count k
         handed_slot long =

@@ -1,9 +1,11 @@
 -- The group record, and what grouping and hand-out answer (SPEC 1.10, 4.1 and 4.2, with questions 1, 2, 3 and 6). Assumes nothing.
-use Rattle.std.specs.Prelude.{ℕ, ◌+◌, ◌-◌, ◌*◌, Bool, List, [], eqb, ltb, leb, get_or, length, take, drop, replicate}
+use Rattle.std.specs.Prelude.{ℕ, ◌+◌, ◌-◌, ◌*◌, Bool, List, [], eqb, ltb, leb, get_or, length, take, drop, replicate, Result, Ok, Err}
 use Rattle.std.proofs.lemmas.List.Edits.{sets}
 use Rattle.limits.specs.Limits.{most_cells}
 use Rattle.lists.specs.Choice.{both, pick}
 use Rattle.lists.specs.Lists.{range, all}
+use Rattle.answers.specs.declared.Refusal.{Refusal}
+use Rattle.answers.specs.Refusals.{number_of}
 use Rattle.grid.specs.declared.Grid.{Grid}
 use Rattle.grid.specs.Grid.{grid, sizes_ok, cells}
 use Rattle.board.specs.declared.Board.{Board}
@@ -23,6 +25,11 @@ grouping n i = record { code = n; info = i }
 -- the record of a refused grouping (SPEC 3.13)
 abbrev pub zero_info : GroupInfo
 zero_info = record { grid = grid 0 0; count = 0; ids = blank_places; starts = blank_places }
+
+-- a grouping that was made or refused, with the refusal's number
+abbrev pub grouped_as : Result GroupInfo Refusal → Grouping
+grouped_as (Ok i) = grouping 0 i
+grouped_as (Err e) = grouping (number_of e) zero_info
 
 -- the group record (SPEC 1.10); places behind the last cell and the last group stay 0
 abbrev pub info_of : Grid → List ℕ → Bool → GroupInfo

@@ -171,9 +171,6 @@ module _ {g : Grid} {states : List ℕ} {c : ℕ} {f e q : List ℕ} {t : ℕ} (
 -- A LOOK ROUND
 
 module _ {g : Grid} {states : List ℕ} {c : ℕ} {f e q : List ℕ} {t : ℕ} (v : LooksFrom g states c f e q t) where
-  pub tail_small : t ≤ most_cells
-  tail_small = omega (arith, v.looking.kept.room, cells_le g v.limits)
-
   -- after a look there can be another
   pub looks_on : {after : List ℕ → Search → Search} {f' e' q' : List ℕ} {t' : ℕ} → Follows g c after f e q t f' e' q' t' → LooksFrom g states c f' e' q' t'
   looks_on {after} w =

@@ -1,11 +1,13 @@
 -- The two stages of the check, over the units that it finds in its own arrays. Assumes nothing.
 use Prim.Native.Nat.{ℕ, ◌*◌, ◌≤◌}
-use mathlib.Core.Path.{◌≡◌, sym}
+use mathlib.Core.Path.{◌≡◌, refl, sym, ◌∙◌}
 use mathlib.Core.Bool.{true, false}
 use mathlib.Core.List.{List}
+use mathlib.Core.Option.{Option, none, some}
 use native.Mathlib.Omega.{arith}
 use lib.ListN.{length, take}
 use lib.Seq.{length-take-le}
+use Rattle.std.specs.Prelude as std
 use Rattle.lists.specs.Lists.{range, first}
 use Rattle.grid.specs.declared.Grid.{Grid}
 use Rattle.grid.specs.Grid.{cells}
@@ -14,59 +16,82 @@ use Rattle.groups.specs.Lent.{Fits}
 use Rattle.groups.specs.Lent.{Grouped}
 use Rattle.groups.specs.Info.{blank_places}
 use Rattle.shape.specs.Shape.{inner_wall, unit_fault, fault_in, shape_fault}
-use Rattle.groups.proofs.Theorems.{ids_part, ids_are, front_turns}
+use Rattle.groups.proofs.Theorems.{arrays_lent, made, made_ids, made_ids_fit, made_starts_fit}
 use Rattle.answers.specs.declared.Found.{Found}
 use Rattle.answers.specs.declared.Found.TheVariants.{Nothing, Fault}
-use Rattle.answers.specs.Answers.{Told}
+use Rattle.answers.specs.Answers.{Finds, Told, found, found_of, length_found}
+use Rattle.answers.specs.Refusals.{Answers}
 use Rattle.inner_walls.specs.Asked.{Asked}
-use Rattle.inner_walls.proofs.FoundLaws.{told_long, first_told, next_told}
+use Rattle.inner_walls.proofs.FindLaws.{finds_long, first_finds, next_finds}
 use Rattle.unit_check.specs.Units.{unit_stage, Staged}
-use Rattle.unit_check.proofs.StageLaws.{front_turns as turns_front}
+
+-- what a stage told, as an option
+pub told_some : (o : Option (List ℕ)) {b b' : List ℕ} {r : Found} {n : ℕ} → Told o b b' r → r ≡ Fault n → Finds o b b' (std.Some n)
+told_some none t e = absurd (let q : Nothing ≡ Fault _ = sym t.answer ∙ e in let z : ◌≡◌ {A = ℕ} 0 1 = cc in omega arith)
+told_some (some L) {n = n} t e = record { answer = (let q : Fault (length L) ≡ Fault n = sym t.answer ∙ e in cc); stored = t.stored }
+
+pub told_none : (o : Option (List ℕ)) {b b' : List ℕ} {r : Found} → Told o b b' r → r ≡ Nothing → Finds o b b' std.None
+told_none none t e = record { answer = refl; stored = t.stored }
+told_none (some L) t e = absurd (let q : Fault (length L) ≡ Nothing = sym t.answer ∙ e in let z : ◌≡◌ {A = ℕ} 0 1 = cc in omega arith)
+
+-- and the other way round
+pub some_told : (o : Option (List ℕ)) {b b' : List ℕ} {r : std.Option ℕ} {n : ℕ} → Finds o b b' r → r ≡ std.Some n → Told o b b' (Fault n)
+some_told none {n = n} t e = absurd (let q : std.None ≡ std.Some n = sym t.answer ∙ e in let z : ◌≡◌ {A = ℕ} 0 1 = cc in omega arith)
+some_told (some L) {n = n} t e = record { answer = (let q : std.Some (length L) ≡ std.Some n = sym t.answer ∙ e in cc); stored = t.stored }
+
+pub none_told : (o : Option (List ℕ)) {b b' : List ℕ} {r : std.Option ℕ} → Finds o b b' r → r ≡ std.None → Told o b b' Nothing
+none_told none t e = record { answer = refl; stored = t.stored }
+none_told (some L) t e = absurd (let q : std.Some (length L) ≡ std.None = sym t.answer ∙ e in let z : ◌≡◌ {A = ℕ} 0 1 = cc in omega arith)
+
+-- a check that nothing refuses answers what it finds
+pub found_answers : (o : Option (List ℕ)) {r : std.Option ℕ} → r ≡ length_found o → Answers (found o) (std.Ok r)
+found_answers none e = rw e refl
+found_answers (some L) e = rw e refl
 
 module _ {g : Grid} {states : List ℕ} (p : Fits g states) {ids starts flat : List ℕ} {count : ℕ} (w : Grouped g states false blank_places blank_places blank_places ids starts flat count) where
-  pub inner_asked : {b : List ℕ} → 9 * cells g ≤ length b → Asked g states (take (cells g) ids) b
-  inner_asked h = record { limits = p.limits; states_long = p.borders; ids_long = omega (arith, ids_part p.limits w); room = h }
+  pub ids_fit : cells g ≤ length ids
+  ids_fit = made_ids_fit (arrays_lent p.limits) w
+
+  pub ids_part : length (take (cells g) ids) ≡ cells g
+  ids_part = length-take-le (cells g) ids ids_fit
 
   pub starts_fit : count ≤ length starts
-  starts_fit = (front_turns p.limits w).starts_long
+  starts_fit = made_starts_fit (arrays_lent p.limits) w
 
-  pub starts_part : count ≡ length (take count starts)
-  starts_part = sym (length-take-le count starts starts_fit)
+  pub starts_part : length (take count starts) ≡ count
+  starts_part = length-take-le count starts starts_fit
+
+  pub inner_asked : {b : List ℕ} → 9 * cells g ≤ length b → Asked g (take (cells g) ids) b
+  inner_asked h = record { ids_long = omega (arith, ids_part); room = h }
 
   -- the check's stages, of the units that were found
-  abbrev shape_stages : Type 0
-  shape_stages =
-      (b b' : List ℕ) (r : Found) → Told (fault_in g states (take (cells g) ids) (group_ids g states true) count (group_count g states true)) b b' r
-      → Told (shape_fault g states) b b' r
-
-  stages : shape_stages
+  stages : (b b' : List ℕ) (r : std.Option ℕ) → Finds (fault_in g states (take (cells g) ids) (group_ids g states true) count (group_count g states true)) b b' r
+      → Finds (shape_fault g states) b b' r
   unfolding shape_fault
-  stages b b' r t = rw (ids_are p.limits w, w.count_is) at t
+  stages b b' r t = rw (made_ids (arrays_lent p.limits) w, w.count_is) at t
 
-  module _ {b b' : List ℕ} {r : Found} (t : Told (inner_wall g states (take (cells g) ids)) b b' r) where
-    pub inner_fault : {n : ℕ} → r ≡ Fault n → Told (shape_fault g states) b b' (Fault n)
+  module _ {b b' : List ℕ} {r : std.Option ℕ} (t : Finds (inner_wall g states (take (cells g) ids)) b b' r) where
+    pub inner_fault : {n : ℕ} → r ≡ std.Some n → Finds (shape_fault g states) b b' (std.Some n)
     inner_fault e =
         stages _ _ _
         (unfold fault_in in
-        first_told (inner_wall g states (take (cells g) ids)) (first (unit_fault g states (take (cells g) ids) (group_ids g states true) (group_count g states true)) (range count)) t e)
+        first_finds (inner_wall g states (take (cells g) ids)) (first (unit_fault g states (take (cells g) ids) (group_ids g states true) (group_count g states true)) (range count)) t e)
 
     pub staged : 9 * cells g ≤ length b → Staged g states (take (cells g) ids) (take count starts) flat (length b')
     staged h =
         record {
           limits = p.limits;
           states_long = p.borders;
-          ids_long = sym (ids_part p.limits w);
-          units = turns_front (front_turns p.limits w);
-          enough = omega (arith, told_long (inner_wall g states (take (cells g) ids)) t);
+          ids_long = ids_part;
+          units = made (arrays_lent p.limits) w;
+          enough = omega (arith, finds_long (inner_wall g states (take (cells g) ids)) t);
         }
 
-    next : r ≡ Nothing → {b'' : List ℕ} {r' : Found} → Told (first (unit_fault g states (take (cells g) ids) (group_ids g states true) (group_count g states true)) (range count)) b' b'' r'
-        → Told (fault_in g states (take (cells g) ids) (group_ids g states true) count (group_count g states true)) b b'' r'
+    next : r ≡ std.None → {b'' : List ℕ} {r' : std.Option ℕ} → Finds (first (unit_fault g states (take (cells g) ids) (group_ids g states true) (group_count g states true)) (range count)) b' b'' r'
+        → Finds (fault_in g states (take (cells g) ids) (group_ids g states true) count (group_count g states true)) b b'' r'
     unfolding fault_in
-    next e u = next_told t e u
+    next e u = next_finds t e u
 
-    pub units_told : r ≡ Nothing → {b'' : List ℕ} {r' : Found} → Told (unit_stage g states (take (cells g) ids) (length (take count starts))) b' b'' r'
-        → Told (shape_fault g states) b b'' r'
-    units_told e u =
-        let n : length (take count starts) ≡ count = length-take-le count starts starts_fit in
-        stages _ _ _ (next e (rw n at u))
+    pub units_found : r ≡ std.None → {b'' : List ℕ} {r' : std.Option ℕ} → Finds (unit_stage g states (take (cells g) ids) (length (take count starts))) b' b'' r'
+        → Finds (shape_fault g states) b b'' r'
+    units_found e u = stages _ _ _ (next e (rw starts_part at u))
