@@ -14,12 +14,11 @@ use Rattle.board.specs.Board.{size_of, board_code}
 use Rattle.board.proofs.Laws.{board_ready}
 use Rattle.groups.specs.Lent.{Fits}
 use Rattle.shape.specs.Shape.{shape_fault}
-use Rattle.answers.specs.declared.Found.{Found}
-use Rattle.answers.specs.declared.Found.TheVariants.{Nothing, Fault}
+use Rattle.std.specs.Prelude as std
 use Rattle.answers.specs.declared.Answer.{Answer}
 use Rattle.answers.specs.declared.Answer.TheVariants.{Clear, Fault as IsFault, Refused}
-use Rattle.answers.specs.Answers.{Told, Outcome, refused, answer_of, written, found}
-use Rattle.inner_walls.proofs.FoundLaws.{told_fault, told_none}
+use Rattle.answers.specs.Answers.{Finds, Outcome, refused, answer_of, written, found}
+use Rattle.inner_walls.proofs.FindLaws.{finds_fault, finds_nothing}
 use Rattle.shape_check.specs.Answer.{shape_outcome}
 
 -- the answer and the buffer of an outcome
@@ -43,16 +42,16 @@ module _ (b : Board) {code : ℕ} (q : code ≡ board_code b) (buffer : List ℕ
     pub fits : length b.book.states ≡ most_borders → Fits (size_of b) b.book.states
     fits long = record { limits = limits; borders = omega (arith, border_count_le (size_of b) limits) }
 
-    module _ (h : 9 * cells (size_of b) ≤ length buffer) {buffer' : List ℕ} {r : Found} (t : Told (shape_fault (size_of b) b.book.states) buffer buffer' r) where
+    module _ (h : 9 * cells (size_of b) ≤ length buffer) {buffer' : List ℕ} {r : std.Option ℕ} (t : Finds (shape_fault (size_of b) b.book.states) buffer buffer' r) where
       asked : shape_outcome b (length buffer) ≡ found (shape_fault (size_of b) b.book.states)
       asked = rw (← q, z, le-leb (9 * cells (size_of b)) (length buffer) h)
 
-      pub is_clear : r ≡ Nothing → Answered (shape_outcome b (length buffer)) buffer buffer' Clear
+      pub is_clear : r ≡ std.None → Answered (shape_outcome b (length buffer)) buffer buffer' Clear
       is_clear e =
-          let o = told_none (shape_fault (size_of b) b.book.states) t e in
+          let o = finds_nothing (shape_fault (size_of b) b.book.states) t e in
           answered_by buffer (asked ∙ ap found o.0) (refl, o.1)
 
-      pub is_fault_lem : {n : ℕ} → r ≡ Fault n → Answered (shape_outcome b (length buffer)) buffer buffer' (IsFault n)
+      pub is_fault_lem : {n : ℕ} → r ≡ std.Some n → Answered (shape_outcome b (length buffer)) buffer buffer' (IsFault n)
       is_fault_lem e =
-          let o = told_fault (shape_fault (size_of b) b.book.states) t e in
+          let o = finds_fault (shape_fault (size_of b) b.book.states) t e in
           answered_by buffer (asked ∙ ap found o.1) (ap IsFault o.2, o.3)

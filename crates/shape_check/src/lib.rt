@@ -88,10 +88,10 @@ pub fn find_in<'a>(
     if buffer.len() < 9 * cells {
         return Answer::Refused(6);
     }
-    let Found::Fault(n) = shape_fault(g, states, buffer) else {
-        return Answer::Clear;
-    };
-    Answer::Fault(n)
+    match fault(Borders { grid: g, states }, buffer) {
+        Some(len) => Answer::Fault(len),
+        None => Answer::Clear,
+    }
 }
 
 // For callers that still hand in a record and take a refusal's number.

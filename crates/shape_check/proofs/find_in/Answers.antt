@@ -25,12 +25,12 @@ overflow_mul-cells-2 c =
 pub returns-then-buffer-cells : goal.returns-then-buffer-cells
 returns-then-buffer-cells c = let w = refused_buffer (let a = c.args in board_of a.g (book a.states.now a.names.now a.len)) c.check_parts-code.ensures c.args.buffer.now c.if-code-ne0.false c.if-buffer-cells.true in record { value = w.0; buffer_after = w.1 }
 
-pub shape_fault-requires : goal.shape_fault-requires
-shape_fault-requires c =
-    record { fits = fits (let a = c.args in board_of a.g (book a.states.now a.names.now a.len)) c.check_parts-code.ensures c.args.buffer.now c.if-code-ne0.false c.requires.0; width_in_bounds = c.if-buffer-cells.false }
+pub invariant_of-fault : goal.invariant_of-fault
+invariant_of-fault c =
+    record { fits = fits (let a = c.args in board_of a.g (book a.states.now a.names.now a.len)) c.check_parts-code.ensures c.args.buffer.now c.if-code-ne0.false c.requires.0 }
 
-pub returns-in_default : goal.returns-in_default
-returns-in_default c = let w = is_clear (let a = c.args in board_of a.g (book a.states.now a.names.now a.len)) c.check_parts-code.ensures c.args.buffer.now c.if-code-ne0.false c.if-buffer-cells.false c.shape_fault.ensures c.in_default.is in record { value = w.0; buffer_after = w.1 }
+pub returns-in-Some : goal.returns-in-Some
+returns-in-Some c = let w = is_fault_lem (let a = c.args in board_of a.g (book a.states.now a.names.now a.len)) c.check_parts-code.ensures c.args.buffer.now c.if-code-ne0.false c.if-buffer-cells.false c.fault.ensures c.in-Some.is in record { value = w.0; buffer_after = w.1 }
 
-pub returns : goal.returns
-returns c = let w = is_fault_lem (let a = c.args in board_of a.g (book a.states.now a.names.now a.len)) c.check_parts-code.ensures c.args.buffer.now c.if-code-ne0.false c.if-buffer-cells.false c.shape_fault.ensures c.in-Fault.is in record { value = w.0; buffer_after = w.1 }
+pub returns-in-None : goal.returns-in-None
+returns-in-None c = let w = is_clear (let a = c.args in board_of a.g (book a.states.now a.names.now a.len)) c.check_parts-code.ensures c.args.buffer.now c.if-code-ne0.false c.if-buffer-cells.false c.fault.ensures c.in-None.is in record { value = w.0; buffer_after = w.1 }
