@@ -23,13 +23,13 @@ use Rattle.std.specs.Result.{result_unwrap_or}
 use Rattle.answers.specs.declared.Plain.{Plain}
 use Rattle.answers.specs.declared.Listed.TheVariants as case
 use Rattle.answers.specs.declared.Refusal.{Refusal}
-use Rattle.answers.specs.declared.Refusal.TheVariants.{Size, Record, Missing, Decided, NothingToUndo, ShortBuffer, Unsorted, ClueCount, LargeClue, NotJoined, UnsoundFile, ManyUndecided, ZeroSeed, Repeated}
 use Rattle.answers.specs.Refusals.{number_of, Lists as Answered}
 use Rattle.borders.specs.Fits.{Fits}
 use Rattle.path.specs.Path.{Lists, search, path_of}
 use Rattle.path.specs.Trace.{Traced, Asks, Fresh, Back, Walks}
 use Rattle.path.specs.Answer.{joined, path_outcome}
 use Rattle.answers.specs.Answers.{Outcome, refused, clear, listed, list_of, listed_of, written}
+use Rattle.answers.proofs.RefusalLaws.{some_number}
 use Rattle.path.proofs.Found.{new_none, old_some}
 use Rattle.path.proofs.PathLaws.{ended, leads_nowhere, path_short}
 
@@ -110,29 +110,12 @@ gives_number o e buffer q = rw q (refl, refl)
 pub gives_list : (o : Outcome) (p : List ℕ) (n : ℕ) (buffer buffer' : List ℕ) → o ≡ listed p → (n ≡ length p) × (buffer' ≡ sets buffer 0 p) → Gives o buffer (Ok n) buffer'
 gives_list o p n buffer buffer' q k = rw (q, k.0) (refl, k.1)
 
--- no refusal has the number 0
-numbered : (e : Refusal) → 0 < number_of e
-numbered Size = omega arith
-numbered Record = omega arith
-numbered Missing = omega arith
-numbered Decided = omega arith
-numbered NothingToUndo = omega arith
-numbered ShortBuffer = omega arith
-numbered Unsorted = omega arith
-numbered ClueCount = omega arith
-numbered LargeClue = omega arith
-numbered NotJoined = omega arith
-numbered UnsoundFile = omega arith
-numbered ManyUndecided = omega arith
-numbered ZeroSeed = omega arith
-numbered Repeated = omega arith
-
 -- the same as a list and its length, of which there is none where nothing was found
 pub length_told : (o : Option (List ℕ)) (r : Result ℕ Refusal) (buffer buffer' : List ℕ) → Gives (joined o) buffer r buffer' → (result_unwrap_or r 0 ≡ length (list_of o)) × (buffer' ≡ sets buffer 0 (list_of o))
 length_told none (Ok n) buffer buffer' k = absurd (let z : ◌≡◌ {A = ℕ} 0 10 = ap (λ (p : Plain). p.code) k.0 in omega arith)
 length_told none (Err e) buffer buffer' k = (refl, k.1)
 length_told (some p) (Ok n) buffer buffer' k = (ap (λ (p : Plain). p.length) k.0, k.1)
-length_told (some p) (Err e) buffer buffer' k = absurd (let z : number_of e ≡ 0 = ap (λ (p : Plain). p.code) k.0 in omega (arith, numbered e))
+length_told (some p) (Err e) buffer buffer' k = absurd (let z : number_of e ≡ 0 = ap (λ (p : Plain). p.code) k.0 in omega (arith, some_number e))
 
 -- A CALL that no question before the search refuses
 
