@@ -2,25 +2,32 @@
 // calls are what the generator draws from these.
 #![tactic(auto)]
 
+use std::io;
 use std::rt::Files;
 
-// Answers whether all is out.
-fn show(rt: &(impl Files + Print + Eprint), name: &[u8]) -> bool {
-    if rt.write_all(name).is_err() {
-        return false;
+// The files in turn; the last is not there.
+const NAMES: [&str; 10] = [
+    "paper.bin",
+    "height_32.bin",
+    "height_33.bin",
+    "height_0.bin",
+    "rooms.bin",
+    "seed_9_size_1_1_calls_20.bin",
+    "seed_4294967295_size_1_2_calls_40.bin",
+    "seed_4_size_4_4_calls_60.bin",
+    "seed_384_size_10_10_calls_80.bin",
+    "missing.bin",
+];
+
+// Each file's name and lines, up to the first that can't be written.
+fn show_all(rt: &(impl Files + Print + Eprint)) -> io::Result<()> {
+    for name in NAMES {
+        rt.println(name)?;
+        program::run(rt, name)?;
     }
-    rt.write_all(b"\n").is_ok() && program::run(rt, name)
+    Ok(())
 }
 
 fn main(rt: HostRuntime) {
-    let _all = show(&rt, b"paper.bin")
-        && show(&rt, b"height_32.bin")
-        && show(&rt, b"height_33.bin")
-        && show(&rt, b"height_0.bin")
-        && show(&rt, b"rooms.bin")
-        && show(&rt, b"seed_9_size_1_1_calls_20.bin")
-        && show(&rt, b"seed_4294967295_size_1_2_calls_40.bin")
-        && show(&rt, b"seed_4_size_4_4_calls_60.bin")
-        && show(&rt, b"seed_384_size_10_10_calls_80.bin")
-        && show(&rt, b"missing.bin");
+    let _ = show_all(&rt);
 }

@@ -2,6 +2,7 @@
 use crate::desk::Desk;
 use crate::text::{Record, Spaced, Word, first};
 use enumerate::Listing;
+use grid::Grid;
 use puzzle::{Check, Fault};
 use std::io;
 use std::io::Write;
@@ -39,6 +40,15 @@ impl Call {
     }
 }
 
+// How many digits a board has. A size beyond the limits has none, and its puzzle is refused anyway.
+fn border_count(grid: Grid) -> usize {
+    if grid.is_within_limits() {
+        grid.border_count()
+    } else {
+        0
+    }
+}
+
 impl<W: Write + Drop> Desk<W> {
     pub fn on_puzzle(&mut self, call: Call) -> io::Result<()> {
         let done = match call {
@@ -54,7 +64,7 @@ impl<W: Write + Drop> Desk<W> {
     }
 
     fn make_puzzle(&mut self, height: usize, width: usize) -> io::Result<()> {
-        let made = puzzle::make(height, width, &self.first, &self.second);
+        let made = puzzle::make(height, width, self.first.as_slice(), self.second.as_slice());
         self.puzzle = made.puzzle;
         self.say(made.code)
     }
@@ -100,7 +110,7 @@ impl<W: Write + Drop> Desk<W> {
 
     // So many words, each with a digit for each border of the puzzle.
     fn say_words(&mut self, digits: &[u8], count: usize) -> io::Result<()> {
-        let n = self.puzzle.board.grid.border_count();
+        let n = border_count(self.puzzle.board.grid);
         let mut left = digits;
         for _ in 0..count {
             let (digits, others) = left.split_at(n.min(left.len()));

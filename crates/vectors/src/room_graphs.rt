@@ -43,8 +43,8 @@ impl<W: Write + Drop> Desk<W> {
         match call {
             Call::Make { vertices, count } => self.keep_room(city_count::make(
                 vertices,
-                &self.first,
-                &self.second,
+                self.first.as_slice(),
+                self.second.as_slice(),
                 count,
             )),
             Call::Stroke => self.keep_room(city_count::stroke(self.room, &self.first)),

@@ -1,14 +1,24 @@
 -- `program::print_calls` meets its contract: one law a call, and the two ways out. Assumes nothing.
-use Rattle.program.proofs.PrintLaws.{printing_next, stopped, finished}
+use Rattle.std.proofs.Common.{◌≤◌, sym, arith, rules}
+use Rattle.std.specs.Prelude.{IsOk}
+use Rattle.program.proofs.PrintLaws.{printing, printing_next, stopped}
 use Rattle.program.proofs.print_calls.Goals as goal
 
-pub loop-done-preserved : goal.loop-done-preserved
-loop-done-preserved g c =
-    let k = c.run_calls-ran in
-    printing_next c.loop-done.invariant k.result k.new.out c.loop-done-test.true k.ensures.value k.auto.out
+pub loop-init : goal.loop-init
+loop-init g c = printing c.args.file.now c.args.opened.now c.large_buffer-out.result (sym c.large_buffer-out.ensures)
 
-pub returns-then-not-print : goal.returns-then-not-print
-returns-then-not-print g c = stopped c.loop-done.invariant
+pub overflow_sub-opened : goal.overflow_sub-opened
+overflow_sub-opened g c = omega (arith, c.loop.invariant.counts)
+
+pub loop-preserved : goal.loop-preserved
+loop-preserved g c =
+    let k = c.run_calls-ran in
+    printing_next c.loop.invariant k.result k.new.out c.loop-test.true k.ensures.value k.auto.out
+
+pub returns-in_err-write_all : goal.returns-in_err-write_all
+returns-in_err-write_all g c =
+    let never : IsOk c.from_residual.result → c.args.opened.now.count ≤ c.loop.counter = search rules in
+    stopped c.loop.invariant c.from_residual.result never
 
 pub returns : goal.returns
-returns g c = finished c.loop-done.invariant c.loop-done-test.false
+returns g c = stopped c.loop.invariant _ (λ _. c.loop-test.false)

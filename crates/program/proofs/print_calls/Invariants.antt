@@ -1,10 +1,6 @@
--- `program::print_calls` ends: the calls left fall; the invariant `Printing` says what is left of the run. Assumes nothing.
-use Rattle.std.proofs.Common.{◌-◌}
+-- `program::print_calls`: the invariant `Printing` says what is left of the run. Assumes nothing.
 use Rattle.program.proofs.PrintLaws.{Printing}
 use Rattle.program.proofs.print_calls.Given as goal
 
-abbrev pub invariant-loop-done : goal.invariant-loop-done
-invariant-loop-done g l = Printing l.opened.puzzle l.file l.opened.at l.opened.count l.out l.puzzle l.at l.done
-
-abbrev pub decreases-loop-done : goal.decreases-loop-done
-decreases-loop-done g l = l.opened.count - l.done
+abbrev pub invariant-loop : goal.invariant-loop
+invariant-loop g l = Printing l.file l.initial.opened l.opened l.out l.counter
