@@ -1,31 +1,33 @@
 // The answer about a puzzle's right boards as numbers.
 ghost use Rattle.std.specs.Prelude.{◌≡◌};
+ghost use Rattle.enumerate.specs.Boards.{answer_in};
 ghost use Rattle.as_numbers.specs.Boards.{listing_of};
 
-use enumerate::Boards;
+use answers::Refusal;
 
 // How many boards were written and whether there are more; or a refusal's code with all else 0.
 #[repr(C)]
-#[derive(Clone, Copy)]
+#[derive(Clone, Copy, Default)]
 pub struct Listing {
     pub code: u8,
     pub more: bool,
     pub count: usize,
 }
 
-pub fn listing_of(answer: Boards) -> Listing
-    ensures { result ≡ listing_of answer }
-{
-    match answer {
-        Boards::Listed(count, more) => Listing {
-            code: 0,
-            more,
-            count,
-        },
-        Boards::Refused(code) => Listing {
-            code,
-            more: false,
-            count: 0,
-        },
+impl From<Result<enumerate::Listing, Refusal>> for Listing {
+    ghost from_gives = { λ listed listing. listing ≡ listing_of (answer_in listed) };
+
+    fn from(listed: Result<enumerate::Listing, Refusal>) -> Listing {
+        match listed {
+            Ok(boards) => Listing {
+                code: 0,
+                more: boards.more,
+                count: boards.count,
+            },
+            Err(refusal) => Listing {
+                code: u8::from(refusal),
+                ..Listing::default()
+            },
+        }
     }
 }

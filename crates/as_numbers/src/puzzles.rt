@@ -1,13 +1,15 @@
 // A puzzle's answer as numbers.
 ghost use Rattle.std.specs.Prelude.{◌≡◌};
+ghost use Rattle.puzzle.specs.Puzzle.{answer_in};
 ghost use Rattle.as_numbers.specs.Puzzles.{fault_outcome, outcome_of};
 
-use puzzle::{Answer, Check};
+use answers::Refusal;
+use puzzle::{Check, Fault};
 
 // What an ask answered: kind 0 clear, 1 a fault of the shape check, 2 a fault of a room's count, 3 refused. A fault has its list's
 // length, a room's fault the room's number, a refusal its code; all else is 0.
 #[repr(C)]
-#[derive(Clone, Copy)]
+#[derive(Clone, Copy, Default)]
 pub struct Outcome {
     pub kind: u8,
     pub code: u8,
@@ -22,35 +24,30 @@ fn fault_of(check: Check, length: usize) -> Outcome
     match check {
         Check::Shape => Outcome {
             kind: 1,
-            code: 0,
-            room: 0,
             length,
+            ..Outcome::default()
         },
         Check::Room(room) => Outcome {
             kind: 2,
-            code: 0,
             room,
             length,
+            ..Outcome::default()
         },
     }
 }
 
-pub fn outcome_of(answer: Answer) -> Outcome
-    ensures { result ≡ outcome_of answer }
-{
-    match answer {
-        Answer::Clear => Outcome {
-            kind: 0,
-            code: 0,
-            room: 0,
-            length: 0,
-        },
-        Answer::Fault(check, length) => fault_of(check, length),
-        Answer::Refused(code) => Outcome {
-            kind: 3,
-            code,
-            room: 0,
-            length: 0,
-        },
+impl From<Result<Option<Fault>, Refusal>> for Outcome {
+    ghost from_gives = { λ asked outcome. outcome ≡ outcome_of (answer_in asked) };
+
+    fn from(asked: Result<Option<Fault>, Refusal>) -> Outcome {
+        match asked {
+            Ok(None) => Outcome::default(),
+            Ok(Some(fault)) => fault_of(fault.check, fault.len),
+            Err(refusal) => Outcome {
+                kind: 3,
+                code: u8::from(refusal),
+                ..Outcome::default()
+            },
+        }
     }
 }

@@ -16,26 +16,32 @@ pub extern "C" fn sendai_board_make(height: usize, width: usize) -> Decided
 pub extern "C" fn sendai_board_check(b: Board) -> u8
     ensures { result ≡ board_code b }
 {
-    board::check(b)
+    answers::code_of(b.check())
 }
 
 #[unsafe(no_mangle)]
 pub extern "C" fn sendai_board_stroke(b: Board, entries: &[u16]) -> Decided
     ensures { result ≡ stroke_of b (decisions entries.now) }
 {
-    board::stroke(b, entries)
+    let mut out = Decided { code: 0, board: b };
+    out.code = answers::code_of(out.board.stroke(entries));
+    out
 }
 
 #[unsafe(no_mangle)]
 pub extern "C" fn sendai_board_decide(b: Board, border: usize, wall: bool) -> Decided
     ensures { result ≡ decide_of b border wall }
 {
-    board::decide(b, border, wall)
+    let mut out = Decided { code: 0, board: b };
+    out.code = answers::code_of(out.board.decide(border, wall));
+    out
 }
 
 #[unsafe(no_mangle)]
 pub extern "C" fn sendai_board_undo(b: Board) -> Decided
     ensures { result ≡ undo_of b }
 {
-    board::undo(b)
+    let mut out = Decided { code: 0, board: b };
+    out.code = answers::code_of(out.board.undo());
+    out
 }

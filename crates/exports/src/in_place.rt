@@ -8,7 +8,6 @@ ghost use Rattle.puzzle.specs.Puzzle.{answer as puzzle_answer, stroke_of as puzz
 ghost use Rattle.as_numbers.specs.Puzzles.{outcome_of};
 
 use answers::Plain;
-use as_numbers::puzzles;
 use as_numbers::puzzles::Outcome;
 use board::Board;
 use puzzle::Puzzle;
@@ -68,5 +67,5 @@ pub extern "C" fn sendai_puzzle_ask_in_place(p: &Puzzle, buffer: &mut [u16]) -> 
     ensures value { result ≡ outcome_of (ask_of p.now buffer.old).answer }
     ensures buffer_after { buffer.new ≡ (ask_of p.now buffer.old).buffer }
 {
-    puzzles::outcome_of(puzzle::Answer::from(p.ask(buffer)))
+    Outcome::from(p.ask(buffer))
 }

@@ -8,7 +8,6 @@ ghost use Rattle.as_numbers.specs.Puzzles.{outcome_of};
 
 use as_numbers::boards::Listing;
 use as_numbers::puzzles::Outcome;
-use as_numbers::{boards, puzzles};
 use puzzle::{Made, Puzzle};
 
 #[unsafe(no_mangle)]
@@ -27,28 +26,34 @@ pub extern "C" fn sendai_puzzle_make<'a>(
 pub extern "C" fn sendai_puzzle_check(p: Puzzle) -> u8
     ensures { result ≡ puzzle_code p }
 {
-    puzzle::puzzle_code(p)
+    answers::code_of(p.check())
 }
 
 #[unsafe(no_mangle)]
 pub extern "C" fn sendai_puzzle_stroke(p: Puzzle, entries: &[u16]) -> Made
     ensures { result ≡ stroke_of p (decisions entries.now) }
 {
-    puzzle::stroke(p, entries)
+    let mut out = Made { code: 0, puzzle: p };
+    out.code = answers::code_of(out.puzzle.stroke(entries));
+    out
 }
 
 #[unsafe(no_mangle)]
 pub extern "C" fn sendai_puzzle_decide(p: Puzzle, border: usize, wall: bool) -> Made
     ensures { result ≡ decide_of p border wall }
 {
-    puzzle::decide(p, border, wall)
+    let mut out = Made { code: 0, puzzle: p };
+    out.code = answers::code_of(out.puzzle.decide(border, wall));
+    out
 }
 
 #[unsafe(no_mangle)]
 pub extern "C" fn sendai_puzzle_undo(p: Puzzle) -> Made
     ensures { result ≡ undo_of p }
 {
-    puzzle::undo(p)
+    let mut out = Made { code: 0, puzzle: p };
+    out.code = answers::code_of(out.puzzle.undo());
+    out
 }
 
 #[unsafe(no_mangle)]
@@ -56,7 +61,7 @@ pub extern "C" fn sendai_puzzle_ask(p: Puzzle, buffer: &mut [u16]) -> Outcome
     ensures value { result ≡ outcome_of (ask_of p buffer.old).answer }
     ensures buffer_after { buffer.new ≡ (ask_of p buffer.old).buffer }
 {
-    puzzles::outcome_of(puzzle::ask(p, buffer))
+    Outcome::from(p.ask(buffer))
 }
 
 #[unsafe(no_mangle)]
@@ -64,5 +69,5 @@ pub extern "C" fn sendai_puzzle_right_boards(p: Puzzle, cap: usize, buffer: &mut
     ensures value { result ≡ listing_of (boards_of p cap buffer.old).answer }
     ensures buffer_after { buffer.new ≡ (boards_of p cap buffer.old).buffer }
 {
-    boards::listing_of(enumerate::right_boards(p, cap, buffer))
+    Listing::from(enumerate::list_right_boards(&p, cap, buffer))
 }
