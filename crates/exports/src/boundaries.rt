@@ -1,6 +1,7 @@
 // The two boundary lists.
 ghost use Rattle.std.specs.Prelude.{◌≡◌, true, false, length};
-ghost use Rattle.answers.specs.Answers.{listed_of, plain_listed, written};
+ghost use Rattle.answers.specs.Answers.{written};
+ghost use Rattle.answers.specs.Refusals.{listed_plain};
 ghost use Rattle.boundary.specs.Answer.{boundary_outcome};
 
 use answers::Plain;
@@ -8,16 +9,16 @@ use board::Board;
 
 #[unsafe(no_mangle)]
 pub extern "C" fn sendai_unit_boundary(b: Board, unit: usize, buffer: &mut [u16]) -> Plain
-    ensures value { result ≡ plain_listed (listed_of (boundary_outcome b false unit (length buffer.old))) }
+    ensures value { result ≡ listed_plain (boundary_outcome b false unit (length buffer.old)) }
     ensures buffer_after { buffer.new ≡ written (boundary_outcome b false unit (length buffer.old)) buffer.old }
 {
-    answers::of_listed(boundary::reason_for_unit_and_its_boundary(b, unit, buffer))
+    Plain::from(boundary::of_unit(&b, unit, buffer))
 }
 
 #[unsafe(no_mangle)]
 pub extern "C" fn sendai_potential_unit_boundary(b: Board, unit: usize, buffer: &mut [u16]) -> Plain
-    ensures value { result ≡ plain_listed (listed_of (boundary_outcome b true unit (length buffer.old))) }
+    ensures value { result ≡ listed_plain (boundary_outcome b true unit (length buffer.old)) }
     ensures buffer_after { buffer.new ≡ written (boundary_outcome b true unit (length buffer.old)) buffer.old }
 {
-    answers::of_listed(boundary::reason_for_potential_unit_boundary(b, unit, buffer))
+    Plain::from(boundary::of_potential_unit(&b, unit, buffer))
 }

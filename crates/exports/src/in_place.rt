@@ -2,7 +2,8 @@
 ghost use Rattle.std.specs.Prelude.{◌≡◌, length};
 ghost use Rattle.ledger.specs.Ledger.{decisions};
 ghost use Rattle.board.specs.Board.{answer, stroke_of, decide_of, undo_of};
-ghost use Rattle.answers.specs.Answers.{answer_of, plain_answer, written};
+ghost use Rattle.answers.specs.Answers.{written};
+ghost use Rattle.answers.specs.Refusals.{answer_plain};
 ghost use Rattle.shape_check.specs.Answer.{shape_outcome};
 ghost use Rattle.puzzle.specs.Puzzle.{answer as puzzle_answer, stroke_of as puzzle_stroke, decide_of as puzzle_decide, undo_of as puzzle_undo, ask_of};
 ghost use Rattle.as_numbers.specs.Puzzles.{outcome_of};
@@ -35,10 +36,10 @@ pub extern "C" fn sendai_board_undo_in_place(b: &mut Board) -> u8
 
 #[unsafe(no_mangle)]
 pub extern "C" fn sendai_board_ask_in_place(b: &Board, buffer: &mut [u16]) -> Plain
-    ensures value { result ≡ plain_answer (answer_of (shape_outcome b.now (length buffer.old))) }
+    ensures value { result ≡ answer_plain (shape_outcome b.now (length buffer.old)) }
     ensures buffer_after { buffer.new ≡ written (shape_outcome b.now (length buffer.old)) buffer.old }
 {
-    answers::of_answer(board_in_place::ask(b, buffer))
+    Plain::from(shape_check::find(b, buffer))
 }
 
 #[unsafe(no_mangle)]

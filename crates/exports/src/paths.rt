@@ -1,6 +1,7 @@
 // The path list.
 ghost use Rattle.std.specs.Prelude.{◌≡◌, length};
-ghost use Rattle.answers.specs.Answers.{listed_of, plain_listed, written};
+ghost use Rattle.answers.specs.Answers.{written};
+ghost use Rattle.answers.specs.Refusals.{listed_plain};
 ghost use Rattle.path.specs.Answer.{path_outcome};
 
 use answers::Plain;
@@ -8,8 +9,8 @@ use board::Board;
 
 #[unsafe(no_mangle)]
 pub extern "C" fn sendai_path(b: Board, start: usize, target: usize, buffer: &mut [u16]) -> Plain
-    ensures value { result ≡ plain_listed (listed_of (path_outcome b start target (length buffer.old))) }
+    ensures value { result ≡ listed_plain (path_outcome b start target (length buffer.old)) }
     ensures buffer_after { buffer.new ≡ written (path_outcome b start target (length buffer.old)) buffer.old }
 {
-    answers::of_listed(path::reason_for_path(b, start, target, buffer))
+    Plain::from(path::between(&b, start, target, buffer))
 }

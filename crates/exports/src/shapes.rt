@@ -1,6 +1,7 @@
 // The shape check: a board's ask.
 ghost use Rattle.std.specs.Prelude.{◌≡◌, length};
-ghost use Rattle.answers.specs.Answers.{answer_of, plain_answer, written};
+ghost use Rattle.answers.specs.Answers.{written};
+ghost use Rattle.answers.specs.Refusals.{answer_plain};
 ghost use Rattle.shape_check.specs.Answer.{shape_outcome};
 
 use answers::Plain;
@@ -8,8 +9,8 @@ use board::Board;
 
 #[unsafe(no_mangle)]
 pub extern "C" fn sendai_board_ask(b: Board, buffer: &mut [u16]) -> Plain
-    ensures value { result ≡ plain_answer (answer_of (shape_outcome b (length buffer.old))) }
+    ensures value { result ≡ answer_plain (shape_outcome b (length buffer.old)) }
     ensures buffer_after { buffer.new ≡ written (shape_outcome b (length buffer.old)) buffer.old }
 {
-    answers::of_answer(shape_check::find_inconsistency(b, buffer))
+    Plain::from(shape_check::find(&b, buffer))
 }

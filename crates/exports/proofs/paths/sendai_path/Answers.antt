@@ -1,8 +1,0 @@
--- `exports::paths::sendai_path` meets its contract: what its two calls ensure, put together. Assumes nothing.
-use mathlib.Core.Path.{ap, ◌∙◌}
-use Rattle.answers.specs.Answers.{plain_listed}
-use Rattle.exports.proofs.paths.sendai_path.Goals as goal
-
-pub returns : goal.returns
-returns c =
-    record { value = c.of_listed.ensures ∙ ap plain_listed c.reason_for_path.ensures.value; buffer_after = c.reason_for_path.ensures.buffer_after }
