@@ -1,9 +1,9 @@
-pub mod TableLaws
 pub mod Signed
+pub mod TableLaws
 pub mod PlaceLaws
-pub mod Cases
+pub mod NoneLaws
+pub mod ToldLaws
 pub mod ReachLaws
 pub mod LandingLaws
-pub mod NoneLaws
 pub mod FailLaws
 pub mod TrialLaws

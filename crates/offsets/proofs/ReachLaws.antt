@@ -8,45 +8,44 @@ use mathlib.Core.Option.{Option, none, some, some-injective}
 use native.Mathlib.Omega.{arith}
 use native.Mathlib.Nat.{div-lt_iff_lt-mul}
 use native.Mathlib.Numerals.{add-one}
-use borrow.Author.Tests.{lt-leb, le-leb, lt-ltb, le-ltb, eq-eqb, ne_eqb, ltb-true, leb-true}
+use borrow.Author.Tests.{lt-leb, le-leb, eq-eqb, ne_eqb, ltb-true, leb-true}
 use lib.Dec.{eqb, ltb, leb}
 use lib.ListN.{get_or, length, drop, drop_of_length-le}
 use lib.Seq.{drop-cons}
-use Rattle.limits.specs.Limits.{most_cells}
+use Rattle.std.specs.Prelude as std
+use Rattle.std.specs.Bool.{then_some}
 use Rattle.lists.specs.Choice.{both, either, holds, through, give}
-use Rattle.lists.specs.Lists.{all, any}
+use Rattle.lists.specs.Lists.{In, all, any}
 use Rattle.lists.proofs.ChoiceLaws.{both_true, give_some, through_some}
 use Rattle.lists.proofs.ListLaws.{get_d_in}
 use Rattle.grid.specs.declared.Grid.{Grid}
-use Rattle.grid.specs.Grid.{Limits, Cell, cells, row, col}
-use Rattle.grid.proofs.Geometry.{coords, cells_le, row_lt, col_lt}
+use Rattle.grid.specs.Grid.{Cell, row, col}
+use Rattle.grid.proofs.Geometry.{coords, row_lt, col_lt}
 use Rattle.shape.specs.Shape.{along}
-use Rattle.offsets.specs.declared.reach.Shift.{Shift}
-use Rattle.offsets.specs.declared.reach.Fall.{Fall}
-use Rattle.offsets.specs.declared.reach.Fall.TheVariants.{Off, On}
-use Rattle.offsets.specs.Table.{row_in, col_in, unit_in, potential_in, units_in, potentials_in, Listed}
-use Rattle.offsets.specs.Reach.{fall_of, moved, Small, Reaching, falls_off, falls_marked, reaches_of}
-use Rattle.offsets.proofs.TableLaws.{unit_at_lem, potential_at, listed}
+use Rattle.offsets.specs.declared.shift.Shift.{Shift}
+use Rattle.offsets.specs.declared.table.CellInfo.{CellInfo}
+use Rattle.offsets.specs.Told.{told}
+use Rattle.offsets.specs.Table.{Table, row_in, col_in, unit_in, potential_in, units_in, potentials_in}
+use Rattle.offsets.specs.Reach.{moved, Small, falls_off, falls_marked, reaches_of}
+use Rattle.offsets.proofs.TableLaws.{unit_at_lem, potential_at}
+use Rattle.offsets.proofs.ToldLaws.{told_some, told_none}
 
 -- along a row or a column
-pub before_start : (n f t u : ℕ) → u + t < f → along n f t u ≡ none
+pub before_start : (n f t u : ℕ) {r : std.Option ℕ} → std.SomeIff r (f ≤ u + t) (u + t - f) → r ≡ std.None → std.None ≡ told (along n f t u)
 unfolding along give
-before_start n f t u h = rw (lt-leb f (u + t) h)
+before_start n f t u s e =
+    let w : ¬ (f ≤ u + t) = rw e at s in
+    rw (lt-leb f (u + t) (omega arith))
 
-pub behind_end : (n f t u : ℕ) → f ≤ u + t → n ≤ u + t - f → along n f t u ≡ none
+pub on_line : (n f t u : ℕ) {r : std.Option ℕ} {m : ℕ} → std.SomeIff r (f ≤ u + t) (u + t - f) → r ≡ std.Some m → then_some (ltb m n) m ≡ told (along n f t u)
 unfolding along give
-behind_end n f t u h k = rw (le-leb f (u + t) h, le-ltb (u + t - f) n k)
-
-pub on_line : (n f t u : ℕ) → f ≤ u + t → u + t - f < n → along n f t u ≡ some (u + t - f)
-unfolding along give
-on_line n f t u h k = rw (le-leb f (u + t) h, lt-ltb (u + t - f) n k)
-
-pub small_cell : (g : Grid) → Limits g → (y x : ℕ) → y < g.height → x < g.width → y * g.width + x < most_cells
-small_cell g l y x h k =
-    let c = y * g.width + x in
-    let q = coords g.width c y x k refl in
-    let i : c < cells g = (div-lt_iff_lt-mul (let w : 0 < g.width = omega arith in w)).0 (let r : row g c < g.height = omega arith in r) in
-    omega (arith, cells_le g l)
+on_line n f t u s e =
+    let w : (f ≤ u + t) × (_ ≡ u + t - f) = rw e at s in
+    rw (w.1, le-leb f (u + t) w.0) (go (ltb (u + t - f) n))
+  where
+    go : (b : Bool) → then_some b (u + t - f) ≡ told (give b (u + t - f))
+    go true = refl
+    go false = refl
 
 along_lt : (n f t u y : ℕ) → along n f t u ≡ some y → (y < n) × (u + t ≡ y + f)
 unfolding along
@@ -57,27 +56,23 @@ along_lt n f t u y q =
     let o = leb-true f (u + t) b.0 in
     (omega (arith, k.1), omega (arith, k.1))
 
+-- a row or a column that stays on the line is below its end
+pub along_below : {n : ℕ} (f t u : ℕ) {r : std.Option ℕ} {y : ℕ} → r ≡ told (along n f t u) → r ≡ std.Some y → y < n
+along_below {n} f t u {y = y} e q = (along_lt n f t u y (told_some _ y (sym e ∙ q))).0
+
 module _ (g : Grid) (s : Shift) (y x : ℕ) where
-  pub off_row : along g.height s.from_row s.to_row y ≡ none → Off ≡ fall_of (moved g s y x)
+  pub off_row : {r : std.Option ℕ} → r ≡ told (along g.height s.from_row s.to_row y) → r ≡ std.None → std.None ≡ told (moved g s y x)
   unfolding moved through
-  off_row q = rw q
+  off_row e q = rw (told_none _ (sym e ∙ q))
 
-  pub off_col : (b : ℕ) → along g.height s.from_row s.to_row y ≡ some b → along g.width s.from_col s.to_col x ≡ none → Off ≡ fall_of (moved g s y x)
-  unfolding moved through
-  off_col b p q = rw (p, q)
+  module _ {b : ℕ} {r : std.Option ℕ} (e : r ≡ told (along g.height s.from_row s.to_row y)) (q : r ≡ std.Some b) {t : std.Option ℕ} (e' : t ≡ told (along g.width s.from_col s.to_col x)) where
+    pub off_col : t ≡ std.None → std.None ≡ told (moved g s y x)
+    unfolding moved through
+    off_col k = rw (told_some _ b (sym e ∙ q), told_none _ (sym e' ∙ k))
 
-  pub on_cell : (b a : ℕ) → along g.height s.from_row s.to_row y ≡ some b → along g.width s.from_col s.to_col x ≡ some a → On (b * g.width + a) ≡ fall_of (moved g s y x)
-  unfolding moved through
-  on_cell b a p q = rw (p, q)
-
--- what a fall says
-pub fell_on : (o : Option ℕ) (x : ℕ) → fall_of o ≡ On x → o ≡ some x
-fell_on none x q = absurd (let z : ◌≡◌ {A = ℕ} 0 1 = cc in omega arith)
-fell_on (some y) x q = cc
-
-pub fell_off : (o : Option ℕ) → fall_of o ≡ Off → o ≡ none
-fell_off none q = refl
-fell_off (some y) q = absurd (let z : ◌≡◌ {A = ℕ} 0 1 = cc in omega arith)
+    pub on_cell : {a : ℕ} → t ≡ std.Some a → std.Some (b * g.width + a) ≡ told (moved g s y x)
+    unfolding moved through
+    on_cell {a} k = rw (told_some _ b (sym e ∙ q), told_some _ a (sym e' ∙ k))
 
 -- the row and the column on which a cell falls are the board's, and moved as the first cell is
 pub record Fell (g : Grid) (s : Shift) (y x c : ℕ) : Type 0 where
@@ -131,7 +126,7 @@ pub next_cell : (cs : List ℕ) (i c : ℕ) → i < length cs → c ≡ get_or c
 next_cell cs i c h q = rw (add-one, drop-cons cs i 0 h, q)
 
 -- one turn of it, at cell c
-module _ {g : Grid} {table marks cs : List ℕ} {s : Shift} (r : Reaching g table marks cs s) {met : Bool} {i : ℕ}
+module _ {g : Grid} {table : List CellInfo} {marks cs : List ℕ} {s : Shift} (tab : Table g table) (small : Small g s 0 0) (cells_on : (c : ℕ) → In c cs → Cell g c) {met : Bool} {i : ℕ}
     (w : Walk g s (units_in g table) (potentials_in g table) marks cs met i) (h : i < length cs) {c : ℕ} (q : c ≡ get_or cs i 0) where
   abbrev ids : List ℕ
   ids = units_in g table
@@ -143,13 +138,10 @@ module _ {g : Grid} {table marks cs : List ℕ} {s : Shift} (r : Reaching g tabl
   over = drop (i + 1) cs
 
   pub on_board_lem : Cell g c
-  on_board_lem = r.on_board c (rw q (get_d_in 0 cs i h))
+  on_board_lem = cells_on c (rw q (get_d_in 0 cs i h))
 
   turn : left g s ids pids marks met (c ∷ over) ≡ reaches_of g s ids pids marks cs
   turn = sym (ap (left g s ids pids marks met) (next_cell cs i c h q)) ∙ w.rest
-
-  pub cell_listed : Listed table c
-  cell_listed = listed g table r.small.limits r.table_of c on_board_lem
 
   out : falls_off g s ids c ≡ false → left g s ids pids marks met (c ∷ over) ≡ false
   unfolding left all
@@ -157,14 +149,14 @@ module _ {g : Grid} {table marks cs : List ℕ} {s : Shift} (r : Reaching g tabl
 
   module _ {y x : ℕ} (y-is : y ≡ row_in table c) (x-is : x ≡ col_in table c) where
     row_is : y ≡ row g c
-    row_is = y-is ∙ r.table_of.row_at c on_board_lem
+    row_is = y-is ∙ tab.row_at c on_board_lem
 
     col_is : x ≡ col g c
-    col_is = x-is ∙ r.table_of.col_at c on_board_lem
+    col_is = x-is ∙ tab.col_at c on_board_lem
 
     pub fall_small : Small g s y x
     fall_small =
-        let m = r.small in
+        let m = small in
         record {
           limits = m.limits;
           from_row = m.from_row;
@@ -175,23 +167,20 @@ module _ {g : Grid} {table marks cs : List ℕ} {s : Shift} (r : Reaching g tabl
           col_small = omega (arith, col_is, col_lt g c on_board_lem, m.limits.width_fits);
         }
 
-    module _ {f : Fall} (fall-is : f ≡ fall_of (moved g s y x)) where
+    module _ {f : std.Option ℕ} (fall-is : f ≡ told (moved g s y x)) where
       moved_is : moved g s y x ≡ moved g s (row g c) (col g c)
       moved_is = ap₂ (moved g s) row_is col_is
 
-      pub walk_off : f ≡ Off → false ≡ reaches_of g s ids pids marks cs
+      pub walk_off : f ≡ std.None → false ≡ reaches_of g s ids pids marks cs
       unfolding holds
-      walk_off e = let o : moved g s (row g c) (col g c) ≡ none = sym moved_is ∙ fell_off _ (sym fall-is ∙ e) in sym (out (rw o)) ∙ turn
+      walk_off e = let o : moved g s (row g c) (col g c) ≡ none = sym moved_is ∙ told_none _ (sym fall-is ∙ e) in sym (out (rw o)) ∙ turn
 
-      module _ {z : ℕ} (e : f ≡ On z) where
+      module _ {z : ℕ} (e : f ≡ std.Some z) where
         falls_on : moved g s (row g c) (col g c) ≡ some z
-        falls_on = sym moved_is ∙ fell_on _ z (sym fall-is ∙ e)
+        falls_on = sym moved_is ∙ told_some _ z (sym fall-is ∙ e)
 
-        fall_cell : Cell g z
+        pub fall_cell : Cell g z
         fall_cell = fell_cell g s (row g c) (col g c) z (fell g s (row g c) (col g c) z falls_on)
-
-        pub fall_listed : Listed table z
-        fall_listed = listed g table r.small.limits r.table_of z fall_cell
 
         module _ {u : ℕ} (u-is : u ≡ unit_in table z) where
           unit_is : get_or ids z 0 ≡ u
@@ -210,9 +199,6 @@ module _ {g : Grid} {table marks cs : List ℕ} {s : Shift} (r : Reaching g tabl
               potential_is : get_or pids z 0 ≡ p
               potential_is = potential_at g table z fall_cell ∙ sym p-is
 
-              pub mark_there : p < length marks
-              mark_there = rw p-is (r.marks_long z fall_cell)
-
               abbrev test : ℕ → Bool
               test m = not (eqb m 0)
 
@@ -220,17 +206,10 @@ module _ {g : Grid} {table marks cs : List ℕ} {s : Shift} (r : Reaching g tabl
               unfolding holds
               meets = rw (falls_on, potential_is)
 
-              on : (met' : Bool) → either met (either (falls_marked g s pids marks c) (any (falls_marked g s pids marks) over)) ≡ either met' (any (falls_marked g s pids marks) over)
-                  → Walk g s ids pids marks cs met' (i + 1)
+              pub walk_more : Walk g s ids pids marks cs (either met (not (eqb (get_or marks p 0) 0))) (i + 1)
               unfolding left all any
-              on met' o = record { within = omega arith; rest = (sym (ap (both (all (falls_off g s ids) over)) o) ∙ rw off_unit at turn) }
-
-              pub walk_met : get_or marks p 0 ≢ 0 → Walk g s ids pids marks cs true (i + 1)
-              walk_met m = on true (rw (meets ∙ ap not (ne_eqb (get_or marks p 0) 0 m)) (by met))
+              walk_more = record { within = omega arith; rest = (sym (ap (both (all (falls_off g s ids) over)) (ap (λ t. either met (either t (any (falls_marked g s pids marks) over))) meets ∙ by met)) ∙ rw off_unit at turn) }
                 where
-                  by : (t : Bool) → either t true ≡ true
+                  by : (t : Bool) → either t (either (not (eqb (get_or marks p 0) 0)) (any (falls_marked g s pids marks) over)) ≡ either (either t (not (eqb (get_or marks p 0) 0))) (any (falls_marked g s pids marks) over)
                   by true = refl
                   by false = refl
-
-              pub walk_not : get_or marks p 0 ≡ 0 → Walk g s ids pids marks cs met (i + 1)
-              walk_not m = on met (rw (meets ∙ ap not (eq-eqb (get_or marks p 0) 0 m)))

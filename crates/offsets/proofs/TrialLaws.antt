@@ -8,6 +8,7 @@ use mathlib.Core.Option.{Option, none, some}
 use native.Mathlib.Omega.{arith}
 use lib.Dec.{eqb}
 use lib.ListN.{get_or, length}
+use Rattle.std.specs.Prelude as std
 use Rattle.lists.specs.Choice.{both, either, give, or_else, holds, through}
 use Rattle.lists.specs.Lists.{In, all, any, first}
 use Rattle.lists.proofs.ChoiceLaws.{both_true, holds_true}
@@ -24,17 +25,17 @@ use Rattle.groups.proofs.GroupLaws.{in_cells}
 use Rattle.shape.specs.declared.Try.{Try}
 use Rattle.shape.specs.declared.Try.TheVariants.{Passed, Good, Failed}
 use Rattle.shape.specs.Shape.{UnitInfo, shift, head_or0, unit_of, adjacent, falls, meets, inner_border, shut, on_wall, on_connected, landing, landed, try, try_at, is_good}
-use Rattle.offsets.specs.declared.reach.Shift.{Shift}
-use Rattle.offsets.specs.declared.landings.Fail.{Fail}
-use Rattle.offsets.specs.declared.landings.Fail.TheVariants.{Nowhere, At}
-use Rattle.offsets.specs.Table.{row_in, col_in, unit_in, potential_in, units_in, potentials_in, Listed}
-use Rattle.offsets.specs.Reach.{moved, Small, Reaching, falls_off, falls_marked, reaches_of}
-use Rattle.offsets.specs.Landings.{fail_of, fail_at, fail_cell, first_fail, kept_of, Falling}
-use Rattle.offsets.specs.Trial.{unit_at, shift_of, tried_at, Unit, Placed, Trial}
-use Rattle.offsets.proofs.TableLaws.{potential_at, listed}
+use Rattle.offsets.specs.declared.shift.Shift.{Shift}
+use Rattle.offsets.specs.declared.table.CellInfo.{CellInfo}
+use Rattle.offsets.specs.Told.{told}
+use Rattle.offsets.specs.Table.{row_in, col_in, unit_in, potential_in, units_in, potentials_in}
+use Rattle.offsets.specs.Reach.{moved, Small, falls_off, falls_marked, reaches_of}
+use Rattle.offsets.specs.Landings.{fail_at, fail_cell, first_fail, kept_of, failure_of, Falling}
+use Rattle.offsets.specs.Trial.{unit_at, shift_of, tried_at, Unit, Placed}
+use Rattle.offsets.proofs.TableLaws.{potential_at}
 use Rattle.offsets.proofs.ReachLaws.{fell, fell_cell}
 use Rattle.offsets.proofs.NoneLaws.{is_none, none_or_else, good_pick}
-use Rattle.offsets.proofs.FailLaws.{failed_at, failed_nowhere}
+use Rattle.offsets.proofs.ToldLaws.{told_some, told_none}
 
 shift_moved : (g : Grid) (k f t c : ℕ) → shift g f t c ≡ moved g (shift_of g k f t) (row g c) (col g c)
 unfolding shift moved
@@ -51,36 +52,29 @@ head_at [] = refl
 head_at (c ∷ cs) = refl
 
 -- the shift's numbers are the table's
-module _ {g : Grid} {table cs : List ℕ} {t : ℕ} (u : Unit g table cs) (to_cell : Cell g t) where
-  a_cell : (c : ℕ) → In c cs → Cell g c
-  a_cell c m = (in_cells g (units_in g table) (unit_in table (head_or0 cs)) c (rw u.cells_are at m)).0
+module _ {g : Grid} {table : List CellInfo} {cs : List ℕ} (u : Unit g table cs) where
+  pub unit_cell : (c : ℕ) → In c cs → Cell g c
+  unit_cell c m = (in_cells g (units_in g table) (unit_in table (head_or0 cs)) c (rw u.cells_are at m)).0
 
-  head_cell : Cell g (head_or0 cs)
-  head_cell = a_cell (head_or0 cs) (head_in cs u.some)
+  pub head_cell : Cell g (head_or0 cs)
+  head_cell = unit_cell (head_or0 cs) (head_in cs u.some)
 
-  pub to_listed : Listed table t
-  to_listed = listed g table u.limits u.table_of t to_cell
+  pub first_cell_of : {f' : ℕ} → f' ≡ get_or cs 0 0 → Cell g f'
+  first_cell_of q = rw (q ∙ head_at cs) head_cell
 
-  module _ {f' : ℕ} (first_is : f' ≡ get_or cs 0 0) where
-    pub first_listed : Listed table f'
-    first_listed = rw (first_is ∙ head_at cs) (listed g table u.limits u.table_of (head_or0 cs) head_cell)
+  pub shift_is : {f' t k a b c d : ℕ} → f' ≡ get_or cs 0 0 → Cell g t → k ≡ unit_in table f' → a ≡ row_in table f' → b ≡ col_in table f' → c ≡ row_in table t → d ≡ col_in table t
+      → ◌≡◌ {A = Shift} (record { unit = k; from_row = a; from_col = b; to_row = c; to_col = d }) (shift_of g (unit_in table (head_or0 cs)) (head_or0 cs) t)
+  shift_is {f'} {t} {k} {a} {b} {c} {d} first_is to_cell e x y m n =
+      let w : f' ≡ head_or0 cs = first_is ∙ head_at cs in
+      let e' : k ≡ unit_in table (head_or0 cs) = e ∙ ap (unit_in table) w in
+      let x' : a ≡ row g (head_or0 cs) = x ∙ ap (row_in table) w ∙ u.table_of.row_at (head_or0 cs) head_cell in
+      let y' : b ≡ col g (head_or0 cs) = y ∙ ap (col_in table) w ∙ u.table_of.col_at (head_or0 cs) head_cell in
+      rw (e', x', y', m ∙ u.table_of.row_at t to_cell, n ∙ u.table_of.col_at t to_cell)
 
-    pub shift_is : {k a b c d : ℕ} → k ≡ unit_in table f' → a ≡ row_in table f' → b ≡ col_in table f' → c ≡ row_in table t → d ≡ col_in table t
-        → ◌≡◌ {A = Shift} (record { unit = k; from_row = a; from_col = b; to_row = c; to_col = d }) (shift_of g (unit_in table (head_or0 cs)) (head_or0 cs) t)
-    shift_is {k} {a} {b} {c} {d} e x y m n =
-        let w : f' ≡ head_or0 cs = first_is ∙ head_at cs in
-        let e' : k ≡ unit_in table (head_or0 cs) = e ∙ ap (unit_in table) w in
-        let x' : a ≡ row g (head_or0 cs) = x ∙ ap (row_in table) w ∙ u.table_of.row_at (head_or0 cs) head_cell in
-        let y' : b ≡ col g (head_or0 cs) = y ∙ ap (col_in table) w ∙ u.table_of.col_at (head_or0 cs) head_cell in
-        rw (e', x', y', m ∙ u.table_of.row_at t to_cell, n ∙ u.table_of.col_at t to_cell)
-
-pub unit_of_lem : {g : Grid} {states table marks cs : List ℕ} → Placed g states table marks cs → Unit g table cs
+pub unit_of_lem : {g : Grid} {states : List ℕ} {table : List CellInfo} {marks cs : List ℕ} → Placed g states table marks cs → Unit g table cs
 unit_of_lem p = record { limits = p.limits; table_of = p.table_of; some = p.some; cells_are = p.cells_are }
 
-module _ {g : Grid} {states table marks cs : List ℕ} {t : ℕ} (r : Trial g states table marks cs t) where
-  abbrev p : Placed g states table marks cs
-  p = r.placed
-
+module _ {g : Grid} {states : List ℕ} {table : List CellInfo} {marks cs : List ℕ} {t : ℕ} (p : Placed g states table marks cs) (to_cell : Cell g t) where
   abbrev ids : List ℕ
   ids = units_in g table
 
@@ -111,14 +105,11 @@ module _ {g : Grid} {states table marks cs : List ℕ} {t : ℕ} (r : Trial g st
         limits = p.limits;
         from_row = omega (arith, row_lt g f first_cell, p.limits.height_fits);
         from_col = omega (arith, col_lt g f first_cell, p.limits.width_fits);
-        to_row = omega (arith, row_lt g t r.to_cell, p.limits.height_fits);
-        to_col = omega (arith, col_lt g t r.to_cell, p.limits.width_fits);
+        to_row = omega (arith, row_lt g t to_cell, p.limits.height_fits);
+        to_col = omega (arith, col_lt g t to_cell, p.limits.width_fits);
         row_small = omega arith;
         col_small = omega arith;
       }
-
-  reaching : Reaching g table marks cs s
-  reaching = record { small = small; table_of = p.table_of; on_board = on_board_lem; marks_long = p.marks_long }
 
   u_cells : u.cells ≡ cs
   unfolding unit_of
@@ -164,14 +155,12 @@ module _ {g : Grid} {states table marks cs : List ℕ} {t : ℕ} (r : Trial g st
       (all_same (falls_off g s ids) (falls ids u put) cs (λ c m. falls_is c) ∙ ap (all (falls ids u put)) (sym u_cells))
       (any_same (falls_marked g s pids marks) (meets g states pids u put) cs (λ c m. marked_is c) ∙ ap (any (meets g states pids u put)) (sym u_cells))
 
-  falling : reached ≡ true → Falling g states table cs s
+  falling : reached ≡ true → Falling g cs s
   unfolding reaches_of
   falling q =
       let k = both_true (all (falls_off g s ids) cs) (any (falls_marked g s pids marks) cs) q in
       record {
         small = small;
-        table_of = p.table_of;
-        states_long = p.states_long;
         on_board = on_board_lem;
         falls = λ c i. let o = holds_true (moved g s (row g c) (col g c)) (λ x. not (eqb (get_or ids x 0) unit)) (all_true (falls_off g s ids) cs k.0 c i) in (o.0, o.1);
       }
@@ -217,57 +206,41 @@ module _ {g : Grid} {states table marks cs : List ℕ} {t : ℕ} (r : Trial g st
       ∙ ap₂ both (sym reach_is) (none_or_else inner_first outer_first ∙ ap₂ both (ap is_none (sym first_inner)) (ap is_none (sym first_outer)))
 
   module _ {s' : Shift} (e : s' ≡ s) where
-    pub reach_asks : Reaching g table marks cs s'
-    reach_asks = rw e reaching
+    pub shift_small : Small g s' 0 0
+    shift_small = rw e small
 
-    module _ {met : Bool} (told : met ≡ reaches_of g s' ids pids marks cs) where
+    module _ {met : Bool} (told_met : met ≡ reaches_of g s' ids pids marks cs) where
       met_is : met ≡ reached
-      met_is = told ∙ ap (λ (z : Shift). reaches_of g z ids pids marks cs) e
+      met_is = told_met ∙ ap (λ (z : Shift). reaches_of g z ids pids marks cs) e
 
       pub trial_passed : met ≡ false → Passed ≡ answer
       unfolding try_at try
       trial_passed q = rw (sym reach_is ∙ sym met_is ∙ q)
 
       module _ (q : met ≡ true) where
-        pub fail_asks : Falling g states table cs s'
+        pub fail_asks : Falling g cs s'
         fail_asks = rw e (falling (sym met_is ∙ q))
 
         by_landing : (o : Option ℕ) → or_else inner_first outer_first ≡ o → answer ≡ landed o
         unfolding try_at try landing inner_first outer_first
         by_landing o k = rw (sym reach_is ∙ sym met_is ∙ q, k)
 
-        module _ {a : Fail} (inner : a ≡ fail_of (first_fail g s' states ids true cs)) where
-          inner_told : a ≡ fail_of (first_fail g s states ids true cs)
-          inner_told = inner ∙ ap (λ (z : Shift). fail_of (first_fail g z states ids true cs)) e
+        module _ {r : std.Option ℕ} (failure : r ≡ told (failure_of g s' states ids cs)) where
+          failure_is : r ≡ told (or_else inner_first outer_first)
+          unfolding failure_of
+          failure_is = failure ∙ ap (λ (z : Shift). told (or_else (first_fail g z states ids true cs) (first_fail g z states ids false cs))) e ∙ ap₂ (λ a b. told (or_else a b)) first_inner first_outer
 
-          pub trial_inner : {l : ℕ} → a ≡ At l → Failed l ≡ answer
-          unfolding landed or_else
-          trial_inner {l} k = sym (by_landing (some l) (rw (sym first_inner ∙ failed_at (first_fail g s states ids true cs) l (sym k ∙ inner_told))))
+          pub trial_failed : {l : ℕ} → r ≡ std.Some l → Failed l ≡ answer
+          unfolding landed
+          trial_failed {l} k = sym (by_landing (some l) (told_some _ l (sym failure_is ∙ k)))
 
-          module _ (k : a ≡ Nowhere) {b : Fail} (outer : b ≡ fail_of (first_fail g s' states ids false cs)) where
-            none_inner : inner_first ≡ none
-            none_inner = sym first_inner ∙ failed_nowhere (first_fail g s states ids true cs) (sym k ∙ inner_told)
-
-            outer_told : b ≡ fail_of (first_fail g s states ids false cs)
-            outer_told = outer ∙ ap (λ (z : Shift). fail_of (first_fail g z states ids false cs)) e
-
-            pub trial_outer : {l : ℕ} → b ≡ At l → Failed l ≡ answer
-            unfolding landed or_else
-            trial_outer {l} m = sym (by_landing (some l) (rw (none_inner, sym first_outer ∙ failed_at (first_fail g s states ids false cs) l (sym m ∙ outer_told))))
-
-            pub trial_good : b ≡ Nowhere → Good ≡ answer
-            unfolding landed or_else
-            trial_good m = sym (by_landing none (rw (none_inner, sym first_outer ∙ failed_nowhere (first_fail g s states ids false cs) (sym m ∙ outer_told))))
+          pub trial_good : r ≡ std.None → Good ≡ answer
+          unfolding landed
+          trial_good k = sym (by_landing none (told_none _ (sym failure_is ∙ k)))
 
 -- whether it is good
-pub passed_not : {t : Try} → Passed ≡ t → false ≡ is_good t
+pub not_good : (t : Try) → (t ≡ Good → ⊥) → false ≡ is_good t
 unfolding is_good
-passed_not e = ap is_good e
-
-pub failed_not : {l : ℕ} {t : Try} → Failed l ≡ t → false ≡ is_good t
-unfolding is_good
-failed_not e = ap is_good e
-
-pub good_so : {t : Try} → Good ≡ t → true ≡ is_good t
-unfolding is_good
-good_so e = ap is_good e
+not_good Passed k = refl
+not_good Good k = absurd (k refl)
+not_good (Failed l) k = refl

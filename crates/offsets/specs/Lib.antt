@@ -1,5 +1,6 @@
 -- Defined here: the table of an ask (`Table`), border places in doubled coordinates (`Places`), whether a unit reaches an adjacent potential
 -- unit (`Reach`), its landings (`Landings`), and what one trial asks and answers (`Trial`): the code's steps to the definitions of crate shape.
+pub mod Told
 pub mod Table
 pub mod Places
 pub mod Reach

@@ -1,19 +1,12 @@
 -- Where the cells of a unit fall, and whether the offset is passed over. Assumes nothing.
-use Rattle.std.specs.Prelude.{ℕ, ◌+◌, ◌*◌, ◌<◌, Bool, not, List, eqb, get_or, length}
-use Rattle.std.proofs.Math.Option.{Option, none, some}
+use Rattle.std.specs.Prelude.{ℕ, ◌+◌, ◌*◌, ◌<◌, Bool, not, List, eqb, get_or}
+use Rattle.std.proofs.Math.Option.{Option, some}
 use Rattle.lists.specs.Choice.{both, holds, through}
-use Rattle.lists.specs.Lists.{In, all, any}
+use Rattle.lists.specs.Lists.{all, any}
 use Rattle.grid.specs.declared.Grid.{Grid}
-use Rattle.grid.specs.Grid.{Limits, Cell, row, col}
+use Rattle.grid.specs.Grid.{Limits, row, col}
 use Rattle.shape.specs.Shape.{along}
-use Rattle.offsets.specs.declared.reach.Shift.{Shift}
-use Rattle.offsets.specs.declared.reach.Fall.{Fall}
-use Rattle.offsets.specs.declared.reach.Fall.TheVariants.{Off, On}
-use Rattle.offsets.specs.Table.{Table, potential_in}
-
-abbrev pub fall_of : Option ℕ → Fall
-fall_of none = Off
-fall_of (some x) = On x
+use Rattle.offsets.specs.declared.shift.Shift.{Shift}
 
 -- the cell on which the cell at a row and column falls
 unfoldable pub moved : Grid → Shift → ℕ → ℕ → Option ℕ
@@ -29,13 +22,6 @@ pub record Small (g : Grid) (s : Shift) (y x : ℕ) : Type 0 where
   pub to_col : s.to_col < 32
   pub row_small : y < 32
   pub col_small : x < 32
-
--- the unit's cells are on the board, the table is filled, and each potential unit in it has a mark
-pub record Reaching (g : Grid) (table marks cs : List ℕ) (s : Shift) : Type 0 where
-  pub small : Small g s 0 0
-  pub table_of : Table g table
-  pub on_board : (c : ℕ) → In c cs → Cell g c
-  pub marks_long : (c : ℕ) → Cell g c → potential_in table c < length marks
 
 -- c falls on the board and off the unit
 abbrev pub falls_off : Grid → Shift → List ℕ → ℕ → Bool

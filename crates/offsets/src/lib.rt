@@ -4,87 +4,112 @@
 ghost use Rattle.std.specs.Prelude.{◌≡◌};
 ghost use Rattle.grid.specs.Grid.{Cell};
 ghost use Rattle.shape.specs.Shape.{head_or0, is_good};
-ghost use Rattle.offsets.specs.Table.{unit_in};
-ghost use Rattle.offsets.specs.Trial.{Unit, Trial, shift_of, tried_at};
+ghost use Rattle.offsets.specs.Told.{told};
+ghost use Rattle.offsets.specs.Table.{unit_in, units_in, potentials_in};
+ghost use Rattle.offsets.specs.Reach.{Small, reaches_of};
+ghost use Rattle.offsets.specs.Landings.{Falling, is_inner, first_fail, failure_of};
+ghost use Rattle.offsets.specs.Trial.{shift_of, tried_at};
 
-use grid::Grid;
-use landings::Fail;
-use reach::Shift;
+use chart::Chart;
+use landings::Kind;
 use shape::Try;
+use shift::Shift;
+use trial::Trial;
+use unit::UnitCells;
 
-mod landings;
+pub mod chart;
+pub mod landings;
 mod places;
-mod reach;
+pub mod shift;
 pub mod table;
+pub mod trial;
+pub mod unit;
 
-pub use landings::kept;
+impl UnitCells<'_> {
+    // Where the cells go, whose first cell goes to `to`.
+    fn shift_to(self, to: usize) -> Shift
+        requires { Cell self.chart.borders.grid to }
+        ensures { result ≡ shift_of self.entry.chart.borders.grid (unit_in self.entry.chart.table.now (head_or0 self.entry.cells.now)) (head_or0 self.entry.cells.now) to }
+    {
+        let from = self.chart.table[usize::from(self.cells[0])];
+        let to = self.chart.table[to];
+        Shift {
+            unit: from.unit,
+            from_row: usize::from(from.row),
+            from_col: usize::from(from.col),
+            to_row: usize::from(to.row),
+            to_col: usize::from(to.col),
+        }
+    }
 
-// Where the cells of a unit go, whose first cell goes to `to`.
-fn shift_to<'a>(g: Grid, table: &'a [u16], cells: &'a [u16], to: usize) -> Shift
-    requires unit { Unit g table.now cells.now }
-    requires cell { Cell g to }
-    ensures { result ≡ shift_of g (unit_in table.now (head_or0 cells.now)) (head_or0 cells.now) to }
-{
-    let first = lists::wide(cells[0]);
-    Shift {
-        unit: table::unit(table, first),
-        from_row: table::row(table, first),
-        from_col: table::col(table, first),
-        to_row: table::row(table, to),
-        to_col: table::col(table, to),
+    // The entry of the unit's first border of a kind that lands badly.
+    fn first_failure(self, shift: Shift, kind: Kind) -> Option<u16>
+        requires { Falling self.chart.borders.grid self.cells.now shift }
+        ensures { result ≡ told (first_fail self.entry.chart.borders.grid shift self.entry.chart.borders.states.now (units_in self.entry.chart.borders.grid self.entry.chart.table.now) (is_inner kind) self.entry.cells.now) }
+    {
+        for &cell in self.cells {
+            if let Some(entry) = self.chart.cell_failure(shift, kind, usize::from(cell)) {
+                return Some(entry);
+            }
+        }
+        None
+    }
+
+    // The entry of its first border that lands badly: inner borders first.
+    fn failure(self, shift: Shift) -> Option<u16>
+        requires { Falling self.chart.borders.grid self.cells.now shift }
+        ensures { result ≡ told (failure_of self.entry.chart.borders.grid shift self.entry.chart.borders.states.now (units_in self.entry.chart.borders.grid self.entry.chart.table.now) self.entry.cells.now) }
+    {
+        if let Some(entry) = self.first_failure(shift, Kind::Inner) {
+            return Some(entry);
+        }
+        self.first_failure(shift, Kind::Outer)
     }
 }
 
-// The unit of these cells, with its first cell put on `to`.
-pub fn try_at<'a>(
-    g: Grid,
-    states: &'a [u8],
-    table: &'a [u16],
-    marks: &'a [u8],
-    cells: &'a [u16],
-    to: usize,
-) -> Try
-    requires { Trial g states.now table.now marks.now cells.now to }
-    ensures { result ≡ tried_at g states.now table.now cells.now to }
-{
-    let s = shift_to(g, table, cells, to);
-    if !reach::reaches(g, table, marks, cells, s) {
-        return Try::Passed;
+impl Trial<'_> {
+    // An offset that is not passed over: all cells fall on the board and off the unit, and one falls in a marked potential unit.
+    fn reaches(self, shift: Shift) -> bool
+        requires { Small self.unit.chart.borders.grid shift 0 0 }
+        ensures { result ≡ reaches_of self.entry.unit.chart.borders.grid shift (units_in self.entry.unit.chart.borders.grid self.entry.unit.chart.table.now) (potentials_in self.entry.unit.chart.borders.grid self.entry.unit.chart.table.now) self.entry.marks.now self.entry.unit.cells.now }
+    {
+        let Chart { borders, table } = self.unit.chart;
+        let mut met = false;
+        for &cell in self.unit.cells {
+            let info = table[usize::from(cell)];
+            let (row, col) = (usize::from(info.row), usize::from(info.col));
+            let Some(fallen) = shift.falls(borders.grid, row, col) else {
+                return false;
+            };
+            let beneath = table[fallen];
+            if beneath.unit == shift.unit {
+                return false;
+            }
+            met |= self.marks[usize::from(beneath.potential)] != 0;
+        }
+        met
     }
-    let inner = landings::first_fail(g, states, table, cells, s, true);
-    if let Fail::At(entry) = inner {
-        return Try::Failed(entry);
-    }
-    let outer = landings::first_fail(g, states, table, cells, s, false);
-    if let Fail::At(entry) = outer {
-        return Try::Failed(entry);
-    }
-    Try::Good
-}
 
-// Whether that offset is good.
-pub fn good_at<'a>(
-    g: Grid,
-    states: &'a [u8],
-    table: &'a [u16],
-    marks: &'a [u8],
-    cells: &'a [u16],
-    to: usize,
-) -> bool
-    requires { Trial g states.now table.now marks.now cells.now to }
-    ensures { result ≡ is_good (tried_at g states.now table.now cells.now to) }
-{
-    let s = shift_to(g, table, cells, to);
-    if !reach::reaches(g, table, marks, cells, s) {
-        return false;
+    // What comes of the unit with its first cell put on `to`.
+    pub fn at(self, to: usize) -> Try
+        requires { Cell self.unit.chart.borders.grid to }
+        ensures { result ≡ tried_at self.entry.unit.chart.borders.grid self.entry.unit.chart.borders.states.now self.entry.unit.chart.table.now self.entry.unit.cells.now to }
+    {
+        let shift = self.unit.shift_to(to);
+        if !self.reaches(shift) {
+            return Try::Passed;
+        }
+        match self.unit.failure(shift) {
+            Some(entry) => Try::Failed(entry),
+            None => Try::Good,
+        }
     }
-    let inner = landings::first_fail(g, states, table, cells, s, true);
-    if let Fail::At(_) = inner {
-        return false;
+
+    // Whether that offset is good.
+    pub fn is_good_at(self, to: usize) -> bool
+        requires { Cell self.unit.chart.borders.grid to }
+        ensures { result ≡ is_good (tried_at self.entry.unit.chart.borders.grid self.entry.unit.chart.borders.states.now self.entry.unit.chart.table.now self.entry.unit.cells.now to) }
+    {
+        matches!(self.at(to), Try::Good)
     }
-    let outer = landings::first_fail(g, states, table, cells, s, false);
-    let Fail::At(_) = outer else {
-        return true;
-    };
-    false
 }

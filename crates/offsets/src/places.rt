@@ -3,21 +3,14 @@
 ghost use Rattle.std.specs.Prelude.{◌≡◌, ◌<◌};
 ghost use Rattle.std.specs.Int.Signed.{mag};
 ghost use Rattle.grid.specs.Grid.{Limits};
-ghost use Rattle.offsets.specs.Places.{ahead_of, coordinate_of, border_of, border_at, land_of};
+ghost use Rattle.offsets.specs.Places.{ahead_of, coordinate_of, border_at, land_of};
 
-use grid::{Beyond, Direction, Grid};
+use grid::{Direction, Grid};
 
 #[derive(Clone, Copy)]
 pub struct Place {
     pub y: i32,
     pub x: i32,
-}
-
-// Where a border lands: on a border of the board, or outside it.
-#[derive(Clone, Copy)]
-pub enum Landing {
-    Border(usize),
-    Outside,
 }
 
 // From a cell's place to that of its border in a direction.
@@ -43,46 +36,31 @@ pub fn coordinate(at: usize, ahead: i32, from: usize, to: usize) -> i32
 }
 
 // The border at a place of the board: an odd row lies between two rows of cells, any other between two columns.
-fn border_at(g: Grid, y: usize, x: usize) -> Landing
-    requires { Limits g }
-    ensures { result ≡ border_at g y x }
+fn border_at(grid: Grid, y: usize, x: usize) -> Option<usize>
+    requires { Limits grid }
+    ensures { result ≡ border_at grid y x }
 {
-    let height = g.height;
-    let width = g.width;
-    if 2 * height - 1 <= y {
-        return Landing::Outside;
-    }
-    if 2 * width - 1 <= x {
-        return Landing::Outside;
+    if 2 * grid.height - 1 <= y || 2 * grid.width - 1 <= x {
+        return None;
     }
     let row = y / 2;
     let col = x / 2;
-    let cell = row * width + col;
-    if y % 2 == 1 {
-        return border_of(grid::step_at(g, row, col, cell, Direction::Down));
-    }
-    border_of(grid::step_at(g, row, col, cell, Direction::Right))
-}
-
-fn border_of(b: Beyond) -> Landing
-    ensures { result ≡ border_of b }
-{
-    let Beyond::At(_, border) = b else {
-        return Landing::Outside;
+    let direction = if y % 2 == 1 {
+        Direction::Down
+    } else {
+        Direction::Right
     };
-    Landing::Border(border)
+    let beyond = grid.step_at(row, col, row * grid.width + col, direction)?;
+    Some(beyond.border)
 }
 
-// Where a place lands. A negative one is outside, and only after that test is it halved.
-pub fn land(g: Grid, y: i32, x: i32) -> Landing
-    requires { Limits g }
-    ensures { result ≡ land_of g y x }
+// The border at a place, and none outside the board. A negative place is outside, and only after that test is it halved.
+pub fn land(grid: Grid, y: i32, x: i32) -> Option<usize>
+    requires { Limits grid }
+    ensures { result ≡ land_of grid y x }
 {
-    if y < 0 {
-        return Landing::Outside;
+    if y < 0 || x < 0 {
+        return None;
     }
-    if x < 0 {
-        return Landing::Outside;
-    }
-    border_at(g, y as usize, x as usize)
+    border_at(grid, y as usize, x as usize)
 }

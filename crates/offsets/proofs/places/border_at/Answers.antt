@@ -1,47 +1,38 @@
--- `offsets::places::border_at` meets its contract: one law of `PlaceLaws` for each return. Assumes nothing.
-use mathlib.Core.Path.{sym, ap, ◌∙◌}
-use native.Mathlib.Omega.{arith}
-use Rattle.grid.proofs.Geometry.{cells_le}
+-- `offsets::places::border_at` meets its contract: a place of the board is that of a cell's border. Assumes nothing.
+use Prim.Native.Nat.{◌%◌, ◌/◌, ◌*◌, ◌+◌}
+use mathlib.Core.Path.{◌≡◌, refl, sym, ap, ◌∙◌}
+use borrow.Author.Tests.{eq-eqb, ne_eqb}
+use lib.Dec.{eqb}
+use Rattle.lists.specs.Choice.{pick}
+use Rattle.grid.specs.declared.Direction.TheVariants.{Down, Right}
 use Rattle.offsets.specs.Places.{border_of}
-use Rattle.offsets.proofs.PlaceLaws.{off_rows, off_cols, odd_row, even_row, halved_cell, halved_on}
+use Rattle.offsets.proofs.PlaceLaws.{off_rows, off_cols, on_place, halved_on}
+use Rattle.offsets.proofs.places.border_at.Goals.{then-grid-y-via-then-grid-y, then-grid-y-via-else-grid-y+then-grid-x, then-y-eq1, else-y-eq1}
 use Rattle.offsets.proofs.places.border_at.Goals as goal
 
-pub returns-then-height-y : goal.returns-then-height-y
-returns-then-height-y c =
-    let g = c.args.g in
-    sym (off_rows g c.requires c.args.y c.args.x c.if-height-y.true)
-
-pub returns-then-width-x : goal.returns-then-width-x
-returns-then-width-x c =
-    let g = c.args.g in
-    sym (off_cols g c.requires c.args.y c.args.x c.if-height-y.false c.if-width-x.true)
-
-pub overflow_mul-cell : goal.overflow_mul-cell
-overflow_mul-cell c =
-    let g = c.args.g in
-    omega (arith, halved_cell g c.requires c.args.y c.args.x c.if-height-y.false c.if-width-x.false, cells_le g c.requires)
-
-pub overflow_add-cell : goal.overflow_add-cell
-overflow_add-cell c =
-    let g = c.args.g in
-    omega (arith, halved_cell g c.requires c.args.y c.args.x c.if-height-y.false c.if-width-x.false, cells_le g c.requires)
+pub returns-then-grid-y : goal.returns-then-grid-y
+returns-then-grid-y c =
+    let a = c.args in
+    elim c.then-grid-y.branch [
+      | then-grid-y-via-then-grid-y w ↦ sym (off_rows a.grid c.requires a.y a.x w.if-grid-y.true)
+      | then-grid-y-via-else-grid-y+then-grid-x w ↦ sym (off_cols a.grid c.requires a.y a.x w.if-grid-y.false w.if-grid-x.true)
+    ]
 
 pub step_at-requires : goal.step_at-requires
-step_at-requires c =
-    let g = c.args.g in
-    halved_on g c.requires c.args.y c.args.x c.if-height-y.false c.if-width-x.false
+step_at-requires c = halved_on c.args.grid c.requires c.args.y c.args.x c.if-grid-y.false c.if-grid-x.false
 
-pub returns-then-y-eq1 : goal.returns-then-y-eq1
-returns-then-y-eq1 c =
-    let g = c.args.g in
-    c.border_of.ensures ∙ ap border_of c.step_at.ensures ∙ sym (odd_row g c.requires c.args.y c.args.x c.if-height-y.false c.if-width-x.false c.if-y-eq1.true)
-
-pub step_at-requires-2 : goal.step_at-requires-2
-step_at-requires-2 c =
-    let g = c.args.g in
-    halved_on g c.requires c.args.y c.args.x c.if-height-y.false c.if-width-x.false
+pub returns-in_err-beyond : goal.returns-in_err-beyond
+returns-in_err-beyond c =
+    let a = c.args in
+    let d : pick (eqb (a.y % 2) 1) Down Right ≡ c.if-y-eq1.direction =
+    elim c.if-y-eq1.branch [ then-y-eq1 w ↦ rw (w.direction-is, eq-eqb (a.y % 2) 1 w.if-y-eq1.true) | else-y-eq1 w ↦ rw (w.direction-is, ne_eqb (a.y % 2) 1 w.if-y-eq1.false) ] in
+    c.from_residual.ensures ∙ ap border_of (sym c.in_err-beyond.was ∙ c.step_at.ensures)
+    ∙ sym (on_place a.grid c.requires a.y a.x (a.y / 2 * a.grid.width + a.x / 2) c.if-y-eq1.direction c.if-grid-y.false c.if-grid-x.false d refl)
 
 pub returns : goal.returns
 returns c =
-    let g = c.args.g in
-    c.border_of-2.ensures ∙ ap border_of c.step_at-2.ensures ∙ sym (even_row g c.requires c.args.y c.args.x c.if-height-y.false c.if-width-x.false c.if-y-eq1.false)
+    let a = c.args in
+    let d : pick (eqb (a.y % 2) 1) Down Right ≡ c.if-y-eq1.direction =
+    elim c.if-y-eq1.branch [ then-y-eq1 w ↦ rw (w.direction-is, eq-eqb (a.y % 2) 1 w.if-y-eq1.true) | else-y-eq1 w ↦ rw (w.direction-is, ne_eqb (a.y % 2) 1 w.if-y-eq1.false) ] in
+    ap border_of (sym c.in_ok-beyond.was ∙ c.step_at.ensures)
+    ∙ sym (on_place a.grid c.requires a.y a.x (a.y / 2 * a.grid.width + a.x / 2) c.if-y-eq1.direction c.if-grid-y.false c.if-grid-x.false d refl)

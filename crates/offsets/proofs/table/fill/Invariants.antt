@@ -1,11 +1,10 @@
--- `offsets::table::fill` meets its contract: the loop's invariant is that the cells before this one have their four numbers. Assumes nothing.
-use Prim.Native.Nat.{◌-◌}
-use Rattle.grid.specs.Grid.{grid}
+-- `offsets::table::fill` meets its contract: the cells before this one have theirs. Assumes nothing.
+use Rattle.std.proofs.Common.{◌≡◌, ◌+◌, ◌*◌}
 use Rattle.offsets.proofs.TableLaws.{Filling}
 use Rattle.offsets.proofs.table.fill.Given as goal
 
-abbrev pub invariant-loop-cell : goal.invariant-loop-cell
-invariant-loop-cell l = Filling (grid l.height l.width) l.ids l.pids l.initial.table l.table l.cell l.y l.x
+abbrev pub invariant-loop-row : goal.invariant-loop-row
+invariant-loop-row l = (l.cell ≡ l.row * l.grid.width) × Filling l.grid l.ids l.pids l.initial.table l.table l.cell
 
-abbrev pub decreases-loop-cell : goal.decreases-loop-cell
-decreases-loop-cell l = l.n - l.cell
+abbrev pub invariant-loop-col : goal.invariant-loop-col
+invariant-loop-col l = (l.cell ≡ l.row * l.grid.width + l.col) × Filling l.grid l.ids l.pids l.fn.table l.table l.cell
