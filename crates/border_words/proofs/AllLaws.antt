@@ -14,18 +14,19 @@ use Rattle.grid.specs.declared.Direction.TheVariants.{Up, Down, Left, Right}
 use Rattle.grid.specs.declared.Grid.{Grid}
 use Rattle.grid.specs.Grid.{Limits}
 use Rattle.borders.specs.Border.{stands}
+use Rattle.borders.specs.Fits.{Fits}
 use Rattle.words.specs.Words.{bit}
 use Rattle.words.specs.Layout.{base_of, back_of, side_at}
 use Rattle.border_words.specs.Sides.{BorderWords}
-use Rattle.border_words.specs.Filled.{Borders, Filling, Filled, Unfilled}
+use Rattle.border_words.specs.Filled.{SideWord, Filled, Unfilled}
 use Rattle.border_words.proofs.SideLaws.{right_says, left_says, down_says, up_says, down_none, up_none}
 
 -- the words of the borders under the cells, and of those right of them, for borders in state k
 abbrev Under : Grid → List ℕ → ℕ → ℕ → List ℕ → List ℕ → Type 0
-Under g states k at words words' = Filled (λ y. Borders (g.height * (g.width - 1) + y * g.width) g.width states k) (g.height - 1) at words words'
+Under g states k at words words' = Filled (λ y. SideWord (g.height * (g.width - 1) + y * g.width) g.width states k) (g.height - 1) at words words'
 
 abbrev Right-of : Grid → List ℕ → ℕ → ℕ → List ℕ → List ℕ → Type 0
-Right-of g states k at words words' = Filled (λ y. Borders (y * (g.width - 1)) (g.width - 1) states k) g.height at words words'
+Right-of g states k at words words' = Filled (λ y. SideWord (y * (g.width - 1)) (g.width - 1) states k) g.height at words words'
 
 -- both, where the table was blank from place `at` on; nothing has changed there since
 module _ (g : Grid) (limits : Limits g) (states : List ℕ) (k at : ℕ) (words₀ words₁ words₂ words : List ℕ) (clear : (z : ℕ) → at ≤ z → ◌≡◌ {A = ℕ} (get_or words₀ z 0) 0)
@@ -34,10 +35,10 @@ module _ (g : Grid) (limits : Limits g) (states : List ℕ) (k at : ℕ) (words�
   early : (z : ℕ) → z < at + 33 → get_or words z 0 ≡ get_or words₁ z 0
   early z h = kept z (omega arith) ∙ beside.before z h
 
-  right_word : (y : ℕ) → y < g.height → Borders (y * (g.width - 1)) (g.width - 1) states k (get_or words (at + 33 + y) 0)
+  right_word : (y : ℕ) → y < g.height → SideWord (y * (g.width - 1)) (g.width - 1) states k (get_or words (at + 33 + y) 0)
   right_word y h = rw (kept (at + 33 + y) (omega arith)) (beside.made y h)
 
-  down_word : (z y : ℕ) → z ≡ at + 1 + y → y < g.height - 1 → Borders (g.height * (g.width - 1) + y * g.width) g.width states k (get_or words z 0)
+  down_word : (z y : ℕ) → z ≡ at + 1 + y → y < g.height - 1 → SideWord (g.height * (g.width - 1) + y * g.width) g.width states k (get_or words z 0)
   down_word z y e h = rw (early z (omega arith), e) (under.made y h)
 
   kind_says : (d : Direction) (y x : ℕ) → y < g.height → x < g.width → bit (get_or words (at + base_of d + y) 0) (32 + x - back_of d) ≡ stands g states k d (y * g.width + x)
@@ -60,9 +61,9 @@ module _ (g : Grid) (limits : Limits g) (states : List ℕ) (k at : ℕ) (words�
       (le_or_lt 1 y))
 
 -- Walls from place 0 on, and then Connected borders from place 66 on
-pub both_kinds : {g : Grid} {states words₀ words₁ words₂ words₃ words₄ : List ℕ} → Filling g states 132 (length words₀) → Unfilled words₀ → Under g states 2 1 words₀ words₁
+pub both_kinds : {g : Grid} {states words₀ words₁ words₂ words₃ words₄ : List ℕ} → Fits g states → 132 ≤ length words₀ → Unfilled words₀ → Under g states 2 1 words₀ words₁
     → Right-of g states 2 33 words₁ words₂ → Under g states 1 67 words₂ words₃ → Right-of g states 1 99 words₃ words₄ → BorderWords g states words₄
-both_kinds {g} {states} {words₀} {words₁} {words₂} {words₃} {words₄} f clear u r u' r' = record { long = omega arith; says = says }
+both_kinds {g} {states} {words₀} {words₁} {words₂} {words₃} {words₄} f room clear u r u' r' = record { long = omega arith; says = says }
   where
     says : (walls : Bool) (d : Direction) (y x : ℕ) → y < g.height → x < g.width → bit (get_or words₄ (side_at walls d + y) 0) (32 + x - back_of d) ≡ stands g states (pick walls 2 1) d (y * g.width + x)
     says true = kind_says g f.limits states 2 0 words₀ words₁ words₂ words₄ (λ z h. clear z) u r (λ z h. r'.before z (omega arith) ∙ u'.before z (omega arith))

@@ -10,7 +10,8 @@ use lib.Seq.{get_or-set_same, get_or-set_other}
 use Rattle.lists.proofs.Cases.{le_or_lt}
 use Rattle.grid.specs.declared.Grid.{Grid}
 use Rattle.grid.proofs.Geometry.{border_count_le}
-use Rattle.border_words.specs.Filled.{Run, Filling, Filled}
+use Rattle.borders.specs.Fits.{Fits}
+use Rattle.border_words.specs.Filled.{Run, Filled}
 
 module _ (word : ℕ → ℕ → Type 0) (rows at : ℕ) (words₀ : List ℕ) where
   -- the words of the first y rows are made
@@ -43,17 +44,17 @@ module _ (word : ℕ → ℕ → Type 0) (rows at : ℕ) (words₀ : List ℕ) w
   fill_end {words} {y} h w = let e : y ≡ rows = omega arith in rw e at w.filled
 
 -- the borders right of row y, and those under it
-module _ {g : Grid} {states : List ℕ} {room words : ℕ} (f : Filling g states room words) (y : ℕ) where
+module _ {g : Grid} {states : List ℕ} (f : Fits g states) (y : ℕ) where
   pub right_run : y < g.height → Run (y * (g.width - 1)) (g.width - 1) states
   right_run h =
       let a = mul-le-mul h (le_refl (g.width - 1)) in
       let e = suc-mul y (g.width - 1) in
       let b = border_count_le g f.limits in
-      record { narrow = omega arith; small = omega arith; states_long = omega arith }
+      record { narrow = omega arith; small = omega arith; states_long = omega (arith, f.borders) }
 
-  pub down_run : y + 1 < g.height → Run (g.height * (g.width - 1) + y * g.width) g.width states
+  pub down_run : y < g.height - 1 → Run (g.height * (g.width - 1) + y * g.width) g.width states
   down_run h =
       let a : (y + 1) * g.width ≤ (g.height - 1) * g.width = mul-le-mul (omega arith) (le_refl g.width) in
       let e = suc-mul y g.width in
       let b = border_count_le g f.limits in
-      record { narrow = omega arith; small = omega arith; states_long = omega arith }
+      record { narrow = omega arith; small = omega arith; states_long = omega (arith, f.borders) }

@@ -16,7 +16,7 @@ use Rattle.grid.proofs.Geometry.{coords}
 use Rattle.borders.specs.Border.{state_at, stands}
 use Rattle.words.specs.Words.{bit}
 use Rattle.words.proofs.WordLaws.{bit_zero}
-use Rattle.border_words.specs.Filled.{Borders}
+use Rattle.border_words.specs.Filled.{SideWord}
 
 module _ (g : Grid) (states : List ℕ) (k word y x : ℕ) (l : x < g.width) where
   -- row and column of the cell, and the column of its bit
@@ -27,7 +27,7 @@ module _ (g : Grid) (states : List ℕ) (k word y x : ℕ) (l : x < g.width) whe
   column = omega arith
 
   -- a row of borders right of cells, seen from the left and from the right
-  pub right_says : Borders (y * (g.width - 1)) (g.width - 1) states k word → bit word (32 + x) ≡ stands g states k Right (y * g.width + x)
+  pub right_says : SideWord (y * (g.width - 1)) (g.width - 1) states k word → bit word (32 + x) ≡ stands g states k Right (y * g.width + x)
   unfolding stands goes_on state_at border right_border
   right_says b =
       b (32 + x)
@@ -38,7 +38,7 @@ module _ (g : Grid) (states : List ℕ) (k word y x : ℕ) (l : x < g.width) whe
       (λ (m : x + 1 < g.width). lt-ltb (32 + x) (32 + (g.width - 1)) (omega arith) ∙ sym (lt-ltb (x + 1) g.width m))
       (le_or_lt g.width (x + 1))))
 
-  pub left_says : Borders (y * (g.width - 1)) (g.width - 1) states k word → bit word (32 + x - 1) ≡ stands g states k Left (y * g.width + x)
+  pub left_says : SideWord (y * (g.width - 1)) (g.width - 1) states k word → bit word (32 + x - 1) ≡ stands g states k Left (y * g.width + x)
   unfolding stands goes_on state_at border right_border
   left_says b =
       b (32 + x - 1)
@@ -49,11 +49,11 @@ module _ (g : Grid) (states : List ℕ) (k word y x : ℕ) (l : x < g.width) whe
       (le_or_lt 1 x)
 
   -- a row of borders under cells, seen from above and from below
-  pub down_says : y + 1 < g.height → Borders (g.height * (g.width - 1) + y * g.width) g.width states k word → bit word (32 + x) ≡ stands g states k Down (y * g.width + x)
+  pub down_says : y + 1 < g.height → SideWord (g.height * (g.width - 1) + y * g.width) g.width states k word → bit word (32 + x) ≡ stands g states k Down (y * g.width + x)
   unfolding stands goes_on state_at border down_border
   down_says m b = b (32 + x) ∙ rw (le-leb 32 (32 + x) (omega arith), lt-ltb (32 + x) (32 + g.width) (omega arith), cell.0, cell.1, lt-ltb (y + 1) g.height m, column)
 
-  pub up_says : 1 ≤ y → Borders (g.height * (g.width - 1) + (y - 1) * g.width) g.width states k word → bit word (32 + x) ≡ stands g states k Up (y * g.width + x)
+  pub up_says : 1 ≤ y → SideWord (g.height * (g.width - 1) + (y - 1) * g.width) g.width states k word → bit word (32 + x) ≡ stands g states k Up (y * g.width + x)
   unfolding stands goes_on state_at border down_border
   up_says m b = b (32 + x) ∙ rw (le-leb 32 (32 + x) (omega arith), lt-ltb (32 + x) (32 + g.width) (omega arith), cell.0, cell.1, le-leb 1 y m, column)
 

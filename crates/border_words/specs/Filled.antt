@@ -1,24 +1,16 @@
 -- Row words of borders in one state, as they are filled. Assumes nothing.
 use Rattle.std.specs.Prelude.{ℕ, ◌+◌, ◌≤◌, ◌<◌, ◌≡◌, List, eqb, get_or, length}
-use Rattle.grid.specs.declared.Grid.{Grid}
-use Rattle.grid.specs.Grid.{Limits, border_count}
 use Rattle.words.specs.Words.{Only}
 
 -- bit 32 + x, for `count` borders from one on, says whether the state of border from + x is k; there is no other bit
-abbrev pub Borders : ℕ → ℕ → List ℕ → ℕ → ℕ → Type 0
-Borders from count states k word = Only count (λ x. eqb (get_or states (from + x) 0) k) word
+abbrev pub SideWord : ℕ → ℕ → List ℕ → ℕ → ℕ → Type 0
+SideWord from count states k word = Only count (λ x. eqb (get_or states (from + x) 0) k) word
 
 -- these borders have states
 pub record Run (from count : ℕ) (states : List ℕ) : Type 0 where
   pub narrow : count ≤ 32
   pub small : from ≤ 1984
   pub states_long : from + count ≤ length states
-
--- a board's borders, and room for so many words
-pub record Filling (g : Grid) (states : List ℕ) (room words : ℕ) : Type 0 where
-  pub limits : Limits g
-  pub states_long : border_count g ≤ length states
-  pub words_long : room ≤ words
 
 -- `rows` words from place `at` on are made, and no other has changed
 pub record Filled (word : ℕ → ℕ → Type 0) (rows at : ℕ) (words words' : List ℕ) : Type 0 where

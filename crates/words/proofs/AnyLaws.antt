@@ -13,7 +13,7 @@ pub either_false : (a : Bool) → either a false ≡ a
 either_false true = refl
 either_false false = refl
 
-both_assoc : (a b c : Bool) → both (both a b) c ≡ both a (both b c)
+pub both_assoc : (a b c : Bool) → both (both a b) c ≡ both a (both b c)
 both_assoc true b c = refl
 both_assoc false b c = refl
 

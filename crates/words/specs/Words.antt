@@ -1,5 +1,5 @@
 -- The bits of a word, a row of a board in one word, and what codes read of a table of words (SPEC 13.3). Assumes nothing.
-use Rattle.std.specs.Prelude.{ℕ, ◌+◌, ◌-◌, ◌/◌, ◌%◌, ◌^◌, ◌≤◌, ◌<◌, ◌≡◌, Bool, List, eqb, leb, ltb, get_or, length, take}
+use Rattle.std.specs.Prelude.{ℕ, ◌+◌, ◌-◌, ◌/◌, ◌%◌, ◌^◌, ◌≤◌, ◌<◌, ◌≡◌, Bool, List, eqb, leb, ltb, get_or, length}
 use Rattle.lists.specs.Choice.{both}
 use Rattle.lists.specs.Lists.{In}
 
@@ -23,8 +23,7 @@ Full w word = (j : ℕ) → bit word j ≡ both (leb 32 j) (ltb j (32 + w))
 abbrev pub reads : List ℕ → ℕ → ℕ → ℕ → Bool
 reads table at x e = bit (get_or table (e / 64 + at) 0) (x + e % 64)
 
--- the first `count` codes read within the table, from place `at` on
-pub record Readable (table codes : List ℕ) (count at : ℕ) : Type 0 where
-  pub codes_long : count ≤ length codes
+-- the codes read within the table, from place `at` on
+pub record Readable (table codes : List ℕ) (at : ℕ) : Type 0 where
   pub small : at ≤ 1024
-  pub within : (e : ℕ) → In e (take count codes) → e / 64 + at < length table
+  pub within : (e : ℕ) → In e codes → e / 64 + at < length table

@@ -5,19 +5,19 @@ use Rattle.border_words.proofs.FillLaws.{fill_start, fill_turn, fill_end, down_r
 use Rattle.border_words.proofs.fill_down.Goals as goal
 
 pub overflow_mul-below : goal.overflow_mul-below
-overflow_mul-below c = omega (arith, below_le _ c.requires.filling.limits)
+overflow_mul-below c = omega (arith, below_le _ c.args.borders.fits.limits)
 
 pub loop-y-init : goal.loop-y-init
 loop-y-init c = fill_start _ _ _ _
 
 pub overflow_mul-y : goal.overflow_mul-y
-overflow_mul-y c = omega (arith, (down_run c.requires.filling _ c.loop-y-test.true).small)
+overflow_mul-y c = omega (arith, (down_run c.args.borders.fits _ c.loop-y-test.true).small)
 
 pub overflow_add-below : goal.overflow_add-below
-overflow_add-below c = omega (arith, (down_run c.requires.filling _ c.loop-y-test.true).small)
+overflow_add-below c = omega (arith, (down_run c.args.borders.fits _ c.loop-y-test.true).small)
 
 pub side_word-requires : goal.side_word-requires
-side_word-requires c = down_run c.requires.filling _ c.loop-y-test.true
+side_word-requires c = down_run c.args.borders.fits _ c.loop-y-test.true
 
 pub loop-y-preserved : goal.loop-y-preserved
 loop-y-preserved c = fill_turn _ _ _ _ (omega arith) (omega arith) c.loop-y.invariant c.side_word.ensures

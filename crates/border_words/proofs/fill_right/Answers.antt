@@ -7,10 +7,10 @@ pub loop-y-init : goal.loop-y-init
 loop-y-init c = fill_start _ _ _ _
 
 pub overflow_mul-y : goal.overflow_mul-y
-overflow_mul-y c = omega (arith, (right_run c.requires.filling _ c.loop-y-test.true).small)
+overflow_mul-y c = omega (arith, (right_run c.args.borders.fits _ c.loop-y-test.true).small)
 
 pub side_word-requires : goal.side_word-requires
-side_word-requires c = right_run c.requires.filling _ c.loop-y-test.true
+side_word-requires c = right_run c.args.borders.fits _ c.loop-y-test.true
 
 pub loop-y-preserved : goal.loop-y-preserved
 loop-y-preserved c = fill_turn _ _ _ _ c.loop-y-test.true (omega arith) c.loop-y.invariant c.side_word.ensures

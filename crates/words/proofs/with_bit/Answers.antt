@@ -14,5 +14,5 @@ returns-then-set c i =
     (ap (λ (n : ℕ). bit (bit_or c.args.word n) i) (one_shifted c.args.j c.requires) ∙ bit_or_lem c.args.word (2 ^ c.args.j) i
     ∙ ap (either (bit c.args.word i)) (bit_one c.args.j i))
 
-pub returns : goal.returns
-returns c i = rw c.if-set.false (sym (either_false (bit c.args.word i)))
+pub returns-else-set : goal.returns-else-set
+returns-else-set c i = rw c.if-set.false (sym (either_false (bit c.args.word i)))
