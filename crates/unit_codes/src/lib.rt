@@ -2,28 +2,23 @@
 // one offset.
 #![tactic(auto)]
 
-ghost use Rattle.std.specs.Prelude.{◌≡◌, ◌+◌, ◌-◌, ◌*◌, ◌≤◌, ◌<◌, length};
-ghost use Rattle.grid.specs.Grid.{border_count};
+ghost use Rattle.std.specs.Prelude.{◌≡◌, ◌+◌, ◌-◌, ◌*◌, ◌≤◌, length};
+ghost use Rattle.shape.specs.Shape.{head_or0};
 ghost use Rattle.boundary.specs.Appended.{Appended};
 ghost use Rattle.words.specs.Layout.{base_of, side_at, back_of};
-ghost use Rattle.offsets.specs.Trial.{Unit};
-ghost use Rattle.unit_codes.specs.Codes.{code_at, codes_of, part_codes, cell_codes, border_codes, Spaced, Coding, Codings};
+ghost use Rattle.offsets.specs.Landings.{is_inner};
+ghost use Rattle.unit_codes.specs.Codes.{code_at, codes_of, part_codes, cell_codes, border_codes, Spaced};
 
-use grid::{Direction, Grid};
-use lists::wide;
-use offsets::table;
+use grid::Direction;
+use member::Member;
+use offsets::landings::Kind;
+use offsets::table::CellInfo;
+use offsets::unit::UnitCells;
 
-// A cell of the unit with this first cell, whose inner borders are looked at, or else its Walls and edges.
-#[derive(Clone, Copy)]
-struct Member {
-    grid: Grid,
-    first: usize,
-    cell: usize,
-    inner: bool,
-}
+mod member;
 
 // The place of row 0's word for the Walls in a direction.
-fn base_of(direction: Direction) -> usize
+fn base_of(direction: Direction) -> u16
     ensures { result ≡ base_of direction }
 {
     match direction {
@@ -34,19 +29,18 @@ fn base_of(direction: Direction) -> usize
     }
 }
 
-// The same for Walls, or else for Connected borders.
-fn side_at(walls: bool, direction: Direction) -> usize
-    ensures { result ≡ side_at walls direction }
+// The same for Walls, on which inner borders must not land, or else for Connected borders.
+fn side_at(kind: Kind, direction: Direction) -> u16
+    ensures { result ≡ side_at (is_inner kind) direction }
 {
-    let base = base_of(direction);
-    if walls {
-        return base;
+    match kind {
+        Kind::Inner => base_of(direction),
+        Kind::Outer => 66 + base_of(direction),
     }
-    66 + base
 }
 
 // The border left of a cell is the one right of the cell before it.
-fn back_of(direction: Direction) -> usize
+fn back_of(direction: Direction) -> u16
     ensures { result ≡ back_of direction }
 {
     match direction {
@@ -57,143 +51,90 @@ fn back_of(direction: Direction) -> usize
     }
 }
 
-// A code that reads so many rows further on, moved by so many bits.
-fn code(rows: usize, by: usize) -> u16
-    requires { (rows < 1000) × (by < 64) }
-    ensures { result ≡ 64 * rows + by }
+// The code of a cell: it reads so many rows further on as the cell is behind the unit's first cell, moved by its columns and 32 more.
+fn cell_code(cell: CellInfo, first: CellInfo) -> u16
+    requires { Spaced cell first }
+    ensures { result ≡ 64 * (cell.row - first.row) + (32 + cell.col - first.col) }
 {
-    (64 * rows + by) as u16
-}
-
-// The code of the cell at a row and column, counted from the row and column of the unit's first cell.
-fn cell_code(row: usize, col: usize, first_row: usize, first_col: usize) -> u16
-    requires { Spaced row col first_row first_col }
-    ensures { result ≡ 64 * (row - first_row) + (32 + col - first_col) }
-{
-    code(row - first_row, 32 + col - first_col)
+    64 * (cell.row - first.row) + (32 + cell.col - first.col)
 }
 
 // The code of its border in a direction.
-fn border_code(
-    inner: bool,
-    direction: Direction,
-    row: usize,
-    col: usize,
-    first_row: usize,
-    first_col: usize,
-) -> u16
-    requires { Spaced row col first_row first_col }
-    ensures { result ≡ 64 * (side_at inner direction + (row - first_row)) + (32 + col - back_of direction - first_col) }
+fn border_code(kind: Kind, direction: Direction, cell: CellInfo, first: CellInfo) -> u16
+    requires { Spaced cell first }
+    ensures { result ≡ 64 * (side_at (is_inner kind) direction + (cell.row - first.row)) + (32 + cell.col - back_of direction - first.col) }
 {
-    let rows = side_at(inner, direction) + (row - first_row);
-    code(rows, 32 + col - back_of(direction) - first_col)
+    let rows = side_at(kind, direction) + (cell.row - first.row);
+    64 * rows + (32 + cell.col - back_of(direction) - first.col)
 }
 
 // Writes the codes of the unit's cells, and returns how many.
-pub fn write_cells<'a>(g: Grid, table: &'a [u16], cells: &'a [u16], codes: &mut [u16]) -> usize
-    requires unit { Unit g table.now cells.now }
-    requires cells_in_bounds { length cells.now ≤ length codes.old }
-    ensures { Appended codes.old 0 (cell_codes g cells.now) codes.new result }
+pub fn write_cells(unit: UnitCells<'_>, codes: &mut [u16]) -> usize
+    requires { length unit.cells.now ≤ length codes.old }
+    ensures { Appended codes.old 0 (cell_codes unit.entry.chart.borders.grid unit.entry.cells.now) codes.new result }
 {
-    let first = wide(cells[0]);
-    let row = table::row(table, first);
-    let col = table::col(table, first);
-    let mut i = 0;
-    while i < cells.len() {
-        let c = wide(cells[i]);
-        codes[i] = cell_code(table::row(table, c), table::col(table, c), row, col);
-        i += 1;
+    let table = unit.chart.table;
+    let first = table[usize::from(unit.cells[0])];
+    for (i, &cell) in unit.cells.iter().enumerate() {
+        codes[i] = cell_code(table[usize::from(cell)], first);
     }
-    i
+    unit.cells.len()
 }
 
-// Writes the code of a cell's border in a direction, if it must land well.
-fn note<'a>(
-    m: Member,
-    states: &'a [u8],
-    table: &'a [u16],
-    direction: Direction,
-    codes: &mut [u16],
-    at: usize,
-) -> usize
-    requires { Coding states.now table.now m (code_at states.now table.now m direction) codes.old at }
-    ensures { Appended codes.old at (code_at states.now table.now m direction) codes.new result }
-{
-    let unit = table::unit(table, m.first);
-    if !offsets::kept(m.grid, states, table, unit, m.inner, m.cell, direction) {
-        return at;
+impl Member<'_> {
+    // Writes the code of the cell's border in a direction, if it must land well.
+    fn note(self, direction: Direction, codes: &mut [u16], at: usize) -> usize
+        requires { at + length (code_at self.chart.borders.grid self.chart.borders.states.now self.chart.table.now self.first (is_inner self.kind) self.cell direction) ≤ length codes.old }
+        ensures { Appended codes.old at (code_at self.entry.chart.borders.grid self.entry.chart.borders.states.now self.entry.chart.table.now self.entry.first (is_inner self.entry.kind) self.entry.cell direction) codes.new result }
+    {
+        let first = self.chart.table[self.first];
+        if !self
+            .chart
+            .keeps(first.unit, self.kind, self.cell, direction)
+        {
+            return at;
+        }
+        codes[at] = border_code(self.kind, direction, self.chart.table[self.cell], first);
+        at + 1
     }
-    let row = table::row(table, m.cell);
-    let col = table::col(table, m.cell);
-    let first_row = table::row(table, m.first);
-    let first_col = table::col(table, m.first);
-    codes[at] = border_code(m.inner, direction, row, col, first_row, first_col);
-    at + 1
-}
 
-// Writes the codes of a cell's borders that must land well: down, right; of Walls and edges up, down, left, right.
-fn note_cell<'a>(
-    m: Member,
-    states: &'a [u8],
-    table: &'a [u16],
-    codes: &mut [u16],
-    at: usize,
-) -> usize
-    requires { Coding states.now table.now m (codes_of states.now table.now m) codes.old at }
-    ensures { Appended codes.old at (codes_of states.now table.now m) codes.new result }
-{
-    if m.inner {
-        let a = note(m, states, table, Direction::Down, codes, at);
-        return note(m, states, table, Direction::Right, codes, a);
+    // Writes the codes of all its borders that must land well.
+    fn note_all(self, codes: &mut [u16], at: usize) -> usize
+        requires { at + length (codes_of self.chart.borders.grid self.chart.borders.states.now self.chart.table.now self.first (is_inner self.kind) self.cell) ≤ length codes.old }
+        ensures { Appended codes.old at (codes_of self.entry.chart.borders.grid self.entry.chart.borders.states.now self.entry.chart.table.now self.entry.first (is_inner self.entry.kind) self.entry.cell) codes.new result }
+    {
+        let mut n = at;
+        for &direction in self.kind.directions() {
+            n = self.note(direction, codes, n);
+        }
+        n
     }
-    let a = note(m, states, table, Direction::Up, codes, at);
-    let b = note(m, states, table, Direction::Down, codes, a);
-    let c = note(m, states, table, Direction::Left, codes, b);
-    note(m, states, table, Direction::Right, codes, c)
 }
 
 // The same for all cells of the unit.
-fn note_cells<'a>(
-    g: Grid,
-    states: &'a [u8],
-    table: &'a [u16],
-    cells: &'a [u16],
-    inner: bool,
-    codes: &mut [u16],
-    at: usize,
-) -> usize
-    requires { Codings g states.now table.now cells.now inner codes.old at }
-    ensures { Appended codes.old at (part_codes g states.now table.now cells.now inner) codes.new result }
+fn note_cells(unit: UnitCells<'_>, kind: Kind, codes: &mut [u16], at: usize) -> usize
+    requires { at + length (part_codes unit.chart.borders.grid unit.chart.borders.states.now unit.chart.table.now unit.cells.now (is_inner kind)) ≤ length codes.old }
+    ensures { Appended codes.old at (part_codes unit.entry.chart.borders.grid unit.entry.chart.borders.states.now unit.entry.chart.table.now unit.entry.cells.now (is_inner kind)) codes.new result }
 {
-    let first = wide(cells[0]);
+    let first = usize::from(unit.cells[0]);
     let mut n = at;
-    let mut i = 0;
-    while i < cells.len() {
-        let m = Member {
-            grid: g,
-            first: first,
-            cell: wide(cells[i]),
-            inner: inner,
+    for &cell in unit.cells {
+        let member = Member {
+            chart: unit.chart,
+            first,
+            cell: usize::from(cell),
+            kind,
         };
-        n = note_cell(m, states, table, codes, n);
-        i += 1;
+        n = member.note_all(codes, n);
     }
     n
 }
 
 // Writes the codes of the unit's borders that must land well, at most six for each cell, and returns how many.
-pub fn write_borders<'a>(
-    g: Grid,
-    states: &'a [u8],
-    table: &'a [u16],
-    cells: &'a [u16],
-    codes: &mut [u16],
-) -> usize
-    requires unit { Unit g table.now cells.now }
-    requires g_in_bounds { border_count g ≤ length states.now }
-    requires cells_in_bounds { 6 * length cells.now ≤ length codes.old }
-    ensures { Appended codes.old 0 (border_codes g states.now table.now cells.now) codes.new result }
+pub fn write_borders(unit: UnitCells<'_>, codes: &mut [u16]) -> usize
+    requires { 6 * length unit.cells.now ≤ length codes.old }
+    ensures { Appended codes.old 0 (border_codes unit.entry.chart.borders.grid unit.entry.chart.borders.states.now unit.entry.chart.table.now unit.entry.cells.now) codes.new result }
 {
-    let n = note_cells(g, states, table, cells, true, codes, 0);
-    note_cells(g, states, table, cells, false, codes, n)
+    let n = note_cells(unit, Kind::Inner, codes, 0);
+    note_cells(unit, Kind::Outer, codes, n)
 }

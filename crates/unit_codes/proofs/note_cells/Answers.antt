@@ -1,24 +1,27 @@
 -- `unit_codes::note_cells` meets its contract: at each turn the codes of the cells that are left are still to write. Assumes nothing.
-use Rattle.boundary.proofs.AppendLaws.{rest_all}
-use Rattle.unit_codes.proofs.WriteLaws.{turn_asks, turn_noted, all_noted}
+use mathlib.Core.Path.{◌∙◌}
+use Rattle.boundary.proofs.AppendLaws.{rest_all, turn_room, turn_on, turns_end}
+use Rattle.offsets.proofs.TrialLaws.{head_at}
+use Rattle.unit_codes.proofs.CodeLaws.{follows_at}
 use Rattle.unit_codes.proofs.note_cells.Goals as goal
 
-pub bounds-cells-0 : goal.bounds-cells-0
-bounds-cells-0 c = c.requires.unit.some
+pub bounds-unit-0 : goal.bounds-unit-0
+bounds-unit-0 c = c.args.unit.unit.some
 
-pub loop-i-init : goal.loop-i-init
-loop-i-init c = rest_all _ _ _
+pub loop-cell-init : goal.loop-cell-init
+loop-cell-init c = rest_all _ _ _
 
-pub note_cell-n-requires : goal.note_cell-n-requires
-note_cell-n-requires c =
-    turn_asks c.requires c.loop-i.i c.loop-i.invariant c.loop-i-test.true c.wide-first.ensures c.wide.ensures
+pub invariant_of-member : goal.invariant_of-member
+invariant_of-member c = record { follows = follows_at c.args.unit.unit c.loop-cell.cell-index c.loop-cell-test.true c.from-first.ensures c.from.ensures }
 
-pub loop-i-preserved : goal.loop-i-preserved
-loop-i-preserved c =
-    turn_noted c.requires c.loop-i.i c.loop-i.invariant c.loop-i-test.true c.wide-first.ensures c.wide.ensures c.note_cell-n.ensures
+pub note_all-n-requires : goal.note_all-n-requires
+note_all-n-requires c = rw (c.from-first.ensures ∙ head_at c.args.unit.cells.now, c.from.ensures) (turn_room _ _ 0 c.loop-cell.cell-index c.loop-cell.invariant c.loop-cell-test.true c.requires)
+
+pub loop-cell-preserved : goal.loop-cell-preserved
+loop-cell-preserved c = turn_on _ _ 0 c.loop-cell.cell-index c.loop-cell.invariant c.loop-cell-test.true (rw (c.from-first.ensures ∙ head_at c.args.unit.cells.now, c.from.ensures) at c.note_all-n.ensures)
 
 pub shape_of-codes : goal.shape_of-codes
-shape_of-codes c = c.loop-i.invariant.long
+shape_of-codes c = c.loop-cell.invariant.long
 
 pub returns : goal.returns
-returns c = all_noted c.requires c.loop-i.i c.loop-i.invariant c.loop-i-test.false
+returns c = turns_end _ _ 0 c.loop-cell.cell-index c.loop-cell.invariant c.loop-cell-test.false

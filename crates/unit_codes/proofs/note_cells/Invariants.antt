@@ -1,11 +1,14 @@
 -- `unit_codes::note_cells` meets its contract: at each turn the codes of the cells that are left are still to write. Assumes nothing.
-use Prim.Native.Nat.{◌-◌}
-use lib.ListN.{length}
-use Rattle.unit_codes.proofs.WriteLaws.{Going}
+use lib.ListN.{drop}
+use Rattle.lists.specs.Lists.{gather}
+use Rattle.boundary.proofs.AppendLaws.{Rest}
+use Rattle.shape.specs.Shape.{head_or0}
+use Rattle.offsets.specs.Landings.{is_inner}
+use Rattle.unit_codes.specs.Codes.{codes_of}
 use Rattle.unit_codes.proofs.note_cells.Given as goal
 
-abbrev pub invariant-loop-i : goal.invariant-loop-i
-invariant-loop-i l = Going l.g l.states l.table l.cells l.inner l.initial.codes l.at l.codes l.n l.i
-
-abbrev pub decreases-loop-i : goal.decreases-loop-i
-decreases-loop-i l = length l.cells - l.i
+abbrev pub invariant-loop-cell : goal.invariant-loop-cell
+invariant-loop-cell l =
+    let h = l.unit.chart in
+    let of = codes_of h.borders.grid h.borders.states.now h.table.now (head_or0 l.cell-items) (is_inner l.kind) in
+    Rest l.initial.codes l.at (gather of l.cell-items) l.codes l.n (gather of (drop l.cell-index l.cell-items))

@@ -3,12 +3,10 @@ use Rattle.unit_codes.proofs.WriteLaws.{inner_asks, outer_asks, both_noted}
 use Rattle.unit_codes.proofs.write_borders.Goals as goal
 
 pub note_cells-n-requires : goal.note_cells-n-requires
-note_cells-n-requires c = inner_asks c.requires.unit _ c.requires.g_in_bounds _ c.requires.cells_in_bounds
+note_cells-n-requires c = inner_asks _ _ _ _ _ c.requires
 
 pub note_cells-requires : goal.note_cells-requires
-note_cells-requires c =
-    outer_asks c.requires.unit _ c.requires.g_in_bounds _ c.requires.cells_in_bounds c.note_cells-n.ensures
+note_cells-requires c = outer_asks _ _ _ _ _ c.requires c.note_cells-n.ensures
 
 pub returns : goal.returns
-returns c =
-    both_noted c.requires.unit _ c.requires.g_in_bounds _ c.requires.cells_in_bounds c.note_cells-n.ensures c.note_cells.ensures
+returns c = both_noted _ _ _ _ _ c.requires c.note_cells-n.ensures c.note_cells.ensures
