@@ -21,9 +21,9 @@ use Rattle.grid.proofs.Geometry.{coords, row_lt, col_lt}
 use Rattle.groups.specs.Groups.{cells_of}
 use Rattle.groups.proofs.GroupLaws.{in_cells, cells_in_lem}
 use Rattle.shape.specs.Shape.{head_or0}
-use Rattle.offsets.specs.Table.{row_in, col_in, unit_in, units_in, Listed}
+use Rattle.offsets.specs.declared.table.CellInfo.{CellInfo}
+use Rattle.offsets.specs.Table.{row_in, col_in, unit_in, units_in}
 use Rattle.offsets.specs.Trial.{Unit}
-use Rattle.offsets.proofs.TableLaws.{listed}
 use Rattle.offsets.proofs.ReachLaws.{next_cell}
 use Rattle.words.specs.Words.{bit}
 use Rattle.words.proofs.WordLaws.{bit_zero}
@@ -46,16 +46,16 @@ pub blank : {g : Grid} → Limits g → Blank g (replicate 32 0)
 blank l = record { clear = get_d_zeros 32; long = simp length-replicate l.height_fits }
 
 -- cell c has bit j of row y's word
-abbrev stands_at : List ℕ → ℕ → ℕ → ℕ → Bool
+abbrev stands_at : List CellInfo → ℕ → ℕ → ℕ → Bool
 stands_at table y j c = both (eqb (row_in table c) y) (eqb j (32 + col_in table c))
 
 -- the cells from place i on are still to be set
-pub record AddWalk (table cs inside₀ inside : List ℕ) (i : ℕ) : Type 0 where
+pub record AddWalk (table : List CellInfo) (cs inside₀ inside : List ℕ) (i : ℕ) : Type 0 where
   pub long : length inside ≡ length inside₀
   pub rest : (y j : ℕ) → either (bit (get_or inside y 0) j) (any (stands_at table y j) (drop i cs)) ≡ any (stands_at table y j) cs
 
 -- a bit more in row y's word
-stored : (table inside : List ℕ) (new c y x : ℕ) → y ≡ row_in table c → x ≡ col_in table c → y < length inside
+stored : (table : List CellInfo) (inside : List ℕ) (new c y x : ℕ) → y ≡ row_in table c → x ≡ col_in table c → y < length inside
     → ((j : ℕ) → bit new j ≡ either (bit (get_or inside y 0) j) (eqb j (32 + x))) → (z j : ℕ)
     → bit (get_or (set inside y new) z 0) j ≡ either (bit (get_or inside z 0) j) (stands_at table z j c)
 stored table inside new c y x p q l n z j =
@@ -65,7 +65,7 @@ stored table inside new c y x p q l n z j =
     (eq_or_ne z y)
 
 -- THE UNIT
-module _ {g : Grid} {table cs : List ℕ} (u : Unit g table cs) where
+module _ {g : Grid} {table : List CellInfo} {cs : List ℕ} (u : Unit g table cs) where
   abbrev ids : List ℕ
   ids = units_in g table
 
@@ -83,8 +83,8 @@ module _ {g : Grid} {table cs : List ℕ} (u : Unit g table cs) where
     own_in : In c cs
     own_in = rw q (get_d_in 0 cs i h)
 
-    pub own_listed : Listed table c
-    own_listed = listed g table u.limits u.table_of c (on_board_lem c own_in)
+    pub own_cell : Cell g c
+    own_cell = on_board_lem c own_in
 
     -- its row has a word among n, as many as there were at the start
     pub own_row : {y n n₀ : ℕ} → y ≡ row_in table c → g.height ≤ n₀ → n ≡ n₀ → (y < 32) × (y < n)

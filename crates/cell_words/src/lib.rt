@@ -5,89 +5,79 @@
 ghost use Rattle.std.specs.Prelude.{not, ◌+◌, ◌*◌, ◌≤◌, ◌<◌, eqb, get_or};
 ghost use Rattle.shape.specs.Shape.{head_or0};
 ghost use Rattle.offsets.specs.Table.{unit_in, potential_in, units_in, potentials_in};
-ghost use Rattle.offsets.specs.Trial.{Unit};
 ghost use Rattle.words.specs.Words.{Says};
-ghost use Rattle.cell_words.specs.Cells.{Blank, Inside, Stamped, Marking, Stamping, Restamped};
+ghost use Rattle.cell_words.specs.Cells.{Blank, Inside, Stamped, Restamped};
 
-use grid::Grid;
-use lists::wide;
-use offsets::table;
+use marked::Marked;
+use offsets::unit::UnitCells;
+
+pub mod marked;
+
+// For each row the word of the cells that are near, and the potential unit for which it was made.
+pub struct Near {
+    pub words: [u64; 32],
+    pub stamps: [Option<u16>; 32],
+}
 
 // Sets the bits of the unit's cells in words that are blank.
-pub fn add_cells<'a>(g: Grid, table: &'a [u16], cells: &'a [u16], inside: &mut [u64])
-    requires unit { Unit g table.now cells.now }
-    requires blank { Blank g inside.old }
-    ensures { Inside g (units_in g table.now) (unit_in table.now (head_or0 cells.now)) inside.new }
+pub fn add_cells(unit: UnitCells<'_>, inside: &mut [u64])
+    requires { Blank unit.chart.borders.grid inside.old }
+    ensures { Inside unit.entry.chart.borders.grid (units_in unit.entry.chart.borders.grid unit.entry.chart.table.now) (unit_in unit.entry.chart.table.now (head_or0 unit.entry.cells.now)) inside.new }
 {
-    let mut i = 0;
-    while i < cells.len() {
-        let c = wide(cells[i]);
-        let y = table::row(table, c);
-        inside[y] = words::with_bit(inside[y], true, 32 + table::col(table, c));
-        i += 1;
+    for &cell in unit.cells {
+        let info = unit.chart.table[usize::from(cell)];
+        let y = usize::from(info.row);
+        inside[y] = words::with_bit(inside[y], true, 32 + usize::from(info.col));
     }
 }
 
-// The word of a row's cells in marked potential units.
-fn marked<'a>(g: Grid, table: &'a [u16], marks: &'a [u8], y: usize) -> u64
-    requires { Marking g table.now marks.now y }
-    ensures { Says g.width (λ x. not (eqb (get_or marks.now (potential_in table.now (y * g.width + x)) 0) 0)) result }
-{
-    let width = g.width;
-    let from = y * width;
-    let mut word = 0;
-    let mut x = 0;
-    while x < width {
-        let set = marks[table::potential(table, from + x)] != 0;
-        word = words::with_bit(word, set, 32 + x);
-        x += 1;
+impl Marked<'_> {
+    // The word of a row's cells in marked potential units.
+    fn row_word(self, y: usize) -> u64
+        requires { y < self.chart.borders.grid.height }
+        ensures { Says self.entry.chart.borders.grid.width (λ x. not (eqb (get_or self.entry.marks.now (potential_in self.entry.chart.table.now (y * self.entry.chart.borders.grid.width + x)) 0) 0)) result }
+    {
+        let width = self.chart.borders.grid.width;
+        let from = y * width;
+        let mut word = 0;
+        for x in 0..width {
+            let potential = usize::from(self.chart.table[from + x].potential);
+            word = words::with_bit(word, self.marks[potential] != 0, 32 + x);
+        }
+        word
     }
-    word
 }
 
-// Makes the word of a row for potential unit `own`, whose adjacent ones are marked, unless it stands there.
-fn stamp_row<'a>(
-    g: Grid,
-    states: &'a [u8],
-    table: &'a [u16],
-    marks: &'a [u8],
-    own: usize,
-    y: usize,
-    near: &mut [u64],
-    stamps: &mut [usize],
-)
-    requires stamping { Stamping g states.now table.now marks.now own }
-    requires stamped { Stamped g states.now (potentials_in g table.now) near.old stamps.old }
-    requires y_lt_height { y < g.height }
-    ensures { Restamped g states.now (potentials_in g table.now) own y (y + 1) near.old stamps.old near.new stamps.new }
-{
-    if stamps[y] == own {
-        return;
+impl Near {
+    // No word is made.
+    pub fn unmade() -> Near {
+        Near {
+            words: [0; 32],
+            stamps: [None; 32],
+        }
     }
-    near[y] = marked(g, table, marks, y);
-    stamps[y] = own;
-}
 
-// Makes the words of the rows from one up to another for potential unit `own`, whose adjacent ones are marked, unless they stand there.
-pub fn stamp_rows<'a>(
-    g: Grid,
-    states: &'a [u8],
-    table: &'a [u16],
-    marks: &'a [u8],
-    own: usize,
-    from: usize,
-    to: usize,
-    near: &mut [u64],
-    stamps: &mut [usize],
-)
-    requires stamping { Stamping g states.now table.now marks.now own }
-    requires stamped { Stamped g states.now (potentials_in g table.now) near.old stamps.old }
-    requires from_le_to { (from ≤ to) × (to ≤ g.height) }
-    ensures { Restamped g states.now (potentials_in g table.now) own from to near.old stamps.old near.new stamps.new }
-{
-    let mut y = from;
-    while y < to {
-        stamp_row(g, states, table, marks, own, y, near, stamps);
-        y += 1;
+    // Makes the word of a row for a potential unit, whose adjacent ones are marked, unless it stands there.
+    fn stamp_row(&mut self, marked: Marked<'_>, y: usize)
+        requires stamped { Stamped marked.chart.borders.grid marked.chart.borders.states.now (potentials_in marked.chart.borders.grid marked.chart.table.now) self.old }
+        requires y_lt_height { y < marked.chart.borders.grid.height }
+        ensures { Restamped marked.entry.chart.borders.grid marked.entry.chart.borders.states.now (potentials_in marked.entry.chart.borders.grid marked.entry.chart.table.now) marked.entry.own y (y + 1) self.old self.new }
+    {
+        if self.stamps[y] == Some(marked.own) {
+            return;
+        }
+        self.words[y] = marked.row_word(y);
+        self.stamps[y] = Some(marked.own);
+    }
+
+    // Makes the words of the rows from one up to another for a potential unit, whose adjacent ones are marked, unless they stand there.
+    pub fn stamp_rows(&mut self, marked: Marked<'_>, from: usize, to: usize)
+        requires stamped { Stamped marked.chart.borders.grid marked.chart.borders.states.now (potentials_in marked.chart.borders.grid marked.chart.table.now) self.old }
+        requires from_le_to { (from ≤ to) × (to ≤ marked.chart.borders.grid.height) }
+        ensures { Restamped marked.entry.chart.borders.grid marked.entry.chart.borders.states.now (potentials_in marked.entry.chart.borders.grid marked.entry.chart.table.now) marked.entry.own from to self.old self.new }
+    {
+        for y in from..to {
+            self.stamp_row(marked, y);
+        }
     }
 }

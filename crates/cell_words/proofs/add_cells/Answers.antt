@@ -1,57 +1,37 @@
 -- `cell_words::add_cells` meets its contract: the loop's invariant is `AddWalk`. Assumes nothing.
-use Prim.Native.Nat.{◌<◌}
 use native.Mathlib.Omega.{arith}
-use lib.ListN.{length}
-use Rattle.cell_words.proofs.OwnLaws.{add_start, add_turn, add_end, own_listed, own_row, own_col}
+use Rattle.cell_words.proofs.OwnLaws.{add_start, add_turn, add_end, own_cell, own_row, own_col}
 use Rattle.cell_words.proofs.add_cells.Goals as goal
 
-pub loop-i-init : goal.loop-i-init
-loop-i-init c = add_start c.requires.unit c.requires.blank
+pub loop-cell-init : goal.loop-cell-init
+loop-cell-init c = add_start c.args.unit.unit c.requires
 
-pub row-y-requires : goal.row-y-requires
-row-y-requires c = own_listed c.requires.unit c.loop-i-test.true c.wide-c.ensures
+pub bounds-unit-from : goal.bounds-unit-from
+bounds-unit-from c = omega (arith, own_cell c.args.unit.unit c.loop-cell-test.true c.from.ensures, c.args.unit.chart.table_of.long)
 
 pub offset_bounds-inside-y : goal.offset_bounds-inside-y
-offset_bounds-inside-y c =
-    let fits : (c.row-y.result < 32) × (c.row-y.result < length c.loop-i.inside) = own_row c.requires.unit c.loop-i-test.true c.wide-c.ensures c.row-y.ensures c.requires.blank.long c.loop-i.invariant.long in
-    omega (arith, fits.0)
+offset_bounds-inside-y c = omega (arith, (own_row c.args.unit.unit c.loop-cell-test.true c.from.ensures c.from-y.ensures c.requires.long c.loop-cell.invariant.long).0)
 
 pub bounds-inside-y : goal.bounds-inside-y
-bounds-inside-y c =
-    let fits : (c.row-y.result < 32) × (c.row-y.result < length c.loop-i.inside) = own_row c.requires.unit c.loop-i-test.true c.wide-c.ensures c.row-y.ensures c.requires.blank.long c.loop-i.invariant.long in
-    fits.1
+bounds-inside-y c = (own_row c.args.unit.unit c.loop-cell-test.true c.from.ensures c.from-y.ensures c.requires.long c.loop-cell.invariant.long).1
 
-pub col-requires : goal.col-requires
-col-requires c = own_listed c.requires.unit c.loop-i-test.true c.wide-c.ensures
-
-pub overflow_add-col : goal.overflow_add-col
-overflow_add-col c =
-    let narrow : c.col.result < 32 = own_col c.requires.unit c.loop-i-test.true c.wide-c.ensures c.col.ensures in
-    omega (arith, narrow)
+pub overflow_add-from : goal.overflow_add-from
+overflow_add-from c = omega (arith, own_col c.args.unit.unit c.loop-cell-test.true c.from.ensures c.from-in-loop-cell.ensures)
 
 pub with_bit-requires : goal.with_bit-requires
-with_bit-requires c =
-    let narrow : c.col.result < 32 = own_col c.requires.unit c.loop-i-test.true c.wide-c.ensures c.col.ensures in
-    omega (arith, narrow)
+with_bit-requires c = omega (arith, own_col c.args.unit.unit c.loop-cell-test.true c.from.ensures c.from-in-loop-cell.ensures)
 
-pub offset_bounds-inside-y-in-loop-i : goal.offset_bounds-inside-y-in-loop-i
-offset_bounds-inside-y-in-loop-i c =
-    let fits : (c.row-y.result < 32) × (c.row-y.result < length c.loop-i.inside) = own_row c.requires.unit c.loop-i-test.true c.wide-c.ensures c.row-y.ensures c.requires.blank.long c.loop-i.invariant.long in
-    omega (arith, fits.0)
+pub offset_bounds-inside-y-in-loop-cell : goal.offset_bounds-inside-y-in-loop-cell
+offset_bounds-inside-y-in-loop-cell c = omega (arith, (own_row c.args.unit.unit c.loop-cell-test.true c.from.ensures c.from-y.ensures c.requires.long c.loop-cell.invariant.long).0)
 
-pub bounds-inside-y-in-loop-i : goal.bounds-inside-y-in-loop-i
-bounds-inside-y-in-loop-i c =
-    let fits : (c.row-y.result < 32) × (c.row-y.result < length c.loop-i.inside) = own_row c.requires.unit c.loop-i-test.true c.wide-c.ensures c.row-y.ensures c.requires.blank.long c.loop-i.invariant.long in
-    fits.1
+pub bounds-inside-y-in-loop-cell : goal.bounds-inside-y-in-loop-cell
+bounds-inside-y-in-loop-cell c = (own_row c.args.unit.unit c.loop-cell-test.true c.from.ensures c.from-y.ensures c.requires.long c.loop-cell.invariant.long).1
 
-pub loop-i-preserved : goal.loop-i-preserved
-loop-i-preserved c =
-    let fits : (c.row-y.result < 32) × (c.row-y.result < length c.loop-i.inside) = own_row c.requires.unit c.loop-i-test.true c.wide-c.ensures c.row-y.ensures c.requires.blank.long c.loop-i.invariant.long in
-    add_turn c.requires.unit c.loop-i-test.true c.wide-c.ensures c.row-y.ensures fits.1
-    c.with_bit.result c.loop-i.invariant c.col.ensures c.with_bit.ensures
-
-pub shape_of-inside : goal.shape_of-inside
-shape_of-inside c = c.loop-i.invariant.long
+pub loop-cell-preserved : goal.loop-cell-preserved
+loop-cell-preserved c =
+    let u = c.args.unit.unit in
+    add_turn u c.loop-cell-test.true c.from.ensures c.from-y.ensures (own_row u c.loop-cell-test.true c.from.ensures c.from-y.ensures c.requires.long c.loop-cell.invariant.long).1
+    c.with_bit.result c.loop-cell.invariant c.from-in-loop-cell.ensures c.with_bit.ensures
 
 pub returns : goal.returns
-returns c = add_end c.requires.unit c.requires.blank c.loop-i-test.false c.loop-i.invariant
+returns c = add_end c.args.unit.unit c.requires c.loop-cell-test.false c.loop-cell.invariant
