@@ -18,6 +18,7 @@ use Rattle.grid.specs.Grid.{Cell, cells, row, col}
 use Rattle.grid.proofs.Geometry.{row_lt, col_lt}
 use Rattle.groups.proofs.GroupLaws.{in_cells}
 use Rattle.shape.specs.Shape.{head_or0, is_good, fits}
+use Rattle.offsets.specs.declared.table.CellInfo.{CellInfo}
 use Rattle.offsets.specs.Table.{unit_in, units_in, potentials_in}
 use Rattle.offsets.specs.Reach.{moved, falls_off, falls_marked, reaches_of}
 use Rattle.offsets.specs.Landings.{first_fail}
@@ -26,7 +27,8 @@ use Rattle.offsets.proofs.ReachLaws.{fell}
 use Rattle.offsets.proofs.NoneLaws.{is_none}
 use Rattle.offsets.proofs.TrialLaws.{good_is}
 use Rattle.cell_words.proofs.OwnLaws.{cell_at}
-use Rattle.row_trials.specs.Rows.{good_at, row_good, rows_good, Ends}
+use Rattle.row_trials.specs.Coded.{Ends}
+use Rattle.row_trials.specs.Rows.{good_at, row_good, rows_good}
 
 in_count : (a n t : ℕ) → In t (count_from a n) → (a ≤ t) × (t < a + n)
 unfolding count_from
@@ -40,7 +42,7 @@ count_in a zero t h k = absurd (omega arith)
 count_in a (suc n) t h k =
     ⊎_elim (λ (l : t ≤ a). inl (let e : t ≡ a = omega arith in e)) (λ (l : a < t). inr (count_in (suc a) n t (omega arith) (omega arith))) (le_or_lt t a)
 
-module _ {g : Grid} {states table marks cs : List ℕ} (p : Placed g states table marks cs) where
+module _ {g : Grid} {states : List ℕ} {table : List CellInfo} {marks cs : List ℕ} (p : Placed g states table marks cs) where
   abbrev good : ℕ → Bool
   good z = is_good (tried_at g states table cs z)
 
@@ -51,7 +53,7 @@ module _ {g : Grid} {states table marks cs : List ℕ} (p : Placed g states tabl
       let s = shift_of g (unit_in table (head_or0 cs)) (head_or0 cs) z in
       let ids = units_in g table in
       let pids = potentials_in g table in
-      let r = (both_true (reaches_of g s ids pids marks cs) (both (is_none (first_fail g s states ids true cs)) (is_none (first_fail g s states ids false cs))) (sym (good_is (record { placed = p; to_cell = k })) ∙ q)).0 in
+      let r = (both_true (reaches_of g s ids pids marks cs) (both (is_none (first_fail g s states ids true cs)) (is_none (first_fail g s states ids false cs))) (sym (good_is p k) ∙ q)).0 in
       let a = (both_true (all (falls_off g s ids) cs) (any (falls_marked g s pids marks) cs) r).0 in
       let o = holds_true (moved g s (row g c) (col g c)) (λ x. not (eqb (get_or ids x 0) (unit_in table (head_or0 cs)))) (all_true (falls_off g s ids) cs a c m) in
       let w = fell g s (row g c) (col g c) o.0 o.1 in

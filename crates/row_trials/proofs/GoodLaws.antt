@@ -7,20 +7,20 @@ use mathlib.Core.List.{List, [], ◌∷◌}
 use native.Mathlib.Omega.{arith}
 use lib.Dec.{eqb}
 use lib.ListN.{get_or, length}
-use Rattle.lists.specs.Choice.{both, either, pick, when}
+use Rattle.lists.specs.Choice.{both, either, when}
 use Rattle.lists.specs.Lists.{In, all, any, gather}
 use Rattle.lists.proofs.Cases.{true_or_false}
 use Rattle.lists.proofs.ListLaws.{all_true}
-use Rattle.grid.specs.Orders.{around, forward}
 use Rattle.grid.specs.declared.Grid.{Grid}
 use Rattle.grid.specs.Grid.{Cell, row}
 use Rattle.borders.proofs.Congruence.{any_same, all_same}
 use Rattle.groups.proofs.GroupLaws.{in_cells}
 use Rattle.shape.specs.Shape.{head_or0}
-use Rattle.offsets.specs.declared.reach.Shift.{Shift}
+use Rattle.offsets.specs.declared.shift.Shift.{Shift}
+use Rattle.offsets.specs.declared.table.CellInfo.{CellInfo}
 use Rattle.offsets.specs.Table.{unit_in, potential_in, units_in, potentials_in}
 use Rattle.offsets.specs.Reach.{falls_off, falls_marked, reaches_of}
-use Rattle.offsets.specs.Landings.{kept_of, fail_at, fail_cell, first_fail}
+use Rattle.offsets.specs.Landings.{kept_of, fail_at, fail_cell, first_fail, directions_of}
 use Rattle.offsets.specs.Trial.{shift_of, Placed}
 use Rattle.offsets.proofs.TableLaws.{potential_at}
 use Rattle.offsets.proofs.NoneLaws.{is_none, none_first}
@@ -57,7 +57,7 @@ shuffle true true b = refl
 shuffle true false b = refl
 shuffle false m b = refl
 
-module _ {g : Grid} {states table marks cs : List ℕ} (p : Placed g states table marks cs) (full : ℕ) (whole : Full g.width full) (words near inside : List ℕ)
+module _ {g : Grid} {states : List ℕ} {table : List CellInfo} {marks cs : List ℕ} (p : Placed g states table marks cs) (full : ℕ) (whole : Full g.width full) (words near inside : List ℕ)
     (b : BorderWords g states words)
     (i : Inside g (units_in g table) (unit_in table (head_or0 cs)) inside)
     (t x : ℕ) (wide : x < g.width)
@@ -117,10 +117,10 @@ module _ {g : Grid} {states table marks cs : List ℕ} (p : Placed g states tabl
 
   -- a cell has a border that lands badly where one of its codes reads a bit
   bad_codes : (inner : Bool) (c : ℕ)
-      → any (λ d. both (kept_of g states ids inner unit c d) (reads words t x (border_code g f inner c d))) (pick inner forward around) ≡ bad_at inner c
+      → any (λ d. both (kept_of g states ids inner unit c d) (reads words t x (border_code g f inner c d))) (directions_of inner) ≡ bad_at inner c
   unfolding codes_at
   bad_codes inner c =
-      let dirs = pick inner forward around in
+      let dirs = directions_of inner in
       sym
       (any_gather (reads words t x) (λ d. when (kept_of g states ids inner unit c d) (border_code g f inner c d)) dirs
       ∙ any_same (λ d. any (reads words t x) (when (kept_of g states ids inner unit c d) (border_code g f inner c d)))
@@ -141,7 +141,7 @@ module _ {g : Grid} {states table marks cs : List ℕ} (p : Placed g states tabl
     none_bad inner =
         none_first (fail_cell g s states ids inner) (bad_at inner) cs
         (λ c m.
-        none_first (fail_at g s states ids inner c) (λ d. both (kept_of g states ids inner unit c d) (reads words t x (border_code g f inner c d))) (pick inner forward around)
+        none_first (fail_at g s states ids inner c) (λ d. both (kept_of g states ids inner unit c d) (reads words t x (border_code g f inner c d))) (directions_of inner)
         (λ d k. lands_is g p.limits unit f t x c first_cell (on_board_lem c m) wide (fit c m).0 (fit c m).1 (stay c m) states ids words b inner d)
         ∙ ap not (bad_codes inner c))
 
@@ -149,7 +149,7 @@ module _ {g : Grid} {states table marks cs : List ℕ} (p : Placed g states tabl
   good_cells : good_at g states table cs t x ≡ both (both (all on_at cs) (any near_at cs)) (not (either (any over_at cs) (either (any (bad_at true) cs) (any (bad_at false) cs))))
   unfolding reaches_of
   good_cells =
-      good_is (record { placed = p; to_cell = cell_at g t x (omega (arith, (fit f first_in).1)) wide })
+      good_is p (cell_at g t x (omega (arith, (fit f first_in).1)) wide)
       ∙ ap
       (λ v. both (both v (any (falls_marked g s pids marks) cs)) (both (is_none (first_fail g s states ids true cs)) (is_none (first_fail g s states ids false cs))))
       all_off

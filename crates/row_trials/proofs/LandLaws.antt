@@ -19,7 +19,7 @@ use Rattle.grid.proofs.Geometry.{coords, col_lt}
 use Rattle.borders.specs.Entry.{entry_of}
 use Rattle.borders.specs.Border.{stands}
 use Rattle.shape.specs.Shape.{along}
-use Rattle.offsets.specs.declared.reach.Shift.{Shift}
+use Rattle.offsets.specs.declared.shift.Shift.{Shift}
 use Rattle.offsets.specs.Reach.{moved, falls_off, falls_marked}
 use Rattle.offsets.specs.Landings.{kept_of, fail_at}
 use Rattle.offsets.specs.Trial.{shift_of}

@@ -9,26 +9,26 @@ use native.Mathlib.Nat.{two-pow-succ}
 use borrow.Author.Tests.{le-leb, lt-ltb, eqb-true, eqb-false, ltb-true, not-true}
 use lib.Bits.{bit_and, bit_or}
 use lib.Dec.{eqb, leb, ltb}
-use lib.ListN.{take}
-use Rattle.lists.specs.Choice.{both, either, pick, when}
+use Rattle.lists.specs.Choice.{both, either, when}
 use Rattle.lists.specs.Lists.{In, all, any, range, gather}
 use Rattle.lists.proofs.Cases.{true_or_false}
 use Rattle.lists.proofs.ChoiceLaws.{both_true, same_truth}
 use Rattle.lists.proofs.ListLaws.{any_true, true_any, range_in, in_range, in_append, in_gather, in_when}
-use Rattle.grid.specs.Orders.{around, forward}
 use Rattle.grid.specs.declared.Grid.{Grid}
 use Rattle.grid.specs.Grid.{Cell, row}
 use Rattle.groups.proofs.GroupLaws.{in_cells}
 use Rattle.shape.specs.Shape.{head_or0}
+use Rattle.offsets.specs.declared.table.CellInfo.{CellInfo}
 use Rattle.offsets.specs.Table.{unit_in, units_in}
-use Rattle.offsets.specs.Landings.{kept_of}
+use Rattle.offsets.specs.Trial.{Placed}
+use Rattle.offsets.specs.Landings.{kept_of, directions_of}
 use Rattle.offsets.proofs.TrialLaws.{head_in}
 use Rattle.words.specs.Words.{bit, reads, Readable}
 use Rattle.words.proofs.WordLaws.{bit_and_lem, bit_or_lem, bit_zero, within, left_out}
 use Rattle.unit_codes.specs.Codes.{cell_code, border_code, codes_at, cell_codes, border_codes}
 use Rattle.unit_codes.proofs.CodeLaws.{side_low}
-use Rattle.row_trials.specs.declared.Coded.{Coded}
-use Rattle.row_trials.specs.Rows.{good_at, row_good, left_at, Found, CodedUnit, NearRows}
+use Rattle.row_trials.specs.Coded.{CodedUnit}
+use Rattle.row_trials.specs.Rows.{good_at, row_good, left_at, Found, NearRows}
 use Rattle.row_trials.proofs.LandLaws.{cell_code_row, border_code_row}
 use Rattle.row_trials.proofs.GoodLaws.{good_codes}
 
@@ -81,89 +81,88 @@ module _ (on met : ℕ) (near inside words codes borders : List ℕ) (t : ℕ) (
 
 -- A ROW OF OFFSETS
 
-module _ {g : Grid} {states table marks cs : List ℕ} {u : Coded} {words inside codes borders : List ℕ} (k : CodedUnit g states table marks cs u words inside codes borders) {near : List ℕ} {t : ℕ}
-    (n : NearRows g states table cs t u.tall near) where
+module _ {g : Grid} {states : List ℕ} {table : List CellInfo} {marks cs codes borders : List ℕ} {full : ℕ} {words inside : List ℕ} {on tall : ℕ} (p : Placed g states table marks cs)
+    (k : CodedUnit g states table cs codes borders full words inside on tall) {near : List ℕ} {t : ℕ} (n : NearRows g states table cs t tall near) where
   abbrev f : ℕ
   f = head_or0 cs
 
   on_board_lem : (c : ℕ) → In c cs → Cell g c
-  on_board_lem c m = (in_cells g (units_in g table) (unit_in table f) c (rw k.placed.cells_are at m)).0
+  on_board_lem c m = (in_cells g (units_in g table) (unit_in table f) c (rw p.cells_are at m)).0
 
   first_cell : Cell g f
-  first_cell = on_board_lem f (head_in cs k.placed.some)
+  first_cell = on_board_lem f (head_in cs p.some)
 
   -- the rows on which the cells fall
   fit : (c : ℕ) → In c cs → (row g f ≤ row g c) × (row g c - row g f + t < g.height)
   fit c m = ((k.span c m).0, omega (arith, (k.span c m).0, (k.span c m).1, n.high))
 
   small_row : t ≤ 1024
-  small_row = omega (arith, n.high, k.placed.limits.height_fits)
+  small_row = omega (arith, n.high, p.limits.height_fits)
 
-  cell_codes_lem : (e : ℕ) → In e (take u.count codes) → e / 64 + t < g.height
+  cell_codes_lem : (e : ℕ) → In e codes → e / 64 + t < g.height
   unfolding cell_codes
   cell_codes_lem e m =
       let o = in_gather (λ c. cell_code g f c ∷ []) cs e (rw k.cells_are at m) in
       let c = o.0 in
-      let r = cell_code_row g k.placed.limits f c first_cell (on_board_lem c o.1) in
+      let r = cell_code_row g p.limits f c first_cell (on_board_lem c o.1) in
       one o.2 (let q : cell_code g f c / 64 + t < g.height = omega (arith, r, (fit c o.1).1) in q)
     where
       one : {a b : ℕ} → In a (b ∷ []) → b / 64 + t < g.height → a / 64 + t < g.height
       one m h = ⊎_elim (λ q. rw q h) (λ q. absurd q) m
 
-  pub reads_near : Readable near codes u.count t
-  reads_near = record { codes_long = k.codes_long; small = small_row; within = λ e m. omega (arith, cell_codes_lem e m, n.long) }
+  pub reads_near : Readable near codes t
+  reads_near = record { small = small_row; within = λ e m. omega (arith, cell_codes_lem e m, n.long) }
 
-  pub reads_inside : Readable inside codes u.count t
-  reads_inside = record { codes_long = k.codes_long; small = small_row; within = λ e m. omega (arith, cell_codes_lem e m, k.inside_is.long) }
+  pub reads_inside : Readable inside codes t
+  reads_inside = record { small = small_row; within = λ e m. omega (arith, cell_codes_lem e m, k.inside_is.long) }
 
   border_codes_lem : (inner : Bool) (e : ℕ) → In e (gather (codes_at g states (units_in g table) (unit_in table f) f inner) cs) → e / 64 + t < 132
   unfolding codes_at
   border_codes_lem inner e m =
       let o = in_gather (codes_at g states (units_in g table) (unit_in table f) f inner) cs e m in
       let c = o.0 in
-      let q = in_gather (λ d. when (kept_of g states (units_in g table) inner (unit_in table f) c d) (border_code g f inner c d)) (pick inner forward around) e o.2 in
+      let q = in_gather (λ d. when (kept_of g states (units_in g table) inner (unit_in table f) c d) (border_code g f inner c d)) (directions_of inner) e o.2 in
       let d = q.0 in
       let w = in_when (kept_of g states (units_in g table) inner (unit_in table f) c d) (border_code g f inner c d) e q.2 in
-      let r = border_code_row g k.placed.limits f c first_cell (on_board_lem c o.1) inner d in
-      let j : border_code g f inner c d / 64 + t < 132 = omega (arith, r, side_low inner d, (fit c o.1).1, k.placed.limits.height_fits) in
+      let r = border_code_row g p.limits f c first_cell (on_board_lem c o.1) inner d in
+      let j : border_code g f inner c d / 64 + t < 132 = omega (arith, r, side_low inner d, (fit c o.1).1, p.limits.height_fits) in
       rw w.1 j
 
-  pub reads_words : Readable words borders u.more t
+  pub reads_words : Readable words borders t
   unfolding border_codes
   reads_words =
-      let codes = codes_at g states (units_in g table) (unit_in table f) f in
+      let of = codes_at g states (units_in g table) (unit_in table f) f in
       record {
-        codes_long = k.borders_long;
         small = small_row;
         within = λ e m.
-            ⊎_elim (λ (q : In e (gather (codes true) cs)). omega (arith, border_codes_lem true e q, k.words_are.long))
-            (λ (q : In e (gather (codes false) cs)). omega (arith, border_codes_lem false e q, k.words_are.long))
-            (in_append e (gather (codes true) cs) (gather (codes false) cs) (rw k.borders_are at m));
+            ⊎_elim (λ (q : In e (gather (of true) cs)). omega (arith, border_codes_lem true e q, k.words_are.long))
+            (λ (q : In e (gather (of false) cs)). omega (arith, border_codes_lem false e q, k.words_are.long))
+            (in_append e (gather (of true) cs) (gather (of false) cs) (rw k.borders_are at m));
       }
 
   abbrev left : ℕ → Bool
-  left = left_at u.on near inside words (take u.count codes) (take u.more borders) t
+  left = left_at on near inside words codes borders t
 
   -- a bit that is left is one of the row's columns
   column : (x : ℕ) → left x ≡ true → x < g.width
   column x q =
-      let a = (both_true (both (bit u.on x) (any (reads near t x) (take u.count codes))) _ q).0 in
-      let b = (both_true (bit u.on x) (any (reads near t x) (take u.count codes)) a).0 in
-      let c = (both_true (bit k.full (x + 32)) (all (λ e. bit k.full (x + e % 64)) (cell_codes g cs)) (sym (k.on_is x) ∙ b)).0 in
+      let a = (both_true (both (bit on x) (any (reads near t x) codes)) _ q).0 in
+      let b = (both_true (bit on x) (any (reads near t x) codes) a).0 in
+      let c = (both_true (bit full (x + 32)) (all (λ e. bit full (x + e % 64)) (cell_codes g cs)) (sym (k.on_is x) ∙ b)).0 in
       let d = (both_true (leb 32 (x + 32)) (ltb (x + 32) (32 + g.width)) (sym (k.whole (x + 32)) ∙ c)).1 in
       let l = ltb-true (x + 32) (32 + g.width) d in
       omega arith
 
   good_left : (x : ℕ) → x < g.width → good_at g states table cs t x ≡ left x
   good_left x h =
-      good_codes k.placed k.full k.whole words near inside k.words_are k.inside_is t x h fit
+      good_codes p full k.whole words near inside k.words_are k.inside_is t x h fit
       (λ c m. n.says (row g c - row g f + t) (omega arith) (omega (arith, (k.span c m).0, (k.span c m).1)))
       ∙ same_words
     where
-      in_row : bit k.full (x + 32) ≡ true
+      in_row : bit full (x + 32) ≡ true
       in_row = k.whole (x + 32) ∙ rw (le-leb 32 (x + 32) (omega arith), lt-ltb (x + 32) (32 + g.width) (omega arith))
 
-      same_words : both (both (all (λ e. bit k.full (x + e % 64)) (cell_codes g cs)) (any (reads near t x) (cell_codes g cs))) (not (either (any (reads inside t x) (cell_codes g cs)) (any (reads words t x) (border_codes g states table cs)))) ≡ left x
+      same_words : both (both (all (λ e. bit full (x + e % 64)) (cell_codes g cs)) (any (reads near t x) (cell_codes g cs))) (not (either (any (reads inside t x) (cell_codes g cs)) (any (reads words t x) (border_codes g states table cs)))) ≡ left x
       same_words =
           rw (k.cells_are, k.borders_are, k.on_is x, in_row)
 

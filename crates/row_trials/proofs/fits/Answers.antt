@@ -1,51 +1,41 @@
 -- `row_trials::fits` meets its contract: the unit's codes are written, and its rows tried. Assumes nothing.
-use mathlib.Core.Path.{refl}
+use mathlib.Core.Path.{sym, ◌∙◌}
+use native.Mathlib.Omega.{arith}
+use Rattle.std.proofs.lemmas.List.{length-take-le}
+use Rattle.offsets.proofs.TrialLaws.{first_cell_of}
 use Rattle.cell_words.proofs.OwnLaws.{blank}
-use Rattle.row_trials.proofs.CodedLaws.{unit, count_fits, first_listed, last_listed, first_row, last_after, ends, coded}
+use Rattle.row_trials.proofs.CodedLaws.{count_fits, more_fits, last_cell, first_row, last_after, ends, coded}
 use Rattle.row_trials.proofs.fits.Goals as goal
 
-pub row-row-requires : goal.row-row-requires
-row-row-requires c = first_listed c.requires.asking c.wide-first.ensures c.wide-last.ensures
+pub bounds-unit-from : goal.bounds-unit-from
+bounds-unit-from c = let u = c.args.trial.unit in omega (arith, first_cell_of u.unit c.from.ensures, u.chart.table_of.long)
 
-pub write_cells-count-requires : goal.write_cells-count-requires
-write_cells-count-requires c = let p = c.requires.asking in record { unit = unit p; cells_in_bounds = p.codes_long }
-
-pub write_borders-more-requires : goal.write_borders-more-requires
-write_borders-more-requires c = let p = c.requires.asking in record { unit = unit p; g_in_bounds = p.placed.states_long; cells_in_bounds = p.borders_long }
+pub bounds-unit-from-2 : goal.bounds-unit-from-2
+bounds-unit-from-2 c = let u = c.args.trial.unit in omega (arith, last_cell u.unit c.from.ensures c.from-2.ensures, u.chart.table_of.long)
 
 pub add_cells-requires : goal.add_cells-requires
-add_cells-requires c = let p = c.requires.asking in record { unit = unit p; blank = blank p.placed.limits }
+add_cells-requires c = blank c.args.trial.placed.limits
 
-pub potential-requires : goal.potential-requires
-potential-requires c = first_listed c.requires.asking c.wide-first.ensures c.wide-last.ensures
+pub slice_bounds-codes-end : goal.slice_bounds-codes-end
+slice_bounds-codes-end c = count_fits _ _ c.requires.asking.codes_long c.write_cells-count.ensures
 
-pub common-requires : goal.common-requires
-common-requires c =
-    count_fits c.requires.asking refl c.write_cells-count.ensures
+pub slice_bounds-codes-end-2 : goal.slice_bounds-codes-end-2
+slice_bounds-codes-end-2 c = sym (length-take-le _ _ (count_fits _ _ c.requires.asking.codes_long c.write_cells-count.ensures))
 
-pub row-requires : goal.row-requires
-row-requires c =
-    last_listed c.requires.asking c.wide-first.ensures c.wide-last.ensures
+pub slice_bounds-coded-end : goal.slice_bounds-coded-end
+slice_bounds-coded-end c = more_fits _ _ _ _ c.requires.asking.borders_long c.write_borders-more.ensures
 
-pub overflow_sub-u : goal.overflow_sub-u
-overflow_sub-u c =
-    last_after c.requires.asking c.wide-first.ensures c.wide-last.ensures c.row-row.ensures c.row.ensures
+pub slice_bounds-coded-end-2 : goal.slice_bounds-coded-end-2
+slice_bounds-coded-end-2 c = sym (length-take-le _ _ (more_fits _ _ _ _ c.requires.asking.borders_long c.write_borders-more.ensures))
 
-pub fits_rows-requires : goal.fits_rows-requires
-fits_rows-requires c =
-    record { coded_unit = coded c.requires.asking c.wide-first.ensures c.wide-last.ensures c.row-row.ensures c.row.ensures refl refl c.potential.ensures c.write_cells-count.ensures c.write_borders-more.ensures c.add_cells.ensures c.common.ensures; stamped = c.requires.stamped; row_value = (first_row c.requires.asking c.wide-first.ensures c.wide-last.ensures c.row-row.ensures c.row.ensures, ends c.requires.asking c.wide-first.ensures c.wide-last.ensures c.row-row.ensures c.row.ensures) }
+pub overflow_sub-last : goal.overflow_sub-last
+overflow_sub-last c = last_after c.args.trial.unit.unit c.from.ensures c.from-2.ensures
 
-pub shape_of-codes : goal.shape_of-codes
-shape_of-codes c = c.write_cells-count.auto.codes
+pub invariant_of-coded : goal.invariant_of-coded
+invariant_of-coded c =
+    record { coded = coded c.args.trial.unit.unit c.from.ensures c.from-2.ensures c.requires.asking c.write_cells-count.ensures c.write_borders-more.ensures c.add_cells.ensures c.common.ensures c.from-3.ensures }
 
-pub shape_of-borders : goal.shape_of-borders
-shape_of-borders c = c.write_borders-more.auto.codes
-
-pub shape_of-near : goal.shape_of-near
-shape_of-near c = c.fits_rows.ensures.held.near_same
-
-pub shape_of-stamps : goal.shape_of-stamps
-shape_of-stamps c = c.fits_rows.ensures.held.stamps_same
-
-pub returns : goal.returns
-returns c = record { value = c.fits_rows.ensures.value; held = c.fits_rows.ensures.held }
+pub fits_somewhere-requires-clause-row_value : goal.fits_somewhere-requires-clause-row_value
+fits_somewhere-requires-clause-row_value c =
+    let u = c.args.trial.unit.unit in
+    (c.from-4.ensures ∙ first_row u c.from.ensures c.from-2.ensures, ends u c.from.ensures c.from-2.ensures c.from-3.ensures)
