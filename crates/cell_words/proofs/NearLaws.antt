@@ -6,7 +6,7 @@ use mathlib.Core.Bool.{Bool, not}
 use mathlib.Core.List.{List}
 use native.Mathlib.Omega.{arith}
 use lib.Dec.{eqb}
-use lib.ListN.{get_or, set, length-set}
+use lib.ListN.{get_or, length, set, length-set, replicate, length-replicate, get_or-replicate}
 use lib.Seq.{get_or-set_same, get_or-set_other}
 use Rattle.std.specs.Prelude.{Option, Some, None}
 use Rattle.lists.proofs.Cases.{eq_or_ne, le_or_lt}
@@ -27,6 +27,18 @@ marked_at table marks c = not (eqb (get_or marks (potential_in table c) 0) 0)
 
 some_is : {a b : ℕ} → ◌≡◌ {A = Option ℕ} (Some a) (Some b) → a ≡ b
 some_is e = cc
+
+-- no row's word stands for a potential unit yet
+pub none_stamped : {g : Grid} → g.height ≤ 32 → (states pids : List ℕ) → Stamped g states pids (record { words = replicate 32 0; stamps = replicate 32 None })
+none_stamped {g} l states pids =
+    record {
+      words_long = simp length-replicate l;
+      stamps_long = simp length-replicate l;
+      says = λ y p h e. absurd (none_some (sym (get_or-replicate {A = Option ℕ} 32 y None None (omega (arith, l))) ∙ e));
+    }
+  where
+    none_some : {p : ℕ} → ◌≡◌ {A = Option ℕ} None (Some p) → ⊥
+    none_some q = let z : ◌≡◌ {A = ℕ} 0 1 = cc in omega arith
 
 -- ONE ROW
 module _ {g : Grid} {states : List ℕ} {table : List CellInfo} {marks : List ℕ} {p : ℕ} (s : Stamping g states table marks p) {y : ℕ} (h : y < g.height) where

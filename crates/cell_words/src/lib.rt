@@ -2,7 +2,8 @@
 // when a row is first needed and kept while the next units have the same potential unit.
 #![tactic(auto)]
 
-ghost use Rattle.std.specs.Prelude.{not, ◌+◌, ◌*◌, ◌≤◌, ◌<◌, eqb, get_or};
+ghost use Rattle.std.specs.Prelude.{List, ℕ, not, ◌+◌, ◌*◌, ◌≤◌, ◌<◌, eqb, get_or};
+ghost use Rattle.grid.specs.declared.Grid.{Grid};
 ghost use Rattle.shape.specs.Shape.{head_or0};
 ghost use Rattle.offsets.specs.Table.{unit_in, potential_in, units_in, potentials_in};
 ghost use Rattle.words.specs.Words.{Says};
@@ -14,6 +15,7 @@ use offsets::unit::UnitCells;
 pub mod marked;
 
 // For each row the word of the cells that are near, and the potential unit for which it was made.
+#[derive(Drop)]
 pub struct Near {
     pub words: [u64; 32],
     pub stamps: [Option<u16>; 32],
@@ -50,7 +52,9 @@ impl Marked<'_> {
 
 impl Near {
     // No word is made.
-    pub fn unmade() -> Near {
+    pub fn unmade() -> Near
+        ensures { (g : Grid) (states pids : List ℕ) → g.height ≤ 32 → Stamped g states pids result }
+    {
         Near {
             words: [0; 32],
             stamps: [None; 32],

@@ -1,48 +1,39 @@
 -- Finding: the units in turn. Assumes nothing.
-use Prim.Native.Nat.{ℕ, ◌+◌, ◌*◌, ◌≤◌, ◌<◌}
-use mathlib.Core.Path.{◌≡◌, ap, sym, ◌∙◌}
-use mathlib.Core.Logic.{◌≢◌, ⊎_elim}
+use Prim.Native.Nat.{ℕ, ◌+◌, ◌-◌, ◌≤◌, ◌<◌}
+use mathlib.Core.Path.{◌≡◌, refl, ap, sym, ◌∙◌}
+use mathlib.Core.Logic.{◌≢◌, ⊎_elim, ∥∥₁_elim}
 use mathlib.Core.Bool.{Bool, true, false, not}
 use mathlib.Core.List.{List}
 use native.Mathlib.Omega.{arith}
+use Rattle.std.proofs.Props.{props}
 use borrow.Author.Tests.{eq-eqb, not-true}
 use lib.Dec.{eqb}
 use lib.ListN.{get_or, length}
+use Rattle.std.specs.Prelude.{Option, Some, None}
 use Rattle.lists.specs.Choice.{both}
 use Rattle.lists.specs.Lists.{all, any, range}
 use Rattle.lists.proofs.Cases.{eq_or_ne, true_or_false, not_both}
 use Rattle.lists.proofs.ChoiceLaws.{both_true, holds_true}
 use Rattle.lists.proofs.ListLaws.{any_true, all_true}
 use Rattle.grid.specs.declared.Grid.{Grid}
-use Rattle.grid.specs.Grid.{cells, Cell, row, col}
+use Rattle.grid.specs.Grid.{Limits, cells, Cell, row, col, border_count}
 use Rattle.groups.specs.Groups.{cells_of}
-use Rattle.groups.specs.Info.{group_part}
-use Rattle.boundary.proofs.BoundaryLaws.{cells_most}
+use Rattle.groups.specs.Lent.{InTurn}
 use Rattle.groups.proofs.GroupLaws.{in_cells}
 use Rattle.groups.proofs.Theorems.{turn_some}
 use Rattle.shape.specs.Shape.{head_or0, shift, unit_of, falls, meets, landing, try, try_at, is_good, fits}
-use Rattle.offsets.specs.Table.{unit_in, potential_in, units_in, potentials_in}
+use Rattle.offsets.specs.declared.table.CellInfo.{CellInfo}
+use Rattle.offsets.specs.Table.{Table, unit_in, potential_in, units_in, potentials_in}
 use Rattle.offsets.specs.Reach.{moved}
 use Rattle.offsets.specs.Trial.{unit_at, shift_of, fits_at, Unit, Placed}
 use Rattle.offsets.proofs.TableLaws.{unit_at_lem, potential_at}
 use Rattle.offsets.proofs.ReachLaws.{fell, fell_cell}
 use Rattle.offsets.proofs.NoneLaws.{is_none, good_pick}
-use Rattle.offsets.proofs.TrialLaws.{head_in, head_at}
-use Rattle.words.specs.Words.{Full}
-use Rattle.border_words.specs.Sides.{BorderWords}
-use Rattle.cell_words.specs.Cells.{Stamped}
-use Rattle.cell_words.proofs.OwnLaws.{on_board_lem}
-use Rattle.adjacency.specs.Adjacency.{Marking, MarksOf}
+use Rattle.offsets.proofs.TrialLaws.{head_in}
+use Rattle.adjacency.specs.Adjacency.{Adjacency, Marking, MarksOf, Unmarked}
 use Rattle.adjacency.proofs.ListingLaws.{marking}
-use Rattle.row_trials.specs.Rows.{Asking}
-use Rattle.unit_check.specs.Find.{unit_cells, fits_in, AllFit, FirstUnfit, AdjacentTo, Finding, MarkedFor}
-
--- the words of the board's borders and of a whole row, and room for the codes of any unit
-pub record Room (g : Grid) (states : List ℕ) (full : ℕ) (words : List ℕ) (codes borders : ℕ) : Type 0 where
-  pub whole : Full g.width full
-  pub words_are : BorderWords g states words
-  pub codes_long : cells g ≤ codes
-  pub borders_long : 6 * cells g ≤ borders
+use Rattle.unit_check.specs.Stage.{Finding}
+use Rattle.unit_check.specs.Find.{unit_cells, own_of, fits_in, tries_all, AllFit, FirstUnfit, MarkedFor, Sought, Unfit}
 
 -- THE UNITS IN TURN
 
@@ -63,102 +54,91 @@ module _ {test : ℕ → Bool} {n k : ℕ} (a : AllFit test n k) where
   pub fit_all : n ≤ k → FirstUnfit test n k
   fit_all h = fit_there (λ l. absurd (omega arith))
 
-pub below : {test : ℕ → Bool} {n k : ℕ} → FirstUnfit test n k → k ≢ n → k < n
-below w e = omega (arith, w.within)
+-- the groups that a stage holds are those that the table tells
+pub units_turn : {g g₁ g₂ : Grid} {states : List ℕ} {table : List CellInfo} {ids pids : List ℕ} {count : ℕ} {nstarts near : List ℕ} → Finding g states table g₁ ids g₂ pids count nstarts near
+    → {n : ℕ} {starts flat : List ℕ} → InTurn g₁ ids n starts flat → InTurn g (units_in g table) n starts flat
+units_turn f w = rw f.units (rw f.units_of at w)
 
--- as many marks as before
-pub same_marks : {g : Grid} {states table nstarts near : List ℕ} {room more : ℕ} → more ≡ room → AdjacentTo g states table nstarts near room → AdjacentTo g states table nstarts near more
-same_marks e n = rw e n
+pub potentials_turn : {g g₁ g₂ : Grid} {states : List ℕ} {table : List CellInfo} {ids pids : List ℕ} {count : ℕ} {nstarts near : List ℕ} → Finding g states table g₁ ids g₂ pids count nstarts near
+    → {n : ℕ} {starts flat : List ℕ} → InTurn g₂ pids n starts flat → InTurn g (potentials_in g table) n starts flat
+potentials_turn f w = rw f.potentials (rw f.potentials_of at w)
 
-pub same_room : {g : Grid} {states table starts flat nstarts near : List ℕ} {room more : ℕ} → more ≡ room → Finding g states table starts flat nstarts near room
-    → Finding g states table starts flat nstarts near more
-same_room e p = rw e p
+pub its_cells : {g g₁ g₂ : Grid} {states : List ℕ} {table : List CellInfo} {ids pids : List ℕ} {count : ℕ} {nstarts near : List ℕ} → Finding g states table g₁ ids g₂ pids count nstarts near
+    → (k : ℕ) {cs : List ℕ} → cs ≡ cells_of g₁ ids k → cs ≡ unit_cells g table k
+its_cells f k e = e ∙ rw (f.units_of, f.units)
 
--- the own potential unit of the unit of these cells, whose first cell is f
-module _ {g : Grid} {table cs : List ℕ} (u : Unit g table cs) {states nstarts near : List ℕ} {room : ℕ} (n : AdjacentTo g states table nstarts near room)
-    {f own : ℕ} (first_is : f ≡ get_or cs 0 0) (own_is : own ≡ potential_in table f) where
-  own_head : own ≡ potential_in table (head_or0 cs)
-  own_head = own_is ∙ ap (potential_in table) (first_is ∙ head_at cs)
+-- each cell's potential unit is one of them
+pub potential_small : {g : Grid} (table : List CellInfo) {count : ℕ} {starts flat : List ℕ} → InTurn g (potentials_in g table) count starts flat → (c : ℕ) → Cell g c → potential_in table c < count
+potential_small {g} table w c h = rw (potential_at g table c h) at (w.small c h)
 
-  pub own_exists : own < n.count
-  own_exists = rw own_head (n.small (head_or0 cs) (on_board_lem u (head_or0 cs) (head_in cs u.some)))
-
-  pub own_marking : (marks : List ℕ) → length marks ≡ room → Marking own nstarts near marks
-  own_marking marks e =
-      marking {g = g} {states = states} {pids = potentials_in g table} {count = n.count} {starts = nstarts} {list = near} (λ c l. rw (potential_at g table c l) (n.small c l))
-      n.lists marks (omega (arith, n.marks_long)) own own_exists
-
-  pub marked_for : (marks : List ℕ) → MarksOf g states (potentials_in g table) own marks → MarkedFor g states table cs marks
-  marked_for marks m = record { only = rw own_head at m }
-
-  pub marks_of : (marks : List ℕ) → MarkedFor g states table cs marks → MarksOf g states (potentials_in g table) own marks
-  marks_of marks m = rw own_head m.only
-
--- unit k, whose cells are lent
-module _ {g : Grid} {states table starts flat nstarts near : List ℕ} {room : ℕ} (p : Finding g states table starts flat nstarts near room) {k : ℕ} (h : k < length starts)
-    {cs : List ℕ} (cells_are : cs ≡ group_part (cells g) (length starts) starts flat k) where
+-- unit k
+module _ {g : Grid} {table : List CellInfo} {n : ℕ} {starts flat : List ℕ} (l : Limits g) (t : Table g table) (w : InTurn g (units_in g table) n starts flat) {k : ℕ} (h : k < n) where
   abbrev ids : List ℕ
   ids = units_in g table
 
   abbrev pids : List ℕ
   pids = potentials_in g table
 
-  own_cells : cs ≡ cells_of g ids k
-  own_cells = cells_are ∙ (p.units.between k h).are
+  pub some_cells : 0 < length (unit_cells g table k)
+  some_cells = turn_some w h
 
-  pub some_cells : 0 < length cs
-  some_cells = rw own_cells (turn_some p.units h)
+  head : Cell g (head_or0 (unit_cells g table k)) × (get_or ids (head_or0 (unit_cells g table k)) 0 ≡ k)
+  head = in_cells g ids k (head_or0 (unit_cells g table k)) (head_in (unit_cells g table k) some_cells)
 
-  head : Cell g (head_or0 cs) × (get_or ids (head_or0 cs) 0 ≡ k)
-  head = in_cells g ids k (head_or0 cs) (rw (← own_cells) (head_in cs some_cells))
+  pub head_cell : Cell g (head_or0 (unit_cells g table k))
+  head_cell = head.0
 
-  number : unit_in table (head_or0 cs) ≡ k
-  number = sym (unit_at_lem g table (head_or0 cs) head.0) ∙ head.1
+  pub number : unit_in table (head_or0 (unit_cells g table k)) ≡ k
+  number = sym (unit_at_lem g table (head_or0 (unit_cells g table k)) head.0) ∙ head.1
 
-  pub unit_is : unit_at g table cs ≡ unit_of g ids pids k
+  pub unit_is : unit_at g table (unit_cells g table k) ≡ unit_of g ids pids k
   unit_is = ap (unit_of g ids pids) number
 
-  pub fits_is : fits_at g states table cs ≡ fits_in g states table k
-  fits_is = ap (fits g states ids pids) unit_is
+  pub fits_is : (states : List ℕ) → fits_at g states table (unit_cells g table k) ≡ fits_in g states table k
+  fits_is states = ap (fits g states ids pids) unit_is
 
-  pub its_unit : Unit g table cs
-  its_unit = record { limits = p.limits; table_of = p.table_of; some = some_cells; cells_are = own_cells ∙ ap (cells_of g ids) (sym number) }
+  pub its_unit : Unit g table (unit_cells g table k)
+  its_unit = record { limits = l; table_of = t; some = some_cells; cells_are = ap (cells_of g ids) (sym number) }
 
-  -- the marks of these cells are those of unit k's
-  pub marked_there : {marks : List ℕ} → MarkedFor g states table cs marks → MarkedFor g states table (unit_cells g table k) marks
-  marked_there m = rw own_cells at m
-
-  pub marked_here : {marks : List ℕ} → MarkedFor g states table (unit_cells g table k) marks → MarkedFor g states table cs marks
-  marked_here m = rw own_cells m
-
-  pub placed : {marks : List ℕ} → MarkedFor g states table cs marks → p.adjacent.count ≤ length marks → Placed g states table marks cs
-  placed m l =
+  pub its_placed : {states marks : List ℕ} → border_count g ≤ length states → MarkedFor g states table k marks → {count : ℕ} {pstarts pflat : List ℕ} → InTurn g pids count pstarts pflat
+      → count ≤ length marks → Placed g states table marks (unit_cells g table k)
+  its_placed long m p e =
       record {
-        limits = p.limits;
-        states_long = p.states_long;
-        table_of = p.table_of;
+        limits = l;
+        states_long = long;
+        table_of = t;
         some = some_cells;
         cells_are = its_unit.cells_are;
-        marks_long = λ c h. omega (arith, p.adjacent.small c h);
+        marks_long = λ c q. omega (arith, potential_small table p c q);
         marked = m.only;
       }
 
-  -- what the trials of its offsets ask
-  pub asking : {marks : List ℕ} {full : ℕ} {words : List ℕ} {codes borders : ℕ} → MarkedFor g states table cs marks → p.adjacent.count ≤ length marks → Room g states full words codes borders
-      → Asking g states table marks cs full words codes borders
-  asking m l r =
-      let few : length cs ≤ cells g = rw own_cells (cells_most g ids k) in
-      record {
-        placed = placed m l;
-        own_small = omega (arith, p.adjacent.small (head_or0 cs) head.0, p.adjacent.few);
-        whole = r.whole;
-        words_are = r.words_are;
-        codes_long = omega (arith, few, r.codes_long);
-        borders_long = omega (arith, few, r.borders_long);
-      }
+  -- its own potential unit has a list, and marks
+  module _ {states : List ℕ} {count : ℕ} {pstarts pflat : List ℕ} (p : InTurn g pids count pstarts pflat) {nstarts near : List ℕ} (a : ∥ Adjacency g states pids count nstarts near ∥₁) where
+    own_exists : own_of g table k < count
+    own_exists = potential_small table p (head_or0 (unit_cells g table k)) head_cell
+
+    pub own_marking : {own : ℕ} → own ≡ own_of g table k → (marks : List ℕ) → count ≤ length marks → Marking own nstarts near marks
+    own_marking e marks long =
+        rw e
+        (∥∥₁_elim a (hlevel props)
+        (λ (b : Adjacency g states pids count nstarts near).
+        marking {g = g} {states = states} {pids = pids} {count = count} {starts = nstarts} {list = near} (λ c q. p.small c q) b marks long (own_of g table k) own_exists))
+
+    pub unit_marked : {own : ℕ} → own ≡ own_of g table k → {marks : List ℕ}
+        → ((g : Grid) (states pids : List ℕ) (count : ℕ) → Adjacency g states pids count nstarts near → own < count → MarksOf g states pids own marks) → MarkedFor g states table k marks
+    unit_marked e {marks} f =
+        record {
+          only = λ q z. ∥∥₁_elim a (hlevel props) (λ (b : Adjacency g states pids count nstarts near). (rw e at (f g states pids count b (rw e own_exists))) q z);
+        }
+
+    pub unit_unmarked : {own : ℕ} → own ≡ own_of g table k → {marks : List ℕ} (marks' : List ℕ) → MarkedFor g states table k marks
+        → ((g : Grid) (states pids : List ℕ) (count : ℕ) → Adjacency g states pids count nstarts near → own < count → MarksOf g states pids own marks → Unmarked marks') → Unmarked marks'
+    unit_unmarked e marks' m f q =
+        ∥∥₁_elim a (hlevel props) (λ (b : Adjacency g states pids count nstarts near). f g states pids count b (rw e own_exists) (rw e m.only) q)
 
 -- a unit that is the whole board fits nowhere: each offset puts its first cell on it
-module _ {g : Grid} {states table starts flat nstarts near : List ℕ} {room : ℕ} (p : Finding g states table starts flat nstarts near room) (e : length starts ≡ 1) where
+module _ {g : Grid} (states : List ℕ) (table : List CellInfo) {n : ℕ} {starts flat : List ℕ} (turns : InTurn g (units_in g table) n starts flat) (e : n ≡ 1) where
   abbrev all_ids : List ℕ
   all_ids = units_in g table
 
@@ -176,13 +156,13 @@ module _ {g : Grid} {states table starts flat nstarts near : List ℕ} {room : �
       let o = landing g states all_ids u put in
       let b = (both_true t (is_none o) (sym (good_pick t o) ∙ a.2)).0 in
       let c = (both_true (all (falls all_ids u put) all_cells) (any (meets g states (potentials_in g table) u put) all_cells) b).0 in
-      let d = all_true (falls all_ids u put) all_cells c f (head_in all_cells (turn_some p.units (omega arith))) in
+      let d = all_true (falls all_ids u put) all_cells c f (head_in all_cells (turn_some turns (omega arith))) in
       let x = holds_true (put f) (λ z. not (eqb (get_or all_ids z 0) 0)) d in
       let s = shift_of g 0 f a.0 in
-      let k = p.units.small x.0 (fell_cell g s (row g f) (col g f) x.0 (fell g s (row g f) (col g f) x.0 x.1)) in
+      let k = turns.small x.0 (fell_cell g s (row g f) (col g f) x.0 (fell g s (row g f) (col g f) x.0 x.1)) in
       not_both (eqb (get_or all_ids x.0 0) 0) (eq-eqb (get_or all_ids x.0 0) 0 (omega (arith, k, e))) (not-true (eqb (get_or all_ids x.0 0) 0) x.2)
 
-  pub only_unit : FirstUnfit (fits_in g states table) (length starts) 0
+  pub only_unit : FirstUnfit (fits_in g states table) n 0
   only_unit =
       record {
         within = omega arith;
@@ -190,18 +170,64 @@ module _ {g : Grid} {states table starts flat nstarts near : List ℕ} {room : �
         there = λ l. ⊎_elim (λ q. absurd (fits_never q)) (λ q. q) (true_or_false (fits_in g states table 0));
       }
 
--- EACH UNIT FROM ONE ON
+-- WHAT IS FOUND
 
--- each unit so far fits, the next one has its marks, the stamps hold, and slices and arrays are as long as at the start
-pub record FindWalk (g : Grid) (states table : List ℕ) (n : ℕ) (codes₀ borders₀ marks₀ codes borders marks nearby stamps : List ℕ) (unit : ℕ) : Type 0 where
-  pub fit : AllFit (fits_in g states table) n unit
-  pub marked : unit < n → MarkedFor g states table (unit_cells g table unit) marks
-  pub stamped : Stamped g states (potentials_in g table) nearby stamps
-  pub nearby_long : length nearby ≡ 32
-  pub stamps_long : length stamps ≡ 32
-  pub codes_long : length codes ≡ length codes₀
-  pub borders_long : length borders ≡ length borders₀
-  pub marks_long : length marks ≡ length marks₀
+some_one : {a b : ℕ} → ◌≡◌ {A = Option ℕ} (Some a) (Some b) → a ≡ b
+some_one e = cc
 
-pub same_rooms : {g : Grid} {states : List ℕ} {full : ℕ} {words : List ℕ} {a b c d : ℕ} → c ≡ a → d ≡ b → Room g states full words a b → Room g states full words c d
-same_rooms e q r = rw (e, q) r
+some_none : {a : ℕ} {P : Type 0} → ◌≡◌ {A = Option ℕ} (Some a) None → P
+some_none e = absurd (let z : ◌≡◌ {A = ℕ} 0 1 = cc in omega arith)
+
+module _ {g : Grid} {states : List ℕ} {table : List CellInfo} {n : ℕ} where
+  pub sought_none : {from k : ℕ} {marks : List ℕ} → AllFit (fits_in g states table) n k → n ≤ k → Sought g states table n from marks None
+  sought_none {k = k₀} a h =
+      record {
+        none = λ e. let q : k₀ ≡ n = omega (arith, a.within) in rw q at a;
+        some = λ k e. some_none (sym e);
+        before = λ k e. some_none (sym e);
+        marked = λ k e. some_none (sym e);
+        there = λ s k e. some_none (sym e);
+      }
+
+  pub sought_some : {from u : ℕ} {marks : List ℕ} → from ≤ u → u < n → AllFit (fits_in g states table) n u → MarkedFor g states table u marks → (tries_all g ≡ true → fits_in g states table u ≡ false)
+      → Sought g states table n from marks (Some u)
+  sought_some {from} {u} {marks} f h a m t =
+      record {
+        none = λ e. some_none e;
+        some = λ k e. rw (← some_one e) (f, h);
+        before = λ k e. rw (← some_one e) a;
+        marked = λ k e. rw (← some_one e) m;
+        there = λ s k e. rw (← some_one e) (t s);
+      }
+
+  pub unfit_none : {marks : List ℕ} → AllFit (fits_in g states table) n n → Unfit g states table n marks None
+  unfit_none a = record { none = λ e. fit_all a (omega arith); some = λ k e. some_none (sym e); first = λ k e. some_none (sym e); marked = λ k e. some_none (sym e) }
+
+  pub unfit_some : {u : ℕ} {marks : List ℕ} → u < n → FirstUnfit (fits_in g states table) n u → MarkedFor g states table u marks → Unfit g states table n marks (Some u)
+  unfit_some {u} h a m = record { none = λ e. some_none e; some = λ k e. rw (← some_one e) h; first = λ k e. rw (← some_one e) a; marked = λ k e. rw (← some_one e) m }
+
+-- each unit so far fits somewhere, and the next one to look at has its marks
+pub record Pending (g : Grid) (states : List ℕ) (table : List CellInfo) (n : ℕ) (marks : List ℕ) (next : Option ℕ) : Type 0 where
+  pub none : next ≡ None → AllFit (fits_in g states table) n n
+  pub some : (k : ℕ) → next ≡ Some k → k < n
+  pub before : (k : ℕ) → next ≡ Some k → AllFit (fits_in g states table) n k
+  pub marked : (k : ℕ) → next ≡ Some k → MarkedFor g states table k marks
+
+module _ {g : Grid} {states : List ℕ} {table : List CellInfo} {n : ℕ} where
+  pub pending_first : {u : ℕ} {marks : List ℕ} → u < n → AllFit (fits_in g states table) n u → MarkedFor g states table u marks → Pending g states table n marks (Some u)
+  pending_first h a m = record { none = λ e. some_none e; some = λ k e. rw (← some_one e) h; before = λ k e. rw (← some_one e) a; marked = λ k e. rw (← some_one e) m }
+
+  pub pending_next : {from : ℕ} {marks : List ℕ} {next : Option ℕ} → Sought g states table n from marks next → Pending g states table n marks next
+  pending_next s = record { none = s.none; some = λ k e. (s.some k e).1; before = s.before; marked = s.marked }
+
+-- how many units are left to look at
+abbrev pub still : ℕ → Option ℕ → ℕ
+still n None = 0
+still n (Some k) = n - k
+
+pub still_less : {n k : ℕ} {next r : Option ℕ} → next ≡ Some k → k < n → ((j : ℕ) → r ≡ Some j → (k + 1 ≤ j) × (j < n)) → still n r < still n next
+still_less {n} {k} {next} {r} e h f = rw e (less r f)
+  where
+    less : (r : Option ℕ) → ((j : ℕ) → r ≡ Some j → (k + 1 ≤ j) × (j < n)) → still n r < n - k
+    less None f = omega arith
+    less (Some j) f = omega (arith, f j refl)

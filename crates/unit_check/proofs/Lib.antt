@@ -1,6 +1,6 @@
 pub mod SoonLaws
 pub mod FindLaws
 pub mod RestLaws
+pub mod RoomLaws
 pub mod WriteLaws
 pub mod StageLaws
-pub mod RoomLaws

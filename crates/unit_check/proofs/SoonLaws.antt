@@ -1,10 +1,11 @@
 -- The places at which a unit is tried by itself, in turn: on a small board these are all, so that where none is good it fits nowhere. Assumes nothing.
-use Prim.Native.Nat.{ℕ, ◌+◌, ◌-◌, ◌≤◌, ◌<◌}
-use mathlib.Core.Path.{◌≡◌, sym, ◌∙◌}
+use Prim.Native.Nat.{ℕ, ◌+◌, ◌-◌, ◌*◌, ◌≤◌, ◌<◌}
+use mathlib.Core.Path.{◌≡◌, refl, sym, ◌∙◌}
 use mathlib.Core.Logic.{◌≢◌, ⊎_elim}
 use mathlib.Core.Bool.{Bool, true, false}
 use mathlib.Core.List.{List}
 use native.Mathlib.Omega.{arith}
+use native.Mathlib.Nat.{le_refl, mul-le-mul}
 use borrow.Author.Tests.{lt-ltb, ltb-true}
 use lib.Dec.{ltb}
 use lib.ListN.{get_or, length}
@@ -18,21 +19,29 @@ use Rattle.grid.specs.Grid.{cells, Cell}
 use Rattle.grid.proofs.Geometry.{cells_le}
 use Rattle.boundary.proofs.BoundaryLaws.{cells_most}
 use Rattle.shape.specs.Shape.{head_or0, is_good, fits}
-use Rattle.offsets.specs.Table.{unit_in, units_in}
+use Rattle.offsets.specs.declared.table.CellInfo.{CellInfo}
+use Rattle.offsets.specs.Table.{row_in, col_in, unit_in, units_in}
 use Rattle.offsets.specs.Trial.{tried_at, fits_at, Unit}
-use Rattle.cell_words.proofs.OwnLaws.{on_board_lem}
+use Rattle.cell_words.proofs.OwnLaws.{on_board_lem, own_row, own_col}
 use Rattle.unit_check.specs.Find.{tries_all}
 
 -- the cells of a unit are few
-pub some_few : {g : Grid} {table cs : List ℕ} → Unit g table cs → (0 < length cs) × (length cs ≤ 1024)
+pub some_few : {g : Grid} {table : List CellInfo} {cs : List ℕ} → Unit g table cs → (0 < length cs) × (length cs ≤ 1024)
 some_few {g} {table} {cs} u =
     let k : length cs ≤ cells g = rw u.cells_are (cells_most g (units_in g table) (unit_in table (head_or0 cs))) in
     (u.some, omega (arith, k, cells_le g u.limits))
 
-pub first_small : {g : Grid} {table cs : List ℕ} → Unit g table cs → get_or cs 0 0 < 1024
+pub first_small : {g : Grid} {table : List CellInfo} {cs : List ℕ} → Unit g table cs → get_or cs 0 0 < 1024
 first_small {g} {table} {cs} u = omega (arith, on_board_lem u (get_or cs 0 0) (get_d_in 0 cs 0 u.some), cells_le g u.limits)
 
-module _ (g : Grid) (states table cs : List ℕ) where
+-- what is read of the cell under a unit is small
+pub under_small : {g : Grid} {table : List CellInfo} {cs : List ℕ} → Unit g table cs → {f l y x : ℕ} → f ≡ get_or cs 0 0 → l ≡ get_or cs (length cs - 1) 0 → y ≡ row_in table l → x ≡ col_in table f
+    → (y < 32) × ((y + 1) * g.width ≤ 1056) × (x < 32)
+under_small {g} {table} {cs} u {y = y} f-is l-is y-is x-is =
+    let r = (own_row u (omega (arith, u.some)) l-is y-is (le_refl g.height) refl).0 in
+    (r, omega (arith, mul-le-mul (let k : y + 1 ≤ 33 = omega (arith, r) in k) u.limits.width_fits), own_col u u.some f-is x-is)
+
+module _ (g : Grid) (states : List ℕ) (table : List CellInfo) (cs : List ℕ) where
   -- the offset of a place is good, where there is such a place
   abbrev pub good_on : ℕ → Bool
   good_on to = both (ltb to (cells g)) (is_good (tried_at g states table cs to))

@@ -15,7 +15,8 @@ use Rattle.lists.proofs.ListLaws.{in_range}
 use Rattle.borders.proofs.Congruence.{gather_same}
 use Rattle.grid.specs.declared.Grid.{Grid}
 use Rattle.grid.specs.Grid.{cells, Cell}
-use Rattle.groups.specs.Info.{group_part}
+use Rattle.groups.specs.Groups.{cells_of}
+use Rattle.borders.specs.Fits.{Fits}
 use Rattle.boundary.specs.Appended.{Appended}
 use Rattle.boundary.specs.Boundary.{unit_boundary, potential_boundary}
 use Rattle.boundary.specs.Listing.{Listable}
@@ -25,11 +26,12 @@ use Rattle.shape.specs.declared.Try.TheVariants.{Passed, Good, Failed}
 use Rattle.shape.specs.Shape.{head_or0, adjacent, UnitInfo, unit_of, entry_of, failures, boundaries}
 use Rattle.shape.proofs.Lengths.{failures_most, boundaries_most}
 use Rattle.groups.proofs.GroupLaws.{in_cells}
-use Rattle.offsets.specs.Table.{unit_in, potential_in, units_in, potentials_in, Listed}
-use Rattle.offsets.specs.Trial.{unit_at, tried_at, Placed, Trial}
-use Rattle.offsets.proofs.TableLaws.{potential_at, listed}
-use Rattle.offsets.proofs.TrialLaws.{head_in, head_at}
-use Rattle.unit_check.specs.Write.{failures_at, list_at, marked_boundary, near_boundaries, Near, Writing}
+use Rattle.offsets.specs.declared.table.CellInfo.{CellInfo}
+use Rattle.offsets.specs.Table.{unit_in, potential_in, units_in, potentials_in}
+use Rattle.offsets.specs.Trial.{unit_at, tried_at, Placed}
+use Rattle.offsets.proofs.TableLaws.{potential_at}
+use Rattle.offsets.proofs.TrialLaws.{head_in}
+use Rattle.unit_check.specs.Write.{failures_at, list_at, marked_boundary, near_boundaries}
 use Rattle.unit_check.proofs.RestLaws.{Left, left_all, left_room, left_on, left_end}
 
 -- A LANDING
@@ -51,37 +53,33 @@ not_noted (Failed e) xs len k = absurd (k e refl)
 
 -- ALL LANDINGS
 
-module _ {g : Grid} {states table marks cs : List ℕ} (p : Placed g states table marks cs) where
-  pub trial : {to : ℕ} → Cell g to → Trial g states table marks cs to
-  trial h = record { placed = p; to_cell = h }
-
-module _ (g : Grid) (states table cs : List ℕ) where
+module _ (g : Grid) (states : List ℕ) (table : List CellInfo) (cs : List ℕ) where
   abbrev entry_at : ℕ → List ℕ
   entry_at t = entry_of (tried_at g states table cs t)
 
   -- the landings before `to` are written
   abbrev pub Landing : List ℕ → List ℕ → ℕ → ℕ → Type 0
-  Landing b₀ b at to = (to ≤ cells g) × Left entry_at (cells g) b₀ 0 b at to
+  Landing b₀ b at to = Left entry_at (cells g) b₀ 0 b at to
 
   pub landing_first : (b : List ℕ) → Landing b b 0 0
-  landing_first b = (omega arith, left_all entry_at (cells g) b 0)
+  landing_first b = left_all entry_at (cells g) b 0
 
   module _ {b₀ b : List ℕ} {at to : ℕ} (w : Landing b₀ b at to) where
     module _ (h : to < cells g) {r : Try} (told : r ≡ tried_at g states table cs to) where
       pub landing_room : cells g ≤ length b₀ → at + length (entry_of r) ≤ length b
       unfolding failures
-      landing_room l = rw told (left_room entry_at (cells g) w.1 h (omega (arith, failures_most g states (units_in g table) (potentials_in g table) 0 (unit_at g table cs))))
+      landing_room l = rw told (left_room entry_at (cells g) w h (omega (arith, failures_most g states (units_in g table) (potentials_in g table) 0 (unit_at g table cs))))
 
       pub landing_on : {b' : List ℕ} {at' : ℕ} → Appended b at (entry_of r) b' at' → Landing b₀ b' at' (to + 1)
-      landing_on a = (omega arith, left_on entry_at (cells g) w.1 h (rw told at a))
+      landing_on a = left_on entry_at (cells g) w h (rw told at a)
 
     pub landing_end : cells g ≤ to → Appended b₀ 0 (failures_at g states table cs) b at
     unfolding failures
-    landing_end h = left_end entry_at (cells g) w.1 h
+    landing_end h = left_end entry_at (cells g) w h
 
 -- THE MARKED POTENTIAL UNITS
 
-module _ {g : Grid} {states pids starts flat marks : List ℕ} (w : Near g states pids starts flat marks) {unit : ℕ} (h : unit < length starts) where
+module _ (g : Grid) (states pids marks : List ℕ) (unit : ℕ) where
   pub not_marked : get_or marks unit 0 ≡ 0 → {b : List ℕ} {at : ℕ} → Appended b at (marked_boundary g states pids marks unit) b at
   unfolding marked_boundary
   not_marked z {at = at} = rw z record { place = sym (add-zero at); stored = refl }
@@ -91,14 +89,9 @@ module _ {g : Grid} {states pids starts flat marks : List ℕ} (w : Near g state
     unfolding marked_boundary
     its_list = rw (ne_eqb (get_or marks unit 0) 0 z)
 
-    pub near_listable : {cs : List ℕ} → cs ≡ group_part (cells g) (length starts) starts flat unit → {b : List ℕ} {at : ℕ}
+    pub near_listable : Fits g states → cells g ≤ length pids → {cs : List ℕ} → cs ≡ cells_of g pids unit → {b : List ℕ} {at : ℕ}
         → at + length (marked_boundary g states pids marks unit) ≤ length b → Listable g states pids cs true unit b at
-    near_listable q l =
-        record {
-          lent = record { limits = w.limits; states_long = w.states_long; ids_long = w.turns.ids_long };
-          cells_are = q ∙ (w.turns.between unit h).are;
-          room = rw its_list at l;
-        }
+    near_listable f n q l = record { lent = record { limits = f.limits; states_long = f.borders; ids_long = n }; cells_are = q; room = rw its_list at l }
 
     pub near_appended : {b b' : List ℕ} {at at' : ℕ} → Appended b at (potential_boundary g states pids unit) b' at' → Appended b at (marked_boundary g states pids marks unit) b' at'
     near_appended a = rw its_list a
@@ -120,25 +113,24 @@ pick_not false x = refl
 
 -- THE WHOLE LIST
 
-module _ {g : Grid} {states ids pids starts flat table marks cs : List ℕ} {room : ℕ} (w : Writing g states ids pids starts flat table marks cs room) where
+-- the cells of a unit, its adjacent ones of n potential units marked, and so much room in the buffer
+pub record Writing (g : Grid) (states ids pids : List ℕ) (n : ℕ) (table : List CellInfo) (marks cs : List ℕ) (room : ℕ) : Type 0 where
+  pub placed : Placed g states table marks cs
+  pub units : units_in g table ≡ ids
+  pub potentials : potentials_in g table ≡ pids
+  pub ids_long : cells g ≤ length ids
+  pub marks_long : n ≤ length marks
+  pub enough : 9 * cells g ≤ room
+
+module _ {g : Grid} {states ids pids : List ℕ} {n : ℕ} {table : List CellInfo} {marks cs : List ℕ} {room : ℕ} (w : Writing g states ids pids n table marks cs room) where
   abbrev p : Placed g states table marks cs
   p = w.placed
 
   abbrev u : UnitInfo
   u = unit_at g table cs
 
-  abbrev n : ℕ
-  n = length starts
-
   head : Cell g (head_or0 cs)
   head = (in_cells g (units_in g table) (unit_in table (head_or0 cs)) (head_or0 cs) (rw (← p.cells_are) (head_in cs p.some))).0
-
-  pub first_listed : {f : ℕ} → f ≡ get_or cs 0 0 → Listed table f
-  first_listed e = rw (e ∙ head_at cs) (listed g table p.limits p.table_of (head_or0 cs) head)
-
-  unit_is : {f k : ℕ} → f ≡ get_or cs 0 0 → k ≡ unit_in table f → k ≡ u.number
-  unfolding unit_of
-  unit_is e q = q ∙ ap (unit_in table) (e ∙ head_at cs)
 
   own_is : potential_in table (head_or0 cs) ≡ u.own
   unfolding unit_of
@@ -152,7 +144,7 @@ module _ {g : Grid} {states ids pids starts flat table marks cs : List ℕ} {roo
       let ad : ℕ → Bool = adjacent g states (potentials_in g table) u.own in
       gather_same (λ q. pick (eqb (get_or marks q 0) 0) [] (f q)) (λ q. pick (ad q) (f q) []) (range n)
       (λ q m.
-      let l : q < length marks = omega (arith, in_range n q m, w.near.marks_long) in
+      let l : q < length marks = omega (arith, in_range n q m, w.marks_long) in
       pick_not (eqb (get_or marks q 0) 0) (f q) ∙ ap (λ t. pick t (f q) []) (p.marked q l ∙ ap (λ i. adjacent g states (potentials_in g table) i q) own_is))
       ∙ sym (gather_keep f ad (range n)))
 
@@ -169,11 +161,14 @@ module _ {g : Grid} {states ids pids starts flat table marks cs : List ℕ} {roo
       omega (arith, ap length list_is, length-append a d, length-append a (b ++ c), length-append b c, failures_most g states (units_in g table) (potentials_in g table) 0 u, boundaries_most g states (units_in g table) (potentials_in g table) n u)
 
   module _ {b₀ b₁ : List ℕ} (long : length b₀ ≡ room) {at : ℕ} (landed : Appended b₀ 0 (failures_at g states table cs) b₁ at) where
-    module _ {f k : ℕ} (first_is : f ≡ get_or cs 0 0) (k-is : k ≡ unit_in table f) where
+    module _ {k : ℕ} (k-is : unit_in table (head_or0 cs) ≡ k) where
+      number : k ≡ u.number
+      unfolding unit_of
+      number = sym k-is
+
       pub unit_listable : Listable g states ids cs false k b₁ at
       unit_listable =
-          let e : k ≡ u.number = unit_is first_is k-is in
-          rw e
+          rw number
           (record {
             lent = record { limits = p.limits; states_long = p.states_long; ids_long = w.ids_long };
             cells_are = (unfold unit_of in rw (← w.units) p.cells_are);
@@ -182,7 +177,7 @@ module _ {g : Grid} {states ids pids starts flat table marks cs : List ℕ} {roo
 
       module _ {b₂ : List ℕ} {at₂ : ℕ} (bounded : Appended b₁ at (unit_boundary g states ids k) b₂ at₂) where
         its : Appended b₁ at (unit_boundary g states ids u.number) b₂ at₂
-        its = rw (unit_is first_is k-is) at bounded
+        its = rw number at bounded
 
         pub near_fits : at₂ + length (near_boundaries g states pids marks n) ≤ length b₂
         near_fits = omega (arith, total, its.place, landed.place, appended_long its, appended_long landed, w.enough)

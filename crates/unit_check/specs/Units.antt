@@ -19,3 +19,9 @@ pub record Staged (g : Grid) (states ids starts flat : List ℕ) (room : ℕ) : 
   pub ids_long : length ids ≡ cells g
   pub units : InTurn g ids (length starts) starts flat
   pub enough : 9 * cells g ≤ room
+
+-- the same where the board's borders and its units are known as such
+pub record Checked (g g₁ : Grid) (ids : List ℕ) (room : ℕ) : Type 0 where
+  pub units_of : g₁ ≡ g
+  pub ids_long : length ids ≡ cells g
+  pub enough : 9 * cells g ≤ room

@@ -1,253 +1,131 @@
 // Finding: the first unit that fits nowhere.
-ghost use Rattle.std.specs.Prelude.{◌≡◌, true, false, ◌*◌, ◌<◌, ◌≤◌, length};
+ghost use Rattle.std.specs.Prelude.{◌≡◌, ◌*◌, ◌<◌, ◌≤◌, length};
 ghost use Rattle.grid.specs.Grid.{cells as cells_of};
-ghost use Rattle.offsets.specs.Trial.{Unit};
 ghost use Rattle.adjacency.specs.Adjacency.{Unmarked};
-ghost use Rattle.unit_check.specs.Find.{unit_cells, fits_in, tries_all, AllFit, FirstUnfit, AdjacentTo, Finding, MarkedFor};
+ghost use Rattle.unit_check.specs.Find.{unit_cells, own_of, fits_in, AllFit, MarkedFor, Sought, Unfit};
 
 use crate::soon;
-use grid::Grid;
-use lists::wide;
-use offsets::table;
+use crate::stage::Stage;
+use cell_words::Near;
+use offsets::trial::Trial;
+use offsets::unit::UnitCells;
 
-// Marks the potential units adjacent to the own one of the unit of these cells, and no others, before its offsets begin.
-fn mark_unit<'a>(
-    g: Grid,
-    states: &'a [u8],
-    table: &'a [u16],
-    cells: &'a [u16],
-    nstarts: &'a [usize],
-    near: &'a [u16],
-    marks: &mut [u8],
-)
-    requires unit { Unit g table.now cells.now }
-    requires adjacent_to { AdjacentTo g states.now table.now nstarts.now near.now (length marks.old) }
-    requires unmarked { Unmarked marks.old }
-    ensures { MarkedFor g states.now table.now cells.now marks.new }
-{
-    let own = table::potential(table, wide(cells[0]));
-    adjacency::mark_adjacent(own, nstarts, near, marks);
-}
-
-// Takes these marks away again, before the next unit's are set.
-fn unmark_unit<'a>(
-    g: Grid,
-    states: &'a [u8],
-    table: &'a [u16],
-    cells: &'a [u16],
-    nstarts: &'a [usize],
-    near: &'a [u16],
-    marks: &mut [u8],
-)
-    requires unit { Unit g table.now cells.now }
-    requires adjacent_to { AdjacentTo g states.now table.now nstarts.now near.now (length marks.old) }
-    requires marked_for { MarkedFor g states.now table.now cells.now marks.old }
-    ensures { Unmarked marks.new }
-{
-    let own = table::potential(table, wide(cells[0]));
-    adjacency::unmark_adjacent(own, nstarts, near, marks);
-}
-
-// The first unit from one on that fits at none of the places that are tried soon, for which the marks are left set; as many as there are
-// units, where each fits at one. On a small board it fits nowhere.
-fn find_soon<'a>(
-    g: Grid,
-    states: &'a [u8],
-    table: &'a [u16],
-    starts: &'a [u16],
-    flat: &'a [u16],
-    nstarts: &'a [usize],
-    near: &'a [u16],
-    from: usize,
-    marks: &mut [u8],
-) -> usize
-    requires finding { Finding g states.now table.now starts.now flat.now nstarts.now near.now (length marks.old) }
-    requires unmarked { Unmarked marks.old }
-    requires all_fit { AllFit (fits_in g states.now table.now) (length starts.now) from }
-    ensures all_fit_2 { AllFit (fits_in g states.now table.now) (length starts.now) result }
-    ensures lower_bound { from ≤ result }
-    ensures marked_for { result < length starts.now → MarkedFor g states.now table.now (unit_cells g table.now result) marks.new }
-    ensures result_value { tries_all g ≡ true → result < length starts.now → fits_in g states.now table.now result ≡ false }
-{
-    let count = starts.len();
-    let mut unit = from;
-    while unit < count {
-        let cells = groups::cells_of(g, starts, flat, count, unit);
-        mark_unit(g, states, table, cells, nstarts, near, marks);
-        if !soon::fits_soon(g, states, table, marks, cells) {
-            return unit;
-        }
-        unmark_unit(g, states, table, cells, nstarts, near, marks);
-        unit += 1;
-    }
-    unit
-}
-
-// The first unit from one on that fits nowhere, for which the marks are left set; as many as there are units, where each fits somewhere. The
-// unit to begin with has its marks, and fits at none of the places that are tried soon. There is room for the codes of any unit.
-fn find_from<'a>(
-    g: Grid,
-    states: &'a [u8],
-    table: &'a [u16],
-    starts: &'a [u16],
-    flat: &'a [u16],
-    nstarts: &'a [usize],
-    near: &'a [u16],
-    from: usize,
-    codes: &mut [u16],
-    borders: &mut [u16],
-    marks: &mut [u8],
-) -> usize
-    requires finding { Finding g states.now table.now starts.now flat.now nstarts.now near.now (length marks.old) }
-    requires marked_for { from < length starts.now → MarkedFor g states.now table.now (unit_cells g table.now from) marks.old }
-    requires all_fit { AllFit (fits_in g states.now table.now) (length starts.now) from }
-    requires g_in_bounds { (cells_of g ≤ length codes.old) × (6 * cells_of g ≤ length borders.old) }
-    ensures first_unfit { FirstUnfit (fits_in g states.now table.now) (length starts.now) result }
-    ensures marked_for_2 { result < length starts.now → MarkedFor g states.now table.now (unit_cells g table.now result) marks.new }
-{
-    let mut words = [0u64; 132];
-    border_words::fill(g, states, &mut words);
-    let full = words::full_word(g.width);
-    let mut nearby = [0u64; 32];
-    let mut stamps = [1024usize; 32];
-    let count = starts.len();
-    let mut unit = from;
-    while unit < count {
-        let cells = groups::cells_of(g, starts, flat, count, unit);
-        let fit = row_trials::fits(
-            g,
-            states,
-            table,
-            marks,
+impl<'a> Stage<'a> {
+    // A unit with its marks, to be tried.
+    pub fn trial(self, unit: usize, marks: &'a [u8]) -> Trial<'a>
+        requires unit_exists { unit < length self.units.starts.now }
+        requires marks_long { length self.potentials.starts.now ≤ length marks.now }
+        requires marked { MarkedFor self.chart.borders.grid self.chart.borders.states.now self.chart.table.now unit marks.now }
+        ensures grid_is { result.unit.chart.borders.grid ≡ self.entry.chart.borders.grid }
+        ensures states_are { result.unit.chart.borders.states.now ≡ self.entry.chart.borders.states.now }
+        ensures table_is { result.unit.chart.table.now ≡ self.entry.chart.table.now }
+        ensures cells_are { result.unit.cells.now ≡ unit_cells self.entry.chart.borders.grid self.entry.chart.table.now unit }
+    {
+        let cells = self.units.cells(unit);
+        let unit = UnitCells {
+            chart: self.chart,
             cells,
-            full,
-            &words,
-            codes,
-            borders,
-            &mut nearby,
-            &mut stamps,
-        );
-        if !fit {
-            return unit;
+        };
+        Trial { unit, marks }
+    }
+
+    // The own potential unit of a unit, the one around it.
+    fn own(self, unit: usize) -> usize
+        requires { unit < length self.units.starts.now }
+        ensures { result ≡ own_of self.entry.chart.borders.grid self.entry.chart.table.now unit }
+    {
+        let first = self.units.cells(unit)[0];
+        usize::from(self.chart.table[usize::from(first)].potential)
+    }
+
+    // Marks the potential units adjacent to a unit's own one, and no others, before its offsets begin.
+    fn mark(self, unit: usize, marks: &mut [u8])
+        requires unit_exists { unit < length self.units.starts.now }
+        requires marks_long { length self.potentials.starts.now ≤ length marks.old }
+        requires unmarked { Unmarked marks.old }
+        ensures { MarkedFor self.entry.chart.borders.grid self.entry.chart.borders.states.now self.entry.chart.table.now unit marks.new }
+    {
+        adjacency::mark_adjacent(self.own(unit), self.near_starts, self.near, marks);
+    }
+
+    // Takes these marks away again, before the next unit's are set.
+    fn unmark(self, unit: usize, marks: &mut [u8])
+        requires unit_exists { unit < length self.units.starts.now }
+        requires marks_long { length self.potentials.starts.now ≤ length marks.old }
+        requires marked { MarkedFor self.chart.borders.grid self.chart.borders.states.now self.chart.table.now unit marks.old }
+        ensures { Unmarked marks.new }
+    {
+        adjacency::unmark_adjacent(self.own(unit), self.near_starts, self.near, marks);
+    }
+
+    // The first unit from one on that fits at none of the places that are tried soon, for which the marks are left set. On a small board it fits
+    // nowhere.
+    fn find_soon(self, from: usize, marks: &mut [u8]) -> Option<usize>
+        requires marks_long { length self.potentials.starts.now ≤ length marks.old }
+        requires unmarked { Unmarked marks.old }
+        requires all_fit { AllFit (fits_in self.chart.borders.grid self.chart.borders.states.now self.chart.table.now) (length self.units.starts.now) from }
+        ensures { Sought self.entry.chart.borders.grid self.entry.chart.borders.states.now self.entry.chart.table.now (length self.entry.units.starts.now) from marks.new result }
+    {
+        for unit in from..self.units.len() {
+            self.mark(unit, marks);
+            if !soon::fits_soon(self.trial(unit, marks)) {
+                return Some(unit);
+            }
+            self.unmark(unit, marks);
         }
-        unmark_unit(g, states, table, cells, nstarts, near, marks);
-        unit = find_soon(
-            g,
-            states,
-            table,
-            starts,
-            flat,
-            nstarts,
-            near,
-            unit + 1,
-            marks,
-        );
+        None
     }
-    unit
-}
 
-// The units of a board of at most 64 cells from one on, in short arrays, since all of an array is zeroed.
-fn find_small<'a>(
-    g: Grid,
-    states: &'a [u8],
-    table: &'a [u16],
-    starts: &'a [u16],
-    flat: &'a [u16],
-    nstarts: &'a [usize],
-    near: &'a [u16],
-    from: usize,
-    marks: &mut [u8],
-) -> usize
-    requires finding { Finding g states.now table.now starts.now flat.now nstarts.now near.now (length marks.old) }
-    requires marked_for { from < length starts.now → MarkedFor g states.now table.now (unit_cells g table.now from) marks.old }
-    requires all_fit { AllFit (fits_in g states.now table.now) (length starts.now) from }
-    requires g_bound { cells_of g ≤ 64 }
-    ensures first_unfit { FirstUnfit (fits_in g states.now table.now) (length starts.now) result }
-    ensures marked_for_2 { result < length starts.now → MarkedFor g states.now table.now (unit_cells g table.now result) marks.new }
-{
-    let mut codes = [0u16; 64];
-    let mut borders = [0u16; 384];
-    find_from(
-        g,
-        states,
-        table,
-        starts,
-        flat,
-        nstarts,
-        near,
-        from,
-        &mut codes,
-        &mut borders,
-        marks,
-    )
-}
+    // The first unit from one on that fits nowhere, for which the marks are left set. The unit to begin with has its marks, and fits at none of
+    // the places that are tried soon. The arrays of codes have room for those of any unit.
+    fn find_by_words<const CELLS: usize, const BORDERS: usize>(
+        self,
+        from: usize,
+        marks: &mut [u8],
+    ) -> Option<usize>
+        requires marks_long { length self.potentials.starts.now ≤ length marks.old }
+        requires room { (cells_of self.chart.borders.grid ≤ CELLS) × (6 * cells_of self.chart.borders.grid ≤ BORDERS) }
+        requires arrays_small { (CELLS ≤ 1024) × (BORDERS ≤ 6144) }
+        requires from_exists { from < length self.units.starts.now }
+        requires all_fit { AllFit (fits_in self.chart.borders.grid self.chart.borders.states.now self.chart.table.now) (length self.units.starts.now) from }
+        requires marked { MarkedFor self.chart.borders.grid self.chart.borders.states.now self.chart.table.now from marks.old }
+        ensures { Unfit self.entry.chart.borders.grid self.entry.chart.borders.states.now self.entry.chart.table.now (length self.entry.units.starts.now) marks.new result }
+    {
+        let mut words = [0; 132];
+        border_words::fill(self.chart.borders, &mut words);
+        let full = words::full_word(self.chart.borders.grid.width);
+        let mut near = Near::unmade();
+        let mut codes = [0; CELLS];
+        let mut borders = [0; BORDERS];
+        let mut next = Some(from);
+        while let Some(unit) = next {
+            let trial = self.trial(unit, marks);
+            if !row_trials::fits(trial, full, &words, &mut codes, &mut borders, &mut near) {
+                return next;
+            }
+            self.unmark(unit, marks);
+            next = self.find_soon(unit + 1, marks);
+        }
+        None
+    }
 
-// The units of any board from one on.
-fn find_large<'a>(
-    g: Grid,
-    states: &'a [u8],
-    table: &'a [u16],
-    starts: &'a [u16],
-    flat: &'a [u16],
-    nstarts: &'a [usize],
-    near: &'a [u16],
-    from: usize,
-    marks: &mut [u8],
-) -> usize
-    requires finding { Finding g states.now table.now starts.now flat.now nstarts.now near.now (length marks.old) }
-    requires marked_for { from < length starts.now → MarkedFor g states.now table.now (unit_cells g table.now from) marks.old }
-    requires all_fit { AllFit (fits_in g states.now table.now) (length starts.now) from }
-    ensures first_unfit { FirstUnfit (fits_in g states.now table.now) (length starts.now) result }
-    ensures marked_for_2 { result < length starts.now → MarkedFor g states.now table.now (unit_cells g table.now result) marks.new }
-{
-    let mut codes = [0u16; limits::CELLS];
-    let mut borders = [0u16; 6144];
-    find_from(
-        g,
-        states,
-        table,
-        starts,
-        flat,
-        nstarts,
-        near,
-        from,
-        &mut codes,
-        &mut borders,
-        marks,
-    )
-}
-
-// The first unit that fits nowhere, for which the marks are left set; as many as there are units, where each fits somewhere. A unit that is
-// the whole board fits nowhere. Words are made only once a unit fits at none of the offsets that are tried soon.
-pub fn find<'a>(
-    g: Grid,
-    states: &'a [u8],
-    table: &'a [u16],
-    starts: &'a [u16],
-    flat: &'a [u16],
-    nstarts: &'a [usize],
-    near: &'a [u16],
-    marks: &mut [u8],
-) -> usize
-    requires finding { Finding g states.now table.now starts.now flat.now nstarts.now near.now (length marks.old) }
-    requires unmarked { Unmarked marks.old }
-    ensures first_unfit { FirstUnfit (fits_in g states.now table.now) (length starts.now) result }
-    ensures marked_for { result < length starts.now → MarkedFor g states.now table.now (unit_cells g table.now result) marks.new }
-{
-    if starts.len() == 1 {
-        let cells = groups::cells_of(g, starts, flat, starts.len(), 0);
-        mark_unit(g, states, table, cells, nstarts, near, marks);
-        return 0;
+    // The first unit that fits nowhere, for which the marks are left set. A unit that is the whole board fits nowhere. Words are made only once a
+    // unit fits at none of the offsets that are tried soon.
+    pub fn find<const CELLS: usize, const BORDERS: usize>(self, marks: &mut [u8]) -> Option<usize>
+        requires marks_long { length self.potentials.starts.now ≤ length marks.old }
+        requires room { (cells_of self.chart.borders.grid ≤ CELLS) × (6 * cells_of self.chart.borders.grid ≤ BORDERS) }
+        requires arrays_small { (CELLS ≤ 1024) × (BORDERS ≤ 6144) }
+        requires unmarked { Unmarked marks.old }
+        ensures { Unfit self.entry.chart.borders.grid self.entry.chart.borders.states.now self.entry.chart.table.now (length self.entry.units.starts.now) marks.new result }
+    {
+        if self.units.len() == 1 {
+            self.mark(0, marks);
+            return Some(0);
+        }
+        let unit = self.find_soon(0, marks)?;
+        if soon::tries_all(self.chart.borders.grid) {
+            return Some(unit);
+        }
+        self.find_by_words::<CELLS, BORDERS>(unit, marks)
     }
-    let unit = find_soon(g, states, table, starts, flat, nstarts, near, 0, marks);
-    if unit == starts.len() {
-        return unit;
-    }
-    if soon::tries_all(g) {
-        return unit;
-    }
-    if g.height * g.width <= 64 {
-        return find_small(g, states, table, starts, flat, nstarts, near, unit, marks);
-    }
-    find_large(g, states, table, starts, flat, nstarts, near, unit, marks)
 }

@@ -1,107 +1,88 @@
 // The second stage of the shape check: the first unit that fits nowhere is found, and then its list is written.
 #![tactic(auto)]
 
-ghost use Rattle.std.specs.Prelude.{true, ◌*◌, ◌≤◌, length};
-ghost use Rattle.answers.specs.Answers.{Told};
-ghost use Rattle.unit_check.specs.Units.{unit_stage, Staged};
+ghost use Rattle.std.specs.Prelude.{◌+◌, ◌*◌, ◌≤◌, length};
+ghost use Rattle.grid.specs.Grid.{cells as cells_of};
+ghost use Rattle.answers.specs.Answers.{Told, Finds};
+ghost use Rattle.unit_check.specs.Units.{unit_stage, Staged, Checked};
 
 use answers::Found;
+use borders::Borders;
 use grid::Grid;
+use groups::Groups;
+use limits::CELLS;
+use offsets::chart::Chart;
+use offsets::table;
+use stage::Stage;
 
 mod find;
 mod soon;
+mod stage;
 mod write;
 
-// The units of a board of at most 64 cells, in short arrays, since all of an array is zeroed.
-fn check_small<'a>(
-    g: Grid,
-    states: &'a [u8],
-    ids: &'a [u16],
-    starts: &'a [u16],
-    flat: &'a [u16],
+// The units of a board of at most so many cells, in arrays that are no longer than that asks, since all of an array is zeroed.
+fn check_in<'a, const CELLS: usize, const STARTS: usize, const NEAR: usize, const BORDERS: usize>(
+    borders: Borders<'a>,
+    units: Groups<'a>,
     buffer: &mut [u16],
-) -> Found
-    requires staged { Staged g states.now ids.now starts.now flat.now (length buffer.old) }
-    requires width_bound { g.height * g.width ≤ 64 }
-    ensures { Told (unit_stage g states.now ids.now (length starts.now)) buffer.old buffer.new result }
+) -> Option<usize>
+    requires checked { Checked borders.grid units.grid units.ids.now (length buffer.old) }
+    requires room { (cells_of borders.grid ≤ CELLS) × (cells_of borders.grid + 1 ≤ STARTS) × (4 * cells_of borders.grid ≤ NEAR) × (6 * cells_of borders.grid ≤ BORDERS) }
+    requires arrays_small { (CELLS ≤ 1024) × (STARTS ≤ 1025) × (NEAR ≤ 4096) × (BORDERS ≤ 6144) }
+    ensures { Finds (unit_stage borders.entry.grid borders.entry.states.now units.entry.ids.now (length units.entry.starts.now)) buffer.old buffer.new result }
 {
-    let n = g.height * g.width;
-    let mut pids = [0u16; 64];
-    let mut pstarts = [0u16; 64];
-    let mut pflat = [0u16; 64];
-    let count = groups::groups_of(g, states, true, &mut pids, &mut pstarts, &mut pflat);
-    let pids = &pids[..n];
-    let pstarts = &pstarts[..count];
-    let mut table = [0u16; 256];
-    offsets::table::fill(g, ids, pids, &mut table);
-    let mut marks = [0u8; 64];
-    let mut nstarts = [0usize; 65];
-    let mut near = [0u16; 256];
+    let grid = borders.grid;
+    let mut ids = [0; CELLS];
+    let mut starts = [0; CELLS];
+    let mut flat = [0; CELLS];
+    let count = groups::group_cells(borders, true, &mut ids, &mut starts, &mut flat);
+    let potentials = Groups {
+        grid,
+        ids: &ids[..grid.cell_count()],
+        starts: &starts[..count],
+        flat: &flat,
+    };
+    let mut table = [table::BLANK; CELLS];
+    table::fill(grid, units.ids, potentials.ids, &mut table);
+    let mut marks = [0; CELLS];
+    let mut near_starts = [0; STARTS];
+    let mut near = [0; NEAR];
     adjacency::list_adjacent(
-        g,
-        states,
-        pids,
-        pstarts,
-        &pflat,
+        grid,
+        borders.states,
+        potentials.ids,
+        potentials.starts,
+        potentials.flat,
         &mut marks,
-        &mut nstarts,
+        &mut near_starts,
         &mut near,
     );
-    let unit = find::find(g, states, &table, starts, flat, &nstarts, &near, &mut marks);
-    if unit == starts.len() {
-        return Found::Nothing;
-    }
-    let cells = groups::cells_of(g, starts, flat, starts.len(), unit);
-    Found::Fault(write::write_list(
-        g, states, ids, pids, pstarts, &pflat, &table, &marks, cells, buffer,
-    ))
+    let stage = Stage {
+        chart: Chart {
+            borders,
+            table: &table,
+        },
+        units,
+        potentials,
+        near_starts: &near_starts,
+        near: &near,
+    };
+    let unit = stage.find::<CELLS, BORDERS>(&mut marks)?;
+    Some(stage.write_list(unit, &marks, buffer))
 }
 
-// The units of any board.
-fn check_large<'a>(
-    g: Grid,
-    states: &'a [u8],
-    ids: &'a [u16],
-    starts: &'a [u16],
-    flat: &'a [u16],
-    buffer: &mut [u16],
-) -> Found
-    requires { Staged g states.now ids.now starts.now flat.now (length buffer.old) }
-    ensures { Told (unit_stage g states.now ids.now (length starts.now)) buffer.old buffer.new result }
+// The units of a board: how long the list is of the first that fits nowhere, if there is one.
+pub fn check<'a>(borders: Borders<'a>, units: Groups<'a>, buffer: &mut [u16]) -> Option<usize>
+    requires { Checked borders.grid units.grid units.ids.now (length buffer.old) }
+    ensures { Finds (unit_stage borders.entry.grid borders.entry.states.now units.entry.ids.now (length units.entry.starts.now)) buffer.old buffer.new result }
 {
-    let n = g.height * g.width;
-    let mut pids = [0u16; limits::CELLS];
-    let mut pstarts = [0u16; limits::CELLS];
-    let mut pflat = [0u16; limits::CELLS];
-    let count = groups::groups_of(g, states, true, &mut pids, &mut pstarts, &mut pflat);
-    let pids = &pids[..n];
-    let pstarts = &pstarts[..count];
-    let mut table = [0u16; 4096];
-    offsets::table::fill(g, ids, pids, &mut table);
-    let mut marks = [0u8; limits::CELLS];
-    let mut nstarts = [0usize; 1025];
-    let mut near = [0u16; 4096];
-    adjacency::list_adjacent(
-        g,
-        states,
-        pids,
-        pstarts,
-        &pflat,
-        &mut marks,
-        &mut nstarts,
-        &mut near,
-    );
-    let unit = find::find(g, states, &table, starts, flat, &nstarts, &near, &mut marks);
-    if unit == starts.len() {
-        return Found::Nothing;
+    if borders.grid.cell_count() <= 64 {
+        return check_in::<64, 65, 256, 384>(borders, units, buffer);
     }
-    let cells = groups::cells_of(g, starts, flat, starts.len(), unit);
-    Found::Fault(write::write_list(
-        g, states, ids, pids, pstarts, &pflat, &table, &marks, cells, buffer,
-    ))
+    check_in::<CELLS, 1025, 4096, 6144>(borders, units, buffer)
 }
 
-// The units of a board: `ids` has each cell's, `starts` where each one's cells begin in `flat`.
+// For callers that still hand in slices. The units of a board: `ids` has each cell's, `starts` where each one's cells begin in `flat`.
 pub fn check_units<'a>(
     g: Grid,
     states: &'a [u8],
@@ -113,8 +94,15 @@ pub fn check_units<'a>(
     requires { Staged g states.now ids.now starts.now flat.now (length buffer.old) }
     ensures { Told (unit_stage g states.now ids.now (length starts.now)) buffer.old buffer.new result }
 {
-    if g.height * g.width <= 64 {
-        return check_small(g, states, ids, starts, flat, buffer);
+    let borders = Borders { grid: g, states };
+    let units = Groups {
+        grid: g,
+        ids,
+        starts,
+        flat,
+    };
+    match check(borders, units, buffer) {
+        Some(len) => Found::Fault(len),
+        None => Found::Nothing,
     }
-    check_large(g, states, ids, starts, flat, buffer)
 }

@@ -1,10 +1,6 @@
 -- `unit_check::soon::fits_soon` meets its contract: the loop's invariant is `Tried`. Assumes nothing.
-use Prim.Native.Nat.{◌-◌}
 use Rattle.unit_check.proofs.SoonLaws.{Tried}
 use Rattle.unit_check.proofs.soon.fits_soon.Given as goal
 
 abbrev pub invariant-loop-i : goal.invariant-loop-i
-invariant-loop-i l = Tried l.g l.states l.table l.cells l.beside l.end l.i
-
-abbrev pub decreases-loop-i : goal.decreases-loop-i
-decreases-loop-i l = l.end - l.i
+invariant-loop-i l = let u = l.trial.unit in Tried u.chart.borders.grid u.chart.borders.states.now u.chart.table.now u.cells.now l.beside l.i-end l.i

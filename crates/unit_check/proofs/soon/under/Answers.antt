@@ -1,28 +1,22 @@
 -- `unit_check::soon::under` meets its contract: the table has the cells' rows and columns, and no product is too large. Assumes nothing.
 use native.Mathlib.Omega.{arith}
-use native.Mathlib.Nat.{mul-le-mul, le_refl}
+use native.Mathlib.Nat.{le_refl}
 use mathlib.Core.Path.{refl}
-use Prim.Native.Nat.{◌*◌, ◌+◌, ◌≤◌}
-use Rattle.cell_words.proofs.OwnLaws.{own_listed, own_row, own_col}
+use Rattle.cell_words.proofs.OwnLaws.{own_cell, own_row}
+use Rattle.unit_check.proofs.SoonLaws.{under_small}
 use Rattle.unit_check.proofs.soon.under.Goals as goal
 
-pub row-requires : goal.row-requires
-row-requires c = own_listed c.requires (omega (arith, c.requires.some)) c.wide-last.ensures
+pub bounds-unit-from : goal.bounds-unit-from
+bounds-unit-from c = let u = c.args.unit in omega (arith, own_cell u.unit u.unit.some c.from.ensures, u.chart.table_of.long)
+
+pub bounds-unit-from-2 : goal.bounds-unit-from-2
+bounds-unit-from-2 c = let u = c.args.unit in omega (arith, own_cell u.unit (omega (arith, u.unit.some)) c.from-2.ensures, u.chart.table_of.long)
 
 pub overflow_add-result : goal.overflow_add-result
-overflow_add-result c = omega (arith, (own_row c.requires (omega (arith, c.requires.some)) c.wide-last.ensures c.row.ensures (le_refl _) refl).0)
+overflow_add-result c = omega (arith, (own_row c.args.unit.unit (omega (arith, c.args.unit.unit.some)) c.from-2.ensures c.from-3.ensures (le_refl c.args.unit.chart.borders.grid.height) refl).0)
 
 pub overflow_mul-result : goal.overflow_mul-result
-overflow_mul-result c =
-    let product : (c.row.result + 1) * c.args.g.width ≤ 1056 = let r = own_row c.requires (omega (arith, c.requires.some)) c.wide-last.ensures c.row.ensures (le_refl _) refl in
-    omega (arith, mul-le-mul (let k : c.row.result + 1 ≤ 33 = omega (arith, r.0) in k) c.requires.limits.width_fits) in
-    omega (arith, product)
-
-pub col-requires : goal.col-requires
-col-requires c = own_listed c.requires c.requires.some c.wide-first.ensures
+overflow_mul-result c = omega (arith, (under_small c.args.unit.unit c.from.ensures c.from-2.ensures c.from-3.ensures refl).1)
 
 pub overflow_add-result-2 : goal.overflow_add-result-2
-overflow_add-result-2 c =
-    let product : (c.row.result + 1) * c.args.g.width ≤ 1056 = let r = own_row c.requires (omega (arith, c.requires.some)) c.wide-last.ensures c.row.ensures (le_refl _) refl in
-    omega (arith, mul-le-mul (let k : c.row.result + 1 ≤ 33 = omega (arith, r.0) in k) c.requires.limits.width_fits) in
-    omega (arith, product, own_col c.requires c.requires.some c.wide-first.ensures c.col.ensures)
+overflow_add-result-2 c = let s = under_small c.args.unit.unit c.from.ensures c.from-2.ensures c.from-3.ensures c.from-4.ensures in omega (arith, s.1, s.2)

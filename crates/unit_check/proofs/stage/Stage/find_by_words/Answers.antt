@@ -1,0 +1,93 @@
+-- `unit_check::stage::Stage::find_by_words` meets its contract: each unit so far fits somewhere, the next one has its marks, and the stamps hold. Assumes nothing.
+use mathlib.Core.Path.{◌≡◌, sym, ◌∙◌}
+use native.Mathlib.Omega.{arith}
+use lib.ListN.{length-replicate}
+use Rattle.grid.proofs.Geometry.{cells_le}
+use Rattle.cell_words.proofs.OwnLaws.{get_d_zeros}
+use Rattle.offsets.specs.Trial.{fits_at}
+use Rattle.unit_check.specs.Find.{unit_cells}
+use Rattle.unit_check.proofs.FindLaws.{units_turn, fit_on, fit_there, fits_is, pending_first, pending_next, unfit_none, unfit_some, still_less}
+use Rattle.unit_check.proofs.RoomLaws.{asking}
+use Rattle.unit_check.proofs.stage.Stage.find_by_words.Goals as goal
+
+pub fill-requires-clause-unfilled : goal.fill-requires-clause-unfilled
+fill-requires-clause-unfilled g c = get_d_zeros 132
+
+pub loop-next-init : goal.loop-next-init
+loop-next-init g c =
+    record {
+      pending = pending_first c.requires.from_exists c.requires.all_fit c.requires.marked;
+      stamped = c.unmade-near.ensures _ _ _ c.args.self.chart.borders.fits.limits.height_fits;
+      codes_long = length-replicate _ _;
+      borders_long = length-replicate _ _;
+    }
+
+pub trial-trial-requires-clause-unit_exists : goal.trial-trial-requires-clause-unit_exists
+trial-trial-requires-clause-unit_exists g c = c.loop-next.invariant.pending.some _ c.in-Some.is
+
+pub trial-trial-requires-clause-marked : goal.trial-trial-requires-clause-marked
+trial-trial-requires-clause-marked g c = c.loop-next.invariant.pending.marked _ c.in-Some.is
+
+pub fits-requires-clause-asking : goal.fits-requires-clause-asking
+fits-requires-clause-asking g c =
+    let s = c.args.self in
+    let e = c.trial-trial.ensures in
+    let i = c.loop-next.invariant in
+    rw (e.grid_is, e.states_are, e.cells_are)
+    (asking s.chart.borders.grid s.chart.table.now c.in-Some.unit _ _ c.full_word-full.ensures c.fill.ensures c.requires.room i.codes_long i.borders_long)
+
+pub fits-requires-clause-stamped : goal.fits-requires-clause-stamped
+fits-requires-clause-stamped g c = let e = c.trial-trial.ensures in rw (e.grid_is, e.states_are, e.table_is) c.loop-next.invariant.stamped
+
+pub returns-then-not-fits : goal.returns-then-not-fits
+returns-then-not-fits g c =
+    let s = c.args.self in
+    let l = s.chart.borders.fits.limits in
+    let w = units_turn s.finding s.units.turns in
+    let e = c.trial-trial.ensures in
+    let h = c.loop-next.invariant.pending.some _ c.in-Some.is in
+    let v : c.fits.result ≡ fits_at s.chart.borders.grid s.chart.borders.states.now s.chart.table.now (unit_cells s.chart.borders.grid s.chart.table.now c.in-Some.unit) =
+    rw (e.grid_is, e.states_are, e.table_is, e.cells_are) at c.fits.ensures.value in
+    let i = c.loop-next.invariant.pending in
+    unfit_some h (fit_there (i.before _ c.in-Some.is) (λ q. sym (fits_is l s.chart.table_of w h s.chart.borders.states.now) ∙ sym v ∙ c.if-not-fits.true)) (i.marked _ c.in-Some.is)
+
+pub unmark-requires-clause-unit_exists : goal.unmark-requires-clause-unit_exists
+unmark-requires-clause-unit_exists g c = c.loop-next.invariant.pending.some _ c.in-Some.is
+
+pub unmark-requires-clause-marked : goal.unmark-requires-clause-marked
+unmark-requires-clause-marked g c = c.loop-next.invariant.pending.marked _ c.in-Some.is
+
+pub overflow_add-unit : goal.overflow_add-unit
+overflow_add-unit g c =
+    let s = c.args.self in
+    let l = s.chart.borders.fits.limits in
+    let w = units_turn s.finding s.units.turns in
+    omega (arith, c.loop-next.invariant.pending.some _ c.in-Some.is, w.few, cells_le s.chart.borders.grid l)
+
+pub find_soon-next-requires-clause-all_fit : goal.find_soon-next-requires-clause-all_fit
+find_soon-next-requires-clause-all_fit g c =
+    let s = c.args.self in
+    let l = s.chart.borders.fits.limits in
+    let w = units_turn s.finding s.units.turns in
+    let e = c.trial-trial.ensures in
+    let h = c.loop-next.invariant.pending.some _ c.in-Some.is in
+    let v : c.fits.result ≡ fits_at s.chart.borders.grid s.chart.borders.states.now s.chart.table.now (unit_cells s.chart.borders.grid s.chart.table.now c.in-Some.unit) =
+    rw (e.grid_is, e.states_are, e.table_is, e.cells_are) at c.fits.ensures.value in
+    fit_on (c.loop-next.invariant.pending.before _ c.in-Some.is) h (sym (fits_is l s.chart.table_of w h s.chart.borders.states.now) ∙ sym v ∙ c.if-not-fits.false)
+
+pub loop-next-smaller : goal.loop-next-smaller
+loop-next-smaller g c = still_less c.in-Some.is (c.loop-next.invariant.pending.some _ c.in-Some.is) c.find_soon-next.ensures.some
+
+pub loop-next-preserved : goal.loop-next-preserved
+loop-next-preserved g c =
+    let e = c.trial-trial.ensures in
+    let i = c.loop-next.invariant in
+    record {
+      pending = pending_next c.find_soon-next.ensures;
+      stamped = rw (e.grid_is, e.states_are, e.table_is) at c.fits.ensures.held;
+      codes_long = c.fits.auto.codes ∙ i.codes_long;
+      borders_long = c.fits.auto.borders ∙ i.borders_long;
+    }
+
+pub returns : goal.returns
+returns g c = unfit_none (c.loop-next.invariant.pending.none c.in_default.is)
