@@ -2,7 +2,7 @@
 #![tactic(auto)]
 
 // What comes of an offset of a unit: it is passed over, good, or fails at a landing, which gives one entry.
-#[derive(Clone, Copy)]
+#[derive(Clone, Copy, Debug, PartialEq, Eq)]
 pub enum Try {
     Passed,
     Good,
