@@ -2,12 +2,10 @@
 // holds together.
 #![tactic(auto)]
 
-ghost use Rattle.std.specs.Prelude.{◌≡◌, length};
+ghost use Rattle.std.specs.Prelude.{◌≡◌};
 ghost use Rattle.answers.specs.Refusals.{code_of};
-ghost use Rattle.limits.specs.Limits.{most_borders};
 ghost use Rattle.ledger.specs.Ledger.{decisions};
-ghost use Rattle.ledger.specs.Books.{book};
-ghost use Rattle.board.specs.Board.{fresh_board, answer, made, make_of, check_of, board_code, stroke_of, decide_of, undo_of};
+ghost use Rattle.board.specs.Board.{fresh_board, answer, made, make_of, board_code, stroke_of, decide_of, undo_of};
 
 use answers::Refusal;
 use borders::Borders;
@@ -158,20 +156,4 @@ pub fn undo(b: Board) -> Decided
     let mut out = Decided { code: 0, board: b };
     out.code = answers::code_of(out.board.undo());
     out
-}
-
-// Questions 1 and 2 of a board's parts: the number, or 0. For callers that still hand in parts.
-pub fn check_parts<'a>(g: Grid, states: &'a [u8], names: &'a [u16], len: usize) -> u8
-    requires { (length states.now ≡ most_borders) × (length names.now ≡ most_borders) }
-    ensures { result ≡ check_of g (book states.now names.now len) }
-{
-    if !grid::sizes_ok(g) {
-        return 1;
-    }
-    let n = grid::border_count(g);
-    let mut marks = [0u8; limits::BORDERS];
-    if ledger::book_holds(states, names, len, n, &mut marks) {
-        return 0;
-    }
-    2
 }

@@ -17,7 +17,7 @@ use Rattle.lists.proofs.SetsLaws.{sets_out, sets_in}
 use Rattle.ledger.specs.Ledger.{Decision, state_for, state_in, borders}
 use Rattle.ledger.specs.declared.Book.{Book}
 use Rattle.ledger.specs.Books.{zeros, none_given, book_holds, state_all, clear_all}
-use Rattle.ledger.specs.Marks.{given_in, LentBook, Unmarked}
+use Rattle.ledger.specs.Marks.{given_in, Unmarked}
 use Rattle.ledger.specs.Moves.{GivenMarks}
 
 pub zero_at : (e : ℕ) → get_or zeros e 0 ≡ 0
@@ -38,10 +38,6 @@ none_given_lem = fun_ext (λ e. ap (λ x. eqb x 1) (zero_at e))
 
 pub by_marks : (n : ℕ) (b : Book) (t : Bool) → t ≡ book_holds n (given_in zeros) b → book_holds n none_given b ≡ t
 by_marks n b t k = sym (k ∙ rw none_given_lem)
-
-pub lent_book : (n : ℕ) (s l : List ℕ) → n ≤ most_borders → length s ≡ most_borders → length l ≡ most_borders → LentBook n s l zeros
-lent_book n s l h p q =
-    record { states_long = omega arith; names_long = omega arith; marks_long = omega (arith, zeros_length); marks_given = λ e. omega (arith, zero_at e); few = h }
 
 pub no_marks : (n : ℕ) → n ≤ most_borders → GivenMarks n zeros
 no_marks n h = record { marks_long = omega (arith, zeros_length); marks_given = λ e. omega (arith, zero_at e); few = h }

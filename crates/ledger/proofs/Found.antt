@@ -9,7 +9,7 @@ use native.Mathlib.Omega.{arith}
 use borrow.Author.Tests.{eqb-true, eqb-false, eq-eqb, ne_eqb, leb-true, ltb-true, lt-ltb}
 use lib.Dec.{eqb, ltb, leb}
 use lib.ListN.{length, get_or, take, length-map, length-append, get_or-map}
-use lib.Seq.{sets, get_or-take, length-take-le}
+use lib.Seq.{get_or-take, length-take-le}
 use Rattle.limits.specs.Limits.{most_borders}
 use Rattle.lists.specs.Choice.{both, pick}
 use Rattle.lists.specs.Lists.{count}
@@ -19,7 +19,7 @@ use Rattle.lists.proofs.ListLaws.{all_true, true_all, get_d_in}
 use Rattle.lists.proofs.CountLaws.{count_in}
 use Rattle.ledger.specs.declared.Book.{Book}
 use Rattle.ledger.specs.Ledger.{Decision, decision_of, decisions, state_for, state_in, standing, borders, all_exist, stroke_code, holds_of}
-use Rattle.ledger.specs.Books.{book, half, names_of, names_in, state_at, first_starts, book_holds, state_all, placed, start_of}
+use Rattle.ledger.specs.Books.{half, names_in, state_at, first_starts, book_holds, start_of}
 use Rattle.ledger.specs.Marks.{Named}
 use Rattle.ledger.specs.Moves.{Held, HeldBook, Room}
 use Rattle.ledger.proofs.Question.{Question, due_of, due_le, holds_question}
@@ -131,11 +131,6 @@ pub record Placeable (b : Book) (es : List ℕ) : Type 0 where
 
 as_many : (es : List ℕ) → length (decisions es) ≡ length es
 as_many es = length-map es decision_of
-
--- the book that placing leaves, array by array
-pub placed_book : (b : Book) (es s l : List ℕ) → s ≡ state_all b.states (decisions es) → l ≡ sets b.names b.len (names_of (decisions es))
-    → book s l (b.len + length es) ≡ placed b (decisions es)
-placed_book b es s l p q = rw (p, q, as_many es)
 
 -- the last stroke's names are there
 pub record Takeable (b : Book) : Type 0 where

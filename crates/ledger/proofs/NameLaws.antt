@@ -13,7 +13,7 @@ use lib.Seq.{get_or-take}
 use Rattle.lists.specs.Choice.{pick}
 use Rattle.lists.specs.Lists.{In}
 use Rattle.ledger.specs.Ledger.{Decision, whole, borders}
-use Rattle.ledger.specs.Books.{half, starts, first_starts, name_of, names_from, names_of, start_of}
+use Rattle.ledger.specs.Books.{half, starts, name_of, names_from, names_of, start_of}
 use Rattle.ledger.proofs.Standing.{borders_append}
 
 -- STROKES PUT TOGETHER
@@ -54,18 +54,12 @@ half_name e i = omega (arith, mark_le i)
 pub mark_name : (e i : ℕ) → name_of e i % 2 ≡ pick (eqb i 0) 1 0
 mark_name e i = omega (arith, mark_le i)
 
--- a name by its entry, and the first name of a ledger by the test
+-- a name by its entry
 pub name_first : (x i : ℕ) → i ≡ 0 → x - x % 2 + 1 ≡ name_of (half x) i
 name_first x i z = rw z (omega arith)
 
 pub name_next : (x i : ℕ) → i ≢ 0 → x - x % 2 ≡ name_of (half x) i
 name_next x i z = rw (ne_eqb i 0 z) (omega arith)
-
-pub no_names : (l : List ℕ) (len : ℕ) → len ≡ 0 → true ≡ first_starts l len
-no_names l len z = rw z
-
-pub first_by_mark : (l : List ℕ) (len : ℕ) → len ≢ 0 → starts l 0 ≡ first_starts l len
-first_by_mark l len z = rw (ne_eqb len 0 z)
 
 pub names_length : (i : ℕ) (ds : List Decision) → length (names_from i ds) ≡ length ds
 unfolding names_from

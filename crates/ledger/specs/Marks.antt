@@ -10,10 +10,6 @@ use Rattle.ledger.specs.Books.{half}
 abbrev pub given_in : List ℕ → ℕ → Bool
 given_in m e = eqb (get_or m e 0) 1
 
--- the greater of two numbers
-abbrev pub greater_of : ℕ → ℕ → ℕ
-greater_of a b = pick (ltb a b) b a
-
 -- each of the names is a border
 unfoldable pub all_below : ℕ → List ℕ → Bool
 unfolding all
@@ -40,14 +36,6 @@ fit_all n s m = all (λ e. fits_of (get_or s e 0) (get_or m e 0)) (range n)
 pub record Marked (n : ℕ) (m l : List ℕ) (r : Bool) (m' : List ℕ) : Type 0 where
   pub answer : r ≡ new_names n m l
   pub marks : r ≡ true → m' ≡ mark_all m l
-
--- a book's slices are long enough, and the marks are those of given walls
-pub record LentBook (n : ℕ) (s l m : List ℕ) : Type 0 where
-  pub states_long : n ≤ length s
-  pub names_long : n ≤ length l
-  pub marks_long : n ≤ length m
-  pub marks_given : (e : ℕ) → get_or m e 0 ≤ 1
-  pub few : n ≤ most_borders
 
 -- marks of n borders, all free
 pub record Unmarked (n : ℕ) (m : List ℕ) : Type 0 where

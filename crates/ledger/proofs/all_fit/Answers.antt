@@ -1,16 +1,23 @@
 -- `ledger::all_fit` meets its contract: the loop's invariant says what is left to test, beside the worst so far. Assumes nothing.
-use native.Mathlib.Omega.{arith}
-use Rattle.ledger.proofs.Loops.{fits_start, fits_on, fits_end}
+use mathlib.Core.Path.{◌≡◌, refl, ap, ◌∙◌}
+use mathlib.Core.Bool.{Bool, true, false, not}
+use mir.Val.{bool_byte}
+use lib.ListN.{get_or}
+use Rattle.lists.specs.Choice.{pick}
+use Rattle.ledger.specs.Marks.{fits_of}
+use Rattle.ledger.proofs.Loops.{fits_start, fits_end}
+use Rattle.ledger.proofs.Turns.{fits_on}
 use Rattle.ledger.proofs.all_fit.Goals as goal
 
-pub loop-i-init : goal.loop-i-init
-loop-i-init c =
-    (omega arith, fits_start c.args.n c.args.states.now c.args.marks.now)
+misfit : (t : Bool) → bool_byte (not t) ≡ pick t 0 1
+misfit true = refl
+misfit false = refl
 
-pub loop-i-preserved : goal.loop-i-preserved
-loop-i-preserved c =
-    (omega arith, fits_on c.args.n c.args.states.now c.args.marks.now c.loop-i.worst c.loop-i.i c.misfit.result c.greater_byte-worst.result c.loop-i-test.true c.misfit.ensures c.greater_byte-worst.ensures c.loop-i.invariant.1)
+pub loop-e-init : goal.loop-e-init
+loop-e-init c = fits_start c.args.n c.args.states.now c.args.marks.now
+
+pub loop-e-preserved : goal.loop-e-preserved
+loop-e-preserved c = fits_on c.args.n c.args.states.now c.args.marks.now c.loop-e.worst c.loop-e.e c.max-worst.result c.from.result c.loop-e-test.true (c.from.ensures ∙ ap (λ t. bool_byte (not t)) c.fits.ensures ∙ misfit (fits_of (get_or c.args.states.now c.loop-e.e 0) (get_or c.args.marks.now c.loop-e.e 0))) c.max-worst.ensures c.loop-e.invariant
 
 pub returns : goal.returns
-returns c =
-    fits_end c.args.n c.args.states.now c.args.marks.now c.loop-i.worst c.loop-i.i c.loop-i-test.false c.loop-i.invariant.1
+returns c = fits_end c.args.n c.args.states.now c.args.marks.now c.loop-e.worst c.loop-e.e c.loop-e-test.false c.loop-e.invariant

@@ -1,10 +1,6 @@
--- `ledger::mark_names` meets its contract: the loop's invariant is `Walk`, the measure is what is left of the names. Assumes nothing.
-use Prim.Native.Nat.{◌-◌}
-use Rattle.ledger.proofs.Loops.{Walk}
+-- `ledger::mark_names` meets its contract: the loop's invariant is `Walk`. Assumes nothing.
+use Rattle.ledger.proofs.Turns.{Walk}
 use Rattle.ledger.proofs.mark_names.Given as goal
 
-abbrev pub invariant-loop-i : goal.invariant-loop-i
-invariant-loop-i l = Walk l.names l.len l.n l.initial.marks l.marks l.i l.new
-
-abbrev pub decreases-loop-i : goal.decreases-loop-i
-decreases-loop-i l = l.len - l.i
+abbrev pub invariant-loop-name : goal.invariant-loop-name
+invariant-loop-name l = Walk l.names l.n l.initial.marks l.marks l.name-index l.new

@@ -7,6 +7,6 @@ use Rattle.ledger.proofs.none_twice.Goals as goal
 pub returns-then-entries-lt2 : goal.returns-then-entries-lt2
 returns-then-entries-lt2 c = too_short c.args.entries.now c.if-entries-lt2.true
 
-pub each_new-requires : goal.each_new-requires
+pub each_new-requires-clause-unmarked : goal.each_new-requires-clause-unmarked
 unfolding zeros
-each_new-requires c = record { entries_value = c.requires.1; unmarked = unmarked c.args.n c.requires.0 }
+each_new-requires-clause-unmarked c = unmarked c.args.n c.requires.0

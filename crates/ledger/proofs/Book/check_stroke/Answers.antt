@@ -5,17 +5,17 @@ use Rattle.ledger.specs.Books.{state_at}
 use Rattle.ledger.proofs.Codes.{not_there, there_twice, not_free, no_refusal}
 use Rattle.ledger.proofs.Book.check_stroke.Goals as goal
 
-pub returns-then-not-exist : goal.returns-then-not-exist
-returns-then-not-exist c = not_there c.args.n (state_at c.args.self.now.states) (decisions c.args.entries.now) (sym c.exist.ensures ∙ c.if-not-exist.true)
+pub returns-then-not-all_exist : goal.returns-then-not-all_exist
+returns-then-not-all_exist c = not_there c.args.n (state_at c.args.self.now.states) (decisions c.args.entries.now) (sym c.all_exist.ensures ∙ c.if-not-all_exist.true)
 
-pub returns-then-not-once : goal.returns-then-not-once
-returns-then-not-once c =
-    there_twice c.args.n (state_at c.args.self.now.states) (decisions c.args.entries.now) (sym c.exist.ensures ∙ c.if-not-exist.false) (sym c.once.ensures ∙ c.if-not-once.true)
+pub returns-then-not-none_twice : goal.returns-then-not-none_twice
+returns-then-not-none_twice c =
+    there_twice c.args.n (state_at c.args.self.now.states) (decisions c.args.entries.now) (sym c.all_exist.ensures ∙ c.if-not-all_exist.false) (sym c.none_twice.ensures ∙ c.if-not-none_twice.true)
 
-pub returns-then-not-undecided : goal.returns-then-not-undecided
-returns-then-not-undecided c =
-    not_free c.args.n (state_at c.args.self.now.states) (decisions c.args.entries.now) (sym c.exist.ensures ∙ c.if-not-exist.false) (sym c.once.ensures ∙ c.if-not-once.false) (sym c.undecided.ensures ∙ c.if-not-undecided.true)
+pub returns-then-not-all_free : goal.returns-then-not-all_free
+returns-then-not-all_free c =
+    not_free c.args.n (state_at c.args.self.now.states) (decisions c.args.entries.now) (sym c.all_exist.ensures ∙ c.if-not-all_exist.false) (sym c.none_twice.ensures ∙ c.if-not-none_twice.false) (sym c.all_free.ensures ∙ c.if-not-all_free.true)
 
 pub returns : goal.returns
 returns c =
-    no_refusal c.args.n (state_at c.args.self.now.states) (decisions c.args.entries.now) (sym c.exist.ensures ∙ c.if-not-exist.false) (sym c.once.ensures ∙ c.if-not-once.false) (sym c.undecided.ensures ∙ c.if-not-undecided.false)
+    no_refusal c.args.n (state_at c.args.self.now.states) (decisions c.args.entries.now) (sym c.all_exist.ensures ∙ c.if-not-all_exist.false) (sym c.none_twice.ensures ∙ c.if-not-none_twice.false) (sym c.all_free.ensures ∙ c.if-not-all_free.false)

@@ -14,18 +14,18 @@ pub returns-then-not-first_starts : goal.returns-then-not-first_starts
 unfolding book_holds
 returns-then-not-first_starts c = simp (le-leb _ _ c.if-n-self.false, sym c.first_starts.ensures ∙ c.if-not-first_starts.true)
 
-pub returns-then-not-mark_borders : goal.returns-then-not-mark_borders
+pub returns-then-not-mark_names : goal.returns-then-not-mark_names
 unfolding book_holds
-returns-then-not-mark_borders c =
+returns-then-not-mark_names c =
     let b = c.args.self.now in
     let law = holds_by_marks c.args.n b.states c.args.marks.now (names_in b) c.requires.marks_long c.requires.marks_given in
-    let t = c.if-not-mark_borders.true in
-    simp (le-leb _ _ c.if-n-self.false, sym c.first_starts.ensures ∙ c.if-not-first_starts.false, law, sym c.mark_borders.ensures.answer ∙ t)
+    let t = c.if-not-mark_names.true in
+    simp (le-leb _ _ c.if-n-self.false, sym c.first_starts.ensures ∙ c.if-not-first_starts.false, law, sym c.mark_names.ensures.answer ∙ t)
 
 pub returns : goal.returns
 unfolding book_holds
 returns c =
     let b = c.args.self.now in
     let law = holds_by_marks c.args.n b.states c.args.marks.now (names_in b) c.requires.marks_long c.requires.marks_given in
-    let t = c.if-not-mark_borders.false in
-    simp (le-leb _ _ c.if-n-self.false, sym c.first_starts.ensures ∙ c.if-not-first_starts.false, law, sym c.mark_borders.ensures.answer ∙ t) (c.fit_marks.ensures ∙ ap (fit_all c.args.n b.states) (c.mark_borders.ensures.marks t))
+    let t = c.if-not-mark_names.false in
+    simp (le-leb _ _ c.if-n-self.false, sym c.first_starts.ensures ∙ c.if-not-first_starts.false, law, sym c.mark_names.ensures.answer ∙ t) (c.all_fit.ensures ∙ ap (fit_all c.args.n b.states) (c.mark_names.ensures.marks t))
