@@ -45,7 +45,7 @@ impl<'a> Stage<'a> {
         requires unmarked { Unmarked marks.old }
         ensures { MarkedFor self.entry.chart.borders.grid self.entry.chart.borders.states.now self.entry.chart.table.now unit marks.new }
     {
-        adjacency::mark_adjacent(self.own(unit), self.near_starts, self.near, marks);
+        self.near.mark(self.own(unit), marks);
     }
 
     // Takes these marks away again, before the next unit's are set.
@@ -55,7 +55,7 @@ impl<'a> Stage<'a> {
         requires marked { MarkedFor self.chart.borders.grid self.chart.borders.states.now self.chart.table.now unit marks.old }
         ensures { Unmarked marks.new }
     {
-        adjacency::unmark_adjacent(self.own(unit), self.near_starts, self.near, marks);
+        self.near.unmark(self.own(unit), marks);
     }
 
     // The first unit from one on that fits at none of the places that are tried soon, for which the marks are left set. On a small board it fits

@@ -6,6 +6,7 @@ ghost use Rattle.grid.specs.Grid.{cells as cells_of};
 ghost use Rattle.answers.specs.Answers.{Told, Finds};
 ghost use Rattle.unit_check.specs.Units.{unit_stage, Staged, Checked};
 
+use adjacency::{Near, Potentials};
 use answers::Found;
 use borders::Borders;
 use grid::Grid;
@@ -47,16 +48,11 @@ fn check_in<'a, const CELLS: usize, const STARTS: usize, const NEAR: usize, cons
     let mut marks = [0; CELLS];
     let mut near_starts = [0; STARTS];
     let mut near = [0; NEAR];
-    adjacency::list_adjacent(
-        grid,
-        borders.states,
-        potentials.ids,
-        potentials.starts,
-        potentials.flat,
-        &mut marks,
-        &mut near_starts,
-        &mut near,
-    );
+    let around = Potentials {
+        borders,
+        groups: potentials,
+    };
+    around.list_adjacent(&mut marks, &mut near_starts, &mut near);
     let stage = Stage {
         chart: Chart {
             borders,
@@ -64,8 +60,10 @@ fn check_in<'a, const CELLS: usize, const STARTS: usize, const NEAR: usize, cons
         },
         units,
         potentials,
-        near_starts: &near_starts,
-        near: &near,
+        near: Near {
+            starts: &near_starts,
+            list: &near,
+        },
     };
     let unit = stage.find::<CELLS, BORDERS>(&mut marks)?;
     Some(stage.write_list(unit, &marks, buffer))

@@ -2,16 +2,16 @@
 ghost use Rattle.std.specs.Prelude.{length};
 ghost use Rattle.unit_check.specs.Stage.{Finding};
 
+use adjacency::Near;
 use groups::Groups;
 use offsets::chart::Chart;
 
-// A board's units and potential units, with the lists of the adjacent ones of each potential unit: `near_starts` has where they begin in `near`.
+// A board's units and potential units, with the lists of the adjacent ones of each potential unit.
 #[derive(Clone, Copy)]
 pub struct Stage<'a> {
     pub chart: Chart<'a>,
     pub units: Groups<'a>,
     pub potentials: Groups<'a>,
-    pub near_starts: &'a [usize],
-    pub near: &'a [u16],
-    ghost finding: { Finding chart.borders.grid chart.borders.states.now chart.table.now units.grid units.ids.now potentials.grid potentials.ids.now (length potentials.starts.now) near_starts.now near.now },
+    pub near: Near<'a>,
+    ghost finding: { Finding chart.borders.grid chart.borders.states.now chart.table.now units.grid units.ids.now potentials.grid potentials.ids.now (length potentials.starts.now) near.starts.now near.list.now },
 }

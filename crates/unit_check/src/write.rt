@@ -7,7 +7,7 @@ ghost use Rattle.unit_check.specs.Find.{unit_cells, MarkedFor};
 ghost use Rattle.unit_check.specs.Write.{failures_at, near_boundaries, list_at};
 
 use crate::stage::Stage;
-use boundary::Group;
+use boundary::Outline;
 use offsets::trial::Trial;
 use shape::Try;
 
@@ -42,24 +42,17 @@ impl<'a> Stage<'a> {
         requires room { at + length (near_boundaries self.chart.borders.grid self.chart.borders.states.now self.potentials.ids.now marks.now (length self.potentials.starts.now)) ≤ length buffer.old }
         ensures { Appended buffer.old at (near_boundaries self.entry.chart.borders.grid self.entry.chart.borders.states.now self.entry.potentials.ids.now marks.now (length self.entry.potentials.starts.now)) buffer.new result }
     {
-        let borders = self.chart.borders;
         let mut n = at;
         for number in 0..self.potentials.len() {
             if marks[number] != 0 {
-                let of = Group {
-                    grid: borders.grid,
+                let outline = Outline {
+                    borders: self.chart.borders,
+                    ids: self.potentials.ids,
                     potential: true,
                     number,
+                    cells: self.potentials.cells(number),
                 };
-                let cells = self.potentials.cells(number);
-                n = boundary::append_boundary(
-                    of,
-                    borders.states,
-                    self.potentials.ids,
-                    cells,
-                    buffer,
-                    n,
-                );
+                n = outline.append(buffer, n);
             }
         }
         n
@@ -73,15 +66,15 @@ impl<'a> Stage<'a> {
         requires enough { 9 * cells_of self.chart.borders.grid ≤ length buffer.old }
         ensures { Appended buffer.old 0 (list_at self.entry.chart.borders.grid self.entry.chart.borders.states.now self.entry.chart.table.now (length self.entry.potentials.starts.now) (unit_cells self.entry.chart.borders.grid self.entry.chart.table.now unit)) buffer.new result }
     {
-        let borders = self.chart.borders;
-        let cells = self.units.cells(unit);
         let n = write_landings(self.trial(unit, marks), buffer);
-        let of = Group {
-            grid: borders.grid,
+        let outline = Outline {
+            borders: self.chart.borders,
+            ids: self.units.ids,
             potential: false,
             number: unit,
+            cells: self.units.cells(unit),
         };
-        let at = boundary::append_boundary(of, borders.states, self.units.ids, cells, buffer, n);
+        let at = outline.append(buffer, n);
         self.append_near(marks, buffer, at)
     }
 }

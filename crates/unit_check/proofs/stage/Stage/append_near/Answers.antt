@@ -11,15 +11,15 @@ use Rattle.unit_check.proofs.stage.Stage.append_near.Goals as goal
 pub loop-number-init : goal.loop-number-init
 loop-number-init c = left_all _ _ _ _
 
-pub append_boundary-n-requires : goal.append_boundary-n-requires
+pub append-n-requires : goal.append-n-requires
 unfolding near_boundaries
-append_boundary-n-requires c =
+append-n-requires c =
     let s = c.args.self in
     let f = s.finding in
     let h : c.loop-number.number < length s.potentials.starts.now = omega (arith, c.loop-number-test.true, c.len-number-end.ensures) in
-    near_listable s.chart.borders.grid s.chart.borders.states.now s.potentials.ids.now c.args.marks.now c.loop-number.number c.if-marks-number-ne0.true
-    s.chart.borders.fits (rw f.potentials_of at s.potentials.turns).ids_long (rw f.potentials_of at c.cells-cells.ensures)
-    (left_room _ _ c.loop-number.invariant h c.requires.room)
+    (near_listable s.chart.borders.grid s.chart.borders.states.now s.potentials.ids.now c.args.marks.now c.loop-number.number c.if-marks-number-ne0.true
+    s.chart.borders.fits (rw f.potentials_of at s.potentials.turns).ids_long (rw f.potentials_of at c.cells.ensures)
+    (left_room _ _ c.loop-number.invariant h c.requires.room)).room
 
 pub loop-number-preserved : goal.loop-number-preserved
 loop-number-preserved c =
@@ -28,7 +28,7 @@ loop-number-preserved c =
     let h : c.loop-number.number < length s.potentials.starts.now = omega (arith, c.loop-number-test.true, c.len-number-end.ensures) in
     left_on _ _ c.loop-number.invariant h
     (elim c.if-marks-number-ne0.branch [
-      | then-marks-number-ne0 w ↦ rw (w.n-is, w.buffer-is) (near_appended b.grid b.states.now s.potentials.ids.now c.args.marks.now c.loop-number.number w.if-marks-number-ne0.true w.append_boundary-n.ensures)
+      | then-marks-number-ne0 w ↦ rw (w.n-is, w.buffer-is) (near_appended b.grid b.states.now s.potentials.ids.now c.args.marks.now c.loop-number.number w.if-marks-number-ne0.true w.append-n.ensures)
       | else-marks-number-ne0 w ↦ rw (w.n-is, w.buffer-is) (not_marked b.grid b.states.now s.potentials.ids.now c.args.marks.now c.loop-number.number w.if-marks-number-ne0.false)
     ])
 

@@ -2,8 +2,8 @@
 use Rattle.unit_check.proofs.FindLaws.{units_turn, potentials_turn, own_marking, unit_marked}
 use Rattle.unit_check.proofs.stage.Stage.mark.Goals as goal
 
-pub mark_adjacent-requires-clause-marking : goal.mark_adjacent-requires-clause-marking
-mark_adjacent-requires-clause-marking c =
+pub mark-requires-clause-marking : goal.mark-requires-clause-marking
+mark-requires-clause-marking c =
     let s = c.args.self in
     let l = s.chart.borders.fits.limits in
     let w = units_turn s.finding s.units.turns in
@@ -16,4 +16,4 @@ returns c =
     let l = s.chart.borders.fits.limits in
     let w = units_turn s.finding s.units.turns in
     let p = potentials_turn s.finding s.potentials.turns in
-    unit_marked l s.chart.table_of w c.requires.unit_exists p s.finding.lists c.own.ensures c.mark_adjacent.ensures
+    unit_marked l s.chart.table_of w c.requires.unit_exists p s.finding.lists c.own.ensures c.mark.ensures

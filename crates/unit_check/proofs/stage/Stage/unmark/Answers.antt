@@ -2,8 +2,8 @@
 use Rattle.unit_check.proofs.FindLaws.{units_turn, potentials_turn, own_marking, unit_unmarked}
 use Rattle.unit_check.proofs.stage.Stage.unmark.Goals as goal
 
-pub unmark_adjacent-requires : goal.unmark_adjacent-requires
-unmark_adjacent-requires c =
+pub unmark-requires : goal.unmark-requires
+unmark-requires c =
     let s = c.args.self in
     let l = s.chart.borders.fits.limits in
     let w = units_turn s.finding s.units.turns in
@@ -16,4 +16,4 @@ returns c =
     let l = s.chart.borders.fits.limits in
     let w = units_turn s.finding s.units.turns in
     let p = potentials_turn s.finding s.potentials.turns in
-    unit_unmarked l s.chart.table_of w c.requires.unit_exists p s.finding.lists c.own.ensures _ c.requires.marked c.unmark_adjacent.ensures
+    unit_unmarked l s.chart.table_of w c.requires.unit_exists p s.finding.lists c.own.ensures _ c.requires.marked c.unmark.ensures

@@ -6,8 +6,8 @@ use Rattle.unit_check.proofs.FindLaws.{units_turn, potentials_turn, its_cells, i
 use Rattle.unit_check.proofs.WriteLaws.{Writing, unit_listable, near_fits, all_written}
 use Rattle.unit_check.proofs.stage.Stage.write_list.Goals as goal
 
-pub append_boundary-at-requires : goal.append_boundary-at-requires
-append_boundary-at-requires c =
+pub append-at-requires : goal.append-at-requires
+append-at-requires c =
     let s = c.args.self in
     let l = s.chart.borders.fits.limits in
     let w = units_turn s.finding s.units.turns in
@@ -25,7 +25,7 @@ append_boundary-at-requires c =
     let e = c.trial.ensures in
     let a = rw (e.grid_is, e.states_are, e.table_is, e.cells_are) at c.write_landings-n.ensures in
     let m = number l s.chart.table_of w c.requires.unit_exists in
-    rw (its_cells f c.args.unit c.cells-cells.ensures) (unit_listable k refl a m)
+    (unit_listable k refl a m).room
 
 pub append_near-requires-clause-room : goal.append_near-requires-clause-room
 append_near-requires-clause-room c =
@@ -46,7 +46,7 @@ append_near-requires-clause-room c =
     let e = c.trial.ensures in
     let a = rw (e.grid_is, e.states_are, e.table_is, e.cells_are) at c.write_landings-n.ensures in
     let m = number l s.chart.table_of w c.requires.unit_exists in
-    near_fits k refl a m c.append_boundary-at.ensures
+    near_fits k refl a m c.append-at.ensures
 
 pub returns : goal.returns
 returns c =
@@ -67,4 +67,4 @@ returns c =
     let e = c.trial.ensures in
     let a = rw (e.grid_is, e.states_are, e.table_is, e.cells_are) at c.write_landings-n.ensures in
     let m = number l s.chart.table_of w c.requires.unit_exists in
-    all_written k refl a m c.append_boundary-at.ensures c.append_near.ensures
+    all_written k refl a m c.append-at.ensures c.append_near.ensures
