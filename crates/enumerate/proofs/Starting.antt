@@ -38,9 +38,6 @@ use Rattle.enumerate.specs.Search.{Written, written, Searching, searched, no_ent
 use Rattle.enumerate.proofs.Extensions.{in_extensions, over_long}
 use Rattle.enumerate.proofs.Writing.{all_from}
 use Rattle.enumerate.proofs.Codes.{enough_places}
-use Rattle.answers.specs.declared.Refusal.{Refusal}
-use Rattle.answers.specs.declared.Refusal.TheVariants.{Size, Record, Missing, Decided, NothingToUndo, ShortBuffer, Unsorted, ClueCount, LargeClue, NotJoined, UnsoundFile, ManyUndecided, ZeroSeed, Repeated}
-use Rattle.answers.specs.Refusals.{number_of}
 use Rattle.borders.specs.declared.Borders.{Borders}
 use Rattle.borders.specs.Fits.{Fits}
 
@@ -124,23 +121,6 @@ module _ (p : Puzzle) (r : Ready p) where
 -- what a puzzle's borders tell of its states
 pub told_long : (p : Puzzle) (b : Borders) → b.grid ≡ grid_of p → b.states.now ≡ (book_of p).states → borders_of p ≤ length (book_of p).states
 told_long p b q k = let f : Fits (grid_of p) (book_of p).states = rw (← q, ← k) b.fits in f.borders
-
--- no refusal has the number 0
-pub refusal_ne0 : (e : Refusal) → number_of e ≢ 0
-refusal_ne0 Size = λ q. omega arith
-refusal_ne0 Record = λ q. omega arith
-refusal_ne0 Missing = λ q. omega arith
-refusal_ne0 Decided = λ q. omega arith
-refusal_ne0 NothingToUndo = λ q. omega arith
-refusal_ne0 ShortBuffer = λ q. omega arith
-refusal_ne0 Unsorted = λ q. omega arith
-refusal_ne0 ClueCount = λ q. omega arith
-refusal_ne0 LargeClue = λ q. omega arith
-refusal_ne0 NotJoined = λ q. omega arith
-refusal_ne0 UnsoundFile = λ q. omega arith
-refusal_ne0 ManyUndecided = λ q. omega arith
-refusal_ne0 ZeroSeed = λ q. omega arith
-refusal_ne0 Repeated = λ q. omega arith
 
 -- THE CALL
 refused_by : (code n : ℕ) (boards : List (List ℕ)) (cap : ℕ) (buf : List ℕ) → code ≡ n → n ≢ 0 → (Refused n ≡ (answered code boards cap buf).answer) × (buf ≡ (answered code boards cap buf).buffer)

@@ -16,7 +16,7 @@ use Rattle.lists.specs.Lists.{In, gather}
 use Rattle.lists.proofs.Cases.{le_or_lt}
 use Rattle.lists.proofs.SetsLaws.{sets_append}
 use borrow.Rule.Slice.PartMut.{put_mid}
-use Rattle.lists.proofs.Bridges.{part_sets}
+use Rattle.lists.proofs.SetsLaws.{part_written}
 use Rattle.enumerate.specs.Search.{Written, written, add, add_all, Fits}
 
 pub all_append : (w : Written) (a b : List (List ℕ)) → add_all w (a ++ b) ≡ add_all (add_all w a) b
@@ -45,8 +45,7 @@ place n w f h = go w.tally.count w.tally.cap (length w.boards) h f.long
 pub placed : (w : Written) (b : List ℕ) → Fits (length b) w → w.tally.count < w.tally.cap → (ys : List ℕ) → ys ≡ b
     → put_mid (w.tally.count * length b) (w.tally.count * length b + length b - w.tally.count * length b) w.boards ys ≡ sets w.boards (w.tally.count * length b) b
 placed w b f h ys q =
-    let k : w.tally.count * length b + length b - w.tally.count * length b ≡ length b = omega arith in
-    rw (q, k) (part_sets w.boards b (w.tally.count * length b) (place (length b) w f h))
+    rw q (part_written w.boards b (w.tally.count * length b) _ (omega arith) (place (length b) w f h))
 
 fits_add : (n : ℕ) (w : Written) (b : List ℕ) → Fits n w → Fits n (add w b)
 fits_add n w b f =

@@ -1,6 +1,6 @@
 -- One turn and the end of each loop over a book's names, and over a stroke's entries. Assumes nothing.
 use Prim.Native.Nat.{ℕ, ◌+◌, ◌-◌, ◌*◌, ◌≤◌, ◌<◌}
-use mathlib.Core.Path.{◌≡◌, refl, ap, sym, subst, ◌∙◌}
+use mathlib.Core.Path.{◌≡◌, refl, ap, sym, ◌∙◌}
 use mathlib.Core.Logic.{inl, inr, ⊎_elim}
 use mathlib.Core.Bool.{Bool, true, false}
 use mathlib.Core.List.{List, [], ◌∷◌, map}
@@ -18,7 +18,8 @@ use Rattle.lists.specs.Lists.{In, all, count_from}
 use Rattle.lists.proofs.Cases.{le_or_lt, true_or_false, not_both}
 use Rattle.lists.proofs.ChoiceLaws.{both_true, true_both, same_truth}
 use Rattle.lists.proofs.ListLaws.{all_true, true_all, get_d_in, all_step}
-use Rattle.lists.proofs.Bridges.{part_sets, filled}
+use Rattle.lists.proofs.SetsLaws.{part_written}
+use Rattle.lists.proofs.Bridges.{filled}
 use Rattle.ledger.specs.declared.Book.{Book}
 use Rattle.ledger.specs.Ledger.{Decision, decision_of, decisions}
 use Rattle.ledger.specs.Books.{book, half, names_from, names_of, names_in, state_all, clear_all, placed, taken_from}
@@ -182,5 +183,5 @@ module _ (b : Book) (from : ℕ) (k : Named b.names from b.len) (b' : Book) (i :
       let mid : length (mid_of from (b'.len - from) b'.names) ≡ n = rw (w.same_len, w.same_names) (mid_len from b.len b.names long) in
       let ys_are : ys ≡ replicate n 0 = filled ys n 0 (size ∙ mid) (λ j q. each j 0 (rw mid q) refl) in
       let names : put_mid from n b.names ys ≡ sets b.names from (replicate n 0) =
-      rw ys_are (subst (λ m. put_mid from m b.names (replicate n 0) ≡ sets b.names from (replicate n 0)) zeros (part_sets b.names (replicate n 0) from (omega (arith, zeros)))) in
+      rw ys_are (part_written b.names (replicate n 0) from n (sym zeros) (omega (arith, zeros))) in
       rw (clear_end b.names b.len i k.long b'.states _ w.states h, w.same_names, w.same_len, names)

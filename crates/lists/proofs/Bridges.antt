@@ -22,10 +22,6 @@ any_is p xs r e =
     (λ q. let o = e.0 q in true_any p xs (get_or xs o.0 0) (get_d_in 0 xs o.0 o.1) o.2)
     (λ q. let o = any_true p xs q in let i = in_get_d 0 o.0 xs o.1 in e.1 (i.0, i.1, rw i.2 o.2))
 
--- a part of a slice that is written as a whole, as by `copy_from_slice` or `fill`
-pub part_sets : (l vs : List ℕ) (i : ℕ) → i + length vs ≤ length l → put_mid i (length vs) l vs ≡ sets l i vs
-part_sets l vs i h = put_mid-paste i (length vs) l vs vs (length vs) refl refl refl ∙ rw (take-length vs) (sym (sets-eq vs l i h))
-
 -- what `fill` leaves in a part of n places
 pub filled : (ys : List ℕ) (n v : ℕ) → length ys ≡ n → ((k : ℕ) → k < n → get_or ys k 0 ≡ v) → ys ≡ replicate n v
 filled ys n v size each = ext_get_or 0 ys (replicate n v) (size ∙ sym (length-replicate {A = ℕ} n v)) (λ j q. let l : j < n = rw size at q in each j l ∙ sym (get_or-replicate n j v 0 l))

@@ -2,15 +2,15 @@
 use Prim.Native.Nat.{ℕ, ◌≤◌, ◌<◌}
 use mathlib.Core.Path.{◌≡◌, refl, ap, sym, ◌∙◌}
 use mathlib.Core.Bool.{Bool, true, false}
-use mathlib.Core.List.{List}
+use mathlib.Core.List.{List, ◌++◌}
 use native.Mathlib.Omega.{arith}
 use borrow.Author.Tests.{ne_eqb, eqb-true}
 use lib.Dec.{eqb}
-use lib.ListN.{length, length-replicate}
+use lib.ListN.{length, drop, length-replicate}
 use lib.Seq.{sets}
 use Rattle.lists.specs.Choice.{pick}
 use mathlib.Core.Logic.{◌≢◌}
-use Rattle.lists.proofs.SetsLaws.{front}
+use Rattle.lists.proofs.SetsLaws.{front, front_written}
 use Rattle.grid.specs.declared.Grid.{Grid}
 use Rattle.grid.specs.Grid.{grid, sizes_ok, Limits, border_count}
 use Rattle.grid.proofs.Geometry.{limits, cells_le, border_count_le}
@@ -93,23 +93,23 @@ pub puzzle_is : (g : Grid) (given clues walls counts : List ℕ) (b : Board) →
     → ◌≡◌ {A = Puzzle} (record { board = b; given = walls; given_len = length given; clues = counts; clues_len = length clues }) (fresh_puzzle g given clues)
 puzzle_is g given clues walls counts b p q r = rw (p, q, r)
 
+-- a record of zeros, into whose arrays the lists are written
+pub started : (g : Grid) (given clues : List ℕ) → Below most_borders given → length given ≤ most_borders → length clues ≤ most_cells
+    → (p : Puzzle) → p ≡ zero_puzzle → (s : List ℕ) → s ≡ puts given 2 p.board.book.states → (walls counts : List ℕ) → walls ≡ given → counts ≡ clues
+    → ◌≡◌ {A = Puzzle} (record {
+      board = record { grid = g; book = record { states = s; names = p.board.book.names; len = p.board.book.len } };
+      given = walls ++ drop (length given) p.given;
+      given_len = length given;
+      clues = counts ++ drop (length clues) p.clues;
+      clues_len = length clues;
+    }) (fresh_puzzle g given clues)
+started g given clues w few fit p z s q walls counts wq cq =
+    let marks : s ≡ puts given 2 unmarked = unfold zeros unmarked in (q ∙ ap (λ (p : Puzzle). puts given 2 p.board.book.states) z) in
+    rw (z, wq, cq)
+    (puzzle_is g given clues _ _ _ (board_is g given s w marks) (front_written zeros given (omega (arith, few, zeros_length))) (front_written no_clues clues (omega (arith, fit, no_clues_length))))
+
 module _ (h w : ℕ) (given clues : List ℕ) where
-  pub no_size : (m : Made) → sizes_ok (grid h w) ≡ false → m ≡ answer 1 zero_puzzle → m ≡ make_of h w given clues
-  no_size m q e = e ∙ rw q
-
-  by_code : (n : ℕ) → make_code h w given clues ≡ n → (m : Made) → m ≡ pick (eqb n 0) (answer 0 (fresh_puzzle (grid h w) given clues)) (answer n zero_puzzle) → m ≡ make_of h w given clues
-  by_code n q m e = e ∙ ap (λ k. pick (eqb k 0) (answer 0 (fresh_puzzle (grid h w) given clues)) (answer k zero_puzzle)) (sym q)
-
   module _ (ok : sizes_ok (grid h w) ≡ true) (code : ℕ) (q : code ≡ lists_code (grid h w) given clues) where
-    code_is : make_code h w given clues ≡ code
-    code_is = rw ok (sym q)
-
-    pub not_made : (m : Made) → code ≢ 0 → m ≡ answer code zero_puzzle → m ≡ make_of h w given clues
-    not_made m z e = by_code code code_is m (e ∙ rw (ne_eqb code 0 z))
-
-    pub newly_made : (m : Made) → code ≡ 0 → m ≡ answer 0 (fresh_puzzle (grid h w) given clues) → m ≡ make_of h w given clues
-    newly_made m z e = by_code code code_is m (e ∙ rw z)
-
     pub code_accepted_by : code ≡ 0 → Accepted h w given clues
     code_accepted_by z = record { limits = limits (grid h w) ok; lists = sym q ∙ z; fit = lists_fit (grid h w) given clues (sym q ∙ z) }
 

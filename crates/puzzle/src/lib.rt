@@ -10,7 +10,7 @@ ghost use Rattle.rooms.specs.Lent.{Below, Given, Blank};
 ghost use Rattle.room_checks.specs.RoomChecks.{Finding};
 ghost use Rattle.answers.specs.Refusals.{code_of};
 ghost use Rattle.puzzle.specs.Fault.{fault_of};
-ghost use Rattle.puzzle.specs.Puzzle.{fresh_board, fresh_puzzle, zero_puzzle, answer, make_of, puzzle_code, grid_of, given_of, clues_of, borders_of, book_of, stroke_of, decide_of, undo_of, told, answer_in, writes, ask_of};
+ghost use Rattle.puzzle.specs.Puzzle.{fresh_puzzle, zero_puzzle, answer, make_of, puzzle_code, grid_of, given_of, clues_of, borders_of, book_of, stroke_of, decide_of, undo_of, told, answer_in, writes, ask_of};
 
 use answers::{Found, Refusal};
 use board::Board;
@@ -62,6 +62,44 @@ pub enum Answer {
 }
 
 impl Puzzle {
+    // A record whose every number is 0.
+    fn zero() -> Puzzle
+        ensures { result ≡ zero_puzzle }
+    {
+        Puzzle {
+            board: Board {
+                grid: Grid {
+                    height: 0,
+                    width: 0,
+                },
+                book: Book {
+                    states: [0u8; limits::BORDERS],
+                    names: [0u16; limits::BORDERS],
+                    len: 0,
+                },
+            },
+            given: [0u16; limits::BORDERS],
+            given_len: 0,
+            clues: [0u16; limits::CELLS],
+            clues_len: 0,
+        }
+    }
+
+    // Makes a fresh puzzle of a record of zeros: its given walls are Wall, and nothing else is decided.
+    fn start(&mut self, grid: Grid, given: &[u16], clues: &[u16])
+        requires zeros { self.old ≡ zero_puzzle }
+        requires below { Below most_borders given.now }
+        requires given_len_bound { (length given.now ≤ most_borders) × (length clues.now ≤ most_cells) }
+        ensures { self.new ≡ fresh_puzzle grid given.now clues.now }
+    {
+        self.board.grid = grid;
+        rooms::put(given, 2, &mut self.board.book.states);
+        self.given[..given.len()].copy_from_slice(given);
+        self.given_len = given.len();
+        self.clues[..clues.len()].copy_from_slice(clues);
+        self.clues_len = clues.len();
+    }
+
     // The given walls.
     pub fn given(&self) -> &[u16]
         requires { self.now.given_len ≤ most_borders }
@@ -204,93 +242,27 @@ pub fn fault_of(
     }
 }
 
-// A board with the given walls, and nothing else, decided.
-fn fresh_board(g: Grid, given: &[u16]) -> Board
-    requires { Below most_borders given.now }
-    ensures { result ≡ fresh_board g given.now }
-{
-    let mut states = [0u8; limits::BORDERS];
-    rooms::put(given, 2, &mut states);
-    Board {
-        grid: g,
-        book: Book {
-            states: states,
-            names: [0u16; limits::BORDERS],
-            len: 0,
-        },
-    }
-}
-
-// A fresh puzzle.
-fn fresh<'a>(g: Grid, given: &'a [u16], clues: &'a [u16]) -> Puzzle
-    requires below { Below most_borders given.now }
-    requires given_len_bound { (length given.now ≤ most_borders) × (length clues.now ≤ most_cells) }
-    ensures { result ≡ fresh_puzzle g given.now clues.now }
-{
-    let mut walls = [0u16; limits::BORDERS];
-    lists::copy(given, &mut walls);
-    let mut counts = [0u16; limits::CELLS];
-    lists::copy(clues, &mut counts);
-    let board = fresh_board(g, given);
-    Puzzle {
-        board: board,
-        given: walls,
-        given_len: given.len(),
-        clues: counts,
-        clues_len: clues.len(),
-    }
-}
-
-// A refused making: a record whose every number is 0.
-fn unmade(code: u8) -> Made
-    ensures { result ≡ answer code zero_puzzle }
-{
-    let board = Board {
-        grid: Grid {
-            height: 0,
-            width: 0,
-        },
-        book: Book {
-            states: [0u8; limits::BORDERS],
-            names: [0u16; limits::BORDERS],
-            len: 0,
-        },
-    };
-    Made {
-        code: code,
-        puzzle: Puzzle {
-            board: board,
-            given: [0u16; limits::BORDERS],
-            given_len: 0,
-            clues: [0u16; limits::CELLS],
-            clues_len: 0,
-        },
-    }
-}
-
-// Makes a puzzle of a size, given walls and clues, or refuses them by questions 1, 3, 7, 8 and 9.
-pub fn make<'a>(height: usize, width: usize, given: &'a [u16], clues: &'a [u16]) -> Made
-    ensures { result ≡ make_of height width given.now clues.now }
-{
-    let g = Grid {
-        height: height,
-        width: width,
-    };
-    if !grid::sizes_ok(g) {
-        return unmade(1);
-    }
-    let code = clues::lists_code(g, given, clues);
-    if code != 0 {
-        return unmade(code);
-    }
-    Made {
-        code: 0,
-        puzzle: fresh(g, given, clues),
-    }
-}
-
 // The calls on a record by value. The answer is made first and changed where it stands: the record is copied in and out, and not
 // once more.
+
+// Makes a puzzle of a size, given walls and clues, or refuses them by questions 1, 3, 7, 8 and 9 with a record of zeros.
+pub fn make(height: usize, width: usize, given: &[u16], clues: &[u16]) -> Made
+    ensures { result ≡ make_of height width given.now clues.now }
+{
+    let mut out = Made {
+        code: 1,
+        puzzle: Puzzle::zero(),
+    };
+    let grid = Grid { height, width };
+    if !grid.is_within_limits() {
+        return out;
+    }
+    out.code = clues::lists_code(grid, given, clues);
+    if out.code == 0 {
+        out.puzzle.start(grid, given, clues);
+    }
+    out
+}
 
 // Questions 1 and 2 of a puzzle: their number, or 0.
 pub fn puzzle_code(p: Puzzle) -> u8

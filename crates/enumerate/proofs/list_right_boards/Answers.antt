@@ -1,10 +1,12 @@
 -- `enumerate::list_right_boards` meets its contract: a law of `Starting` for each answer. Assumes nothing.
 use mathlib.Core.Path.{◌≡◌, refl, ap, sym, ◌∙◌}
 use borrow.Author.Rules.{rules}
+use native.Mathlib.Omega.{arith}
 use Rattle.answers.specs.Refusals.{number_of}
+use Rattle.answers.proofs.RefusalLaws.{some_number}
 use Rattle.grid.specs.Grid.{border_count}
 use Rattle.puzzle.proofs.Ready.{ready}
-use Rattle.enumerate.proofs.Starting.{told_long, refusal_ne0, no_places, places, all_listed, cut_fits, cut_long, cut_is, cut_started}
+use Rattle.enumerate.proofs.Starting.{told_long, no_places, places, all_listed, cut_fits, cut_long, cut_is, cut_started}
 use Rattle.enumerate.specs.Boards.{answer_in}
 use Rattle.enumerate.specs.declared.Boards.TheVariants.{Refused}
 use Rattle.enumerate.proofs.list_right_boards.Goals as goal
@@ -27,7 +29,7 @@ returns-in_err-check_places c =
     let long = told_long p c.borders.result c.borders.ensures.grid c.borders.ensures.states in
     let cut = cut_is p (ready p (sym c.in_ok-check.ensures)) long (c.border_count.ensures ∙ ap border_count c.borders.ensures.grid) in
     let said : answer_in c.from_residual-in_err-check_places.result ≡ Refused (number_of c.in_err-check_places.field-0.0) = search rules in
-    let w = no_places p c.args.cap c.args.buffer.now c.in_ok-check.ensures refl cut c.in_err-check_places.ensures (refusal_ne0 c.in_err-check_places.field-0.0) in
+    let w = no_places p c.args.cap c.args.buffer.now c.in_ok-check.ensures refl cut c.in_err-check_places.ensures (λ q. omega (arith, some_number c.in_err-check_places.field-0.0, q)) in
     record { value = said ∙ w.0; buffer_after = w.1 }
 
 pub given-requires : goal.given-requires
