@@ -17,9 +17,7 @@ use Rattle.grid.specs.declared.Grid.{Grid}
 use Rattle.borders.specs.Border.{state_of}
 use Rattle.borders.proofs.Congruence.{first_same}
 use Rattle.shape.specs.Shape.{shape_fault}
-use Rattle.answers.specs.declared.Found.TheVariants as found
-use Rattle.answers.specs.declared.Found as stage
-use Rattle.answers.specs.Answers.{Told, found_of, written, found as outcome}
+use Rattle.answers.specs.Answers.{Finds, length_found, written, found as outcome}
 use Rattle.rooms.specs.Rooms.{is_given, room_count, room_cells, clue_of}
 use Rattle.rooms.specs.RoomGraph.{room_list}
 use Rattle.clues.proofs.ListsCode.{other_default}
@@ -103,25 +101,25 @@ module _ (g : Grid) (given clues states : List ℕ) (one_each : length clues ≡
   unfolding fault_of found_by or_else
   fault_rooms q = rw q (sym rooms_check)
 
-  module _ (buf buf' : List ℕ) (r : stage.Found) (t : Told (shape_fault g states) buf buf' r) where
+  module _ (buf buf' : List ℕ) (r : std.Option ℕ) (t : Finds (shape_fault g states) buf buf' r) where
     -- what a stage told
-    told_fault : (o : Option (List ℕ)) (n : ℕ) → found.Fault n ≡ found_of o → (L : List ℕ) × (o ≡ some L) × (n ≡ length L)
+    told_fault : (o : Option (List ℕ)) (n : ℕ) → std.Some n ≡ length_found o → (L : List ℕ) × (o ≡ some L) × (n ≡ length L)
     told_fault none n q = absurd (let z : ◌≡◌ {A = ℕ} 0 1 = cc in omega arith)
     told_fault (some L) n q = (L, refl, cc)
 
-    told_clear : (o : Option (List ℕ)) → found.Nothing ≡ found_of o → o ≡ none
+    told_clear : (o : Option (List ℕ)) → std.None ≡ length_found o → o ≡ none
     told_clear none q = refl
     told_clear (some L) q = absurd (let z : ◌≡◌ {A = ℕ} 0 1 = cc in omega arith)
 
-    pub shape_fault_lem : (n : ℕ) → r ≡ found.Fault n → (std.Some (record { check = Shape; len = n }) ≡ told (fault_of g given clues states)) × (buf' ≡ writes 0 (fault_of g given clues states) buf)
+    pub shape_fault_lem : (n : ℕ) → r ≡ std.Some n → (std.Some (record { check = Shape; len = n }) ≡ told (fault_of g given clues states)) × (buf' ≡ writes 0 (fault_of g given clues states) buf)
     shape_fault_lem n q =
         let o = told_fault (shape_fault g states) n (sym q ∙ t.answer) in
         is_fault_lem (fault_of g given clues states) (record { check = Shape; list = o.0 }) n buf buf' (fault_shape o.0 o.1) o.2 (t.stored ∙ ap (λ f. written (outcome f) buf) o.1)
 
-    pub shape_clear : r ≡ found.Nothing → buf' ≡ buf
+    pub shape_clear : r ≡ std.None → buf' ≡ buf
     shape_clear q = t.stored ∙ ap (λ f. written (outcome f) buf) (told_clear (shape_fault g states) (sym q ∙ t.answer))
 
-    pub rooms_answer : r ≡ found.Nothing → (x y : Counted) (buf'' : List ℕ) → (x ≡ counted_of (rooms_in g given clues states)) × (buf'' ≡ leaves (rooms_in g given clues states) buf') → x ≡ y
+    pub rooms_answer : r ≡ std.None → (x y : Counted) (buf'' : List ℕ) → (x ≡ counted_of (rooms_in g given clues states)) × (buf'' ≡ leaves (rooms_in g given clues states) buf') → x ≡ y
         → (answer_by y ≡ told (fault_of g given clues states)) × (buf'' ≡ writes 0 (fault_of g given clues states) buf)
     rooms_answer q x y buf'' e k =
         let same = fault_rooms (told_clear (shape_fault g states) (sym q ∙ t.answer)) in

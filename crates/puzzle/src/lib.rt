@@ -12,7 +12,7 @@ ghost use Rattle.answers.specs.Refusals.{code_of};
 ghost use Rattle.puzzle.specs.Fault.{fault_of};
 ghost use Rattle.puzzle.specs.Puzzle.{fresh_puzzle, zero_puzzle, answer, make_of, puzzle_code, grid_of, given_of, clues_of, borders_of, book_of, stroke_of, decide_of, undo_of, told, answer_in, writes, ask_of};
 
-use answers::{Found, Refusal};
+use answers::Refusal;
 use board::Board;
 use borders::Borders;
 use grid::Grid;
@@ -227,7 +227,7 @@ pub fn fault_of(
     ensures value { result ≡ told (fault_of b.entry.grid given.now clues.now b.entry.states.now) }
     ensures buffer_after { buffer.new ≡ writes 0 (fault_of b.entry.grid given.now clues.now b.entry.states.now) buffer.old }
 {
-    if let Found::Fault(len) = shape_check::shape_fault(b.grid, b.states, buffer) {
+    if let Some(len) = shape_check::fault(b, buffer) {
         return Some(Fault {
             check: Check::Shape,
             len,

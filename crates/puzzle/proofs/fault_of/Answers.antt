@@ -3,20 +3,20 @@ use mathlib.Core.Path.{refl, sym, ◌∙◌}
 use Rattle.puzzle.proofs.Finding.{shape_fault_lem, shape_clear, rooms_answer}
 use Rattle.puzzle.proofs.fault_of.Goals as goal
 
-pub returns-in-Fault : goal.returns-in-Fault
-returns-in-Fault c =
+pub returns-in-Some : goal.returns-in-Some
+returns-in-Some c =
     let a = c.args in
-    let w = shape_fault_lem a.b.grid a.given.now a.clues.now a.b.states.now c.requires.one_each a.buffer.now _ c.shape_fault.result c.shape_fault.ensures c.in-Fault.len c.in-Fault.is in
+    let w = shape_fault_lem a.b.grid a.given.now a.clues.now a.b.states.now c.requires.one_each a.buffer.now _ c.fault.result c.fault.ensures c.in-Some.len c.in-Some.is in
     record { value = w.0; buffer_after = w.1 }
 
 pub returns-in-Clear : goal.returns-in-Clear
 returns-in-Clear c =
     let a = c.args in
-    let w = rooms_answer a.b.grid a.given.now a.clues.now a.b.states.now c.requires.one_each a.buffer.now _ c.shape_fault.result c.shape_fault.ensures c.in_default.is c.count_rooms.result _ _ (c.count_rooms.ensures.value, c.count_rooms.ensures.buffer_after) c.in-Clear.is in
+    let w = rooms_answer a.b.grid a.given.now a.clues.now a.b.states.now c.requires.one_each a.buffer.now _ c.fault.result c.fault.ensures c.in_default.is c.count_rooms.result _ _ (c.count_rooms.ensures.value, c.count_rooms.ensures.buffer_after) c.in-Clear.is in
     record { value = w.0; buffer_after = w.1 }
 
-pub returns-in-Fault-count_rooms : goal.returns-in-Fault-count_rooms
-returns-in-Fault-count_rooms c =
+pub returns-in-Fault : goal.returns-in-Fault
+returns-in-Fault c =
     let a = c.args in
-    let w = rooms_answer a.b.grid a.given.now a.clues.now a.b.states.now c.requires.one_each a.buffer.now _ c.shape_fault.result c.shape_fault.ensures c.in_default.is c.count_rooms.result _ _ (c.count_rooms.ensures.value, c.count_rooms.ensures.buffer_after) c.in-Fault-count_rooms.is in
+    let w = rooms_answer a.b.grid a.given.now a.clues.now a.b.states.now c.requires.one_each a.buffer.now _ c.fault.result c.fault.ensures c.in_default.is c.count_rooms.result _ _ (c.count_rooms.ensures.value, c.count_rooms.ensures.buffer_after) c.in-Fault.is in
     record { value = w.0; buffer_after = w.1 }
