@@ -2,32 +2,41 @@
 use Prim.Native.Nat.{ℕ, ◌+◌, ◌≤◌, ◌<◌}
 use mathlib.Core.Path.{◌≡◌, refl, sym, ◌∙◌}
 use mathlib.Core.Logic.{◌≢◌, ⊎_elim}
-use mathlib.Core.Bool.{Bool, true, false}
+use mathlib.Core.Bool.{true, false}
 use mathlib.Core.List.{List}
 use native.Mathlib.Omega.{arith}
-use borrow.Author.Tests.{le-ltb, ne_eqb}
+use borrow.Author.Tests.{le-ltb, lt-ltb, ltb-true, le-leb, ne_eqb}
 use lib.Dec.{ltb}
-use Rattle.lists.specs.Lists.{range}
-use Rattle.lists.proofs.Cases.{le_or_lt}
-use Rattle.lists.proofs.ListLaws.{all_not, range_in}
+use lib.ListN.{get_or, length, take}
+use Rattle.std.proofs.lemmas.List.{get_or-take, length-take-le}
+use Rattle.lists.specs.Lists.{range, all, In}
+use Rattle.lists.proofs.Cases.{le_or_lt, true_or_false}
+use Rattle.lists.proofs.ChoiceLaws.{same_truth}
+use Rattle.lists.proofs.ListLaws.{all_true, true_all, all_not, range_in, in_get_d, get_d_in}
 use Rattle.union_find.specs.Chains.{up, climb, is_root, shortened, parents_exist, chains_end}
 use Rattle.union_find.specs.Requires.{Parents, Stays}
-use Rattle.union_find.specs.UnionFind.{holds_of}
-use Rattle.union_find.proofs.RootLaws.{Root, root_here, root_climb, ends_end, below_exist, holds_good}
+use Rattle.union_find.specs.UnionFind.{holds_of, check_of, vertex_of}
+use Rattle.union_find.specs.declared.UnionFind.{UnionFind}
+use Rattle.union_find.proofs.RootLaws.{Root, root_here, root_climb, ends_end, exist_below, below_exist, holds_good}
 use Rattle.union_find.proofs.ChainLaws.{parents_stay}
 use Rattle.union_find.proofs.KeepLaws.{SameRoots, Below, same_then, shortened_keeps, shortened_below}
 
--- the parents of the vertices before i exist
-pub exist_more : (n : ℕ) (p : List ℕ) (i : ℕ) {v : ℕ} → ((x : ℕ) → x < i → up p x < n) → v ≡ up p i → v < n → (x : ℕ) → x < i + 1 → up p x < n
-exist_more n p i b e h x l =
-    ⊎_elim (λ (k : i ≤ x). let q : x ≡ i = omega arith in rw (q, ← e) h) (λ (k : x < i). b x k) (le_or_lt i x)
-
-pub exist_not : (n : ℕ) (p : List ℕ) (i : ℕ) {v : ℕ} → i < n → v ≡ up p i → n ≤ v → false ≡ parents_exist n p
-unfolding parents_exist
-exist_not n p i h e l = sym (all_not (λ x. ltb (up p x) n) (range n) i (range_in n i h) (le-ltb (up p i) n (rw e at l)))
-
-pub exist_all : (n : ℕ) (p : List ℕ) (i : ℕ) → n ≤ i → ((x : ℕ) → x < i → up p x < n) → true ≡ parents_exist n p
-exist_all n p i l b = sym (below_exist n p (λ x h. b x (omega arith)))
+-- the test of the vertices' parents, in their order
+pub exist_taken : (n : ℕ) (p : List ℕ) → n ≤ length p → all (λ v. ltb v n) (take n p) ≡ parents_exist n p
+exist_taken n p l =
+    let long : length (take n p) ≡ n = length-take-le n p l in
+    same_truth (all (λ v. ltb v n) (take n p)) (parents_exist n p)
+    (λ q.
+    below_exist n p
+    (λ x h.
+    let m : In (get_or (take n p) x 0) (take n p) = get_d_in 0 (take n p) x (omega arith) in
+    rw (get_or-take n p x 0 h) at (ltb-true _ n (all_true (λ v. ltb v n) (take n p) q (get_or (take n p) x 0) m))))
+    (λ q.
+    true_all (λ v. ltb v n) (take n p)
+    (λ v m.
+    let o = in_get_d 0 v (take n p) m in
+    let e : get_or p o.0 0 ≡ v = rw (get_or-take n p o.0 0 (omega (arith, o.1))) at o.2 in
+    lt-ltb v n (rw e at (exist_below n p q o.0 (omega (arith, o.1))))))
 
 -- q, in which the vertices before i were found, has p's roots, and those vertices' chains end
 pub record Looked (n : ℕ) (p q : List ℕ) (i : ℕ) : Type 0 where
@@ -80,13 +89,21 @@ module _ (n : ℕ) (p : List ℕ) (k : Parents n p) where
   pub look_all_lem : (q : List ℕ) (i : ℕ) → Looked n p q i → n ≤ i → true ≡ chains_end n p
   look_all_lem q i w l = sym (ends_end n p (λ x h. w.ends x (omega arith)))
 
--- both halves of the question
-pub holds_first : (n : ℕ) (p : List ℕ) → parents_exist n p ≡ false → false ≡ holds_of n p
-holds_first n p e = rw e
+-- what `check` and `check_vertex` tell: the union holds together, and the vertex exists
+pub check_holds : (u : UnionFind) → 0 ≡ check_of u → (u.n ≤ 1024) × (holds_of u.n u.parent ≡ true)
+check_holds u e =
+    ⊎_elim
+    (λ (l : u.n ≤ 1024).
+    ⊎_elim
+    (λ (t : holds_of u.n u.parent ≡ true). (l, t))
+    (λ (f : holds_of u.n u.parent ≡ false). absurd (omega (arith, simp (le-ltb 1024 u.n l, f) at e)))
+    (true_or_false (holds_of u.n u.parent)))
+    (λ (l : 1024 < u.n). absurd (omega (arith, simp (lt-ltb 1024 u.n l) at e)))
+    (le_or_lt u.n 1024)
 
-pub holds_second : (n : ℕ) (p : List ℕ) {r : Bool} → parents_exist n p ≡ true → r ≡ chains_end n p → r ≡ holds_of n p
-holds_second n p e er = rw e er
+pub check_parents : (u : UnionFind) → 0 ≡ check_of u → Parents u.n u.parent
+check_parents u e = let o = check_holds u e in record { bound = o.0; below = (holds_good u.n u.parent o.1).below }
 
--- what a record that holds together offers
-pub holds_parents : (n : ℕ) (p : List ℕ) → n ≤ 1024 → holds_of n p ≡ true → Parents n p
-holds_parents n p l t = record { bound = l; below = (holds_good n p t).below }
+pub vertex_on : (u : UnionFind) (x : ℕ) → 0 ≡ vertex_of u x → x < u.n
+vertex_on u x e =
+    ⊎_elim (λ (l : u.n ≤ x). omega (arith, simp (le-leb u.n x l) at e)) (λ (l : x < u.n). l) (le_or_lt u.n x)

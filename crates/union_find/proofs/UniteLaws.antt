@@ -9,36 +9,43 @@ use lib.Dec.{eqb}
 use lib.ListN.{set}
 use Rattle.lists.specs.Choice.{pick}
 use Rattle.lists.proofs.Cases.{eq_or_ne}
-use Rattle.union_find.specs.Chains.{up, climb, shortened, united, hung, root_one, root_other, both_shortened}
+use Rattle.union_find.specs.Chains.{up, climb, shortened, united, hung, root_other, both_shortened}
+use Rattle.limits.specs.Limits.{most_cells}
 use Rattle.union_find.specs.Requires.{Parents, Stays}
+use Rattle.union_find.specs.UnionFind.{union_of}
+use Rattle.union_find.specs.declared.UnionFind.{UnionFind}
 use Rattle.union_find.proofs.ChainLaws.{climb_below, parents_stay}
 use Rattle.union_find.proofs.RootLaws.{Root, Good, root_climb, good_root, root_good}
 use Rattle.union_find.proofs.KeepLaws.{Below, set_below, shortened_below, find_good, find_roots, hang_root}
 
--- the two ways through `unite_in`
-module _ (n : ℕ) (p : List ℕ) (x y one other : ℕ) (q s : List ℕ) (e1 : one ≡ climb n p x) (eq : q ≡ shortened n p x) (e2 : other ≡ climb n q y)
-    (es : s ≡ shortened n q y) where
-  to_one : root_one n p x ≡ one
-  to_one = sym e1
+-- once x is found, y's chain stays on the array
+pub other_stays : (u v : UnionFind) → Parents u.n u.parent → (x y : ℕ) → x < u.n → y < u.n → v ≡ union_of (shortened u.n u.parent x) u.n → Stays v.parent y
+other_stays u v k x y hx hy e =
+    rw e (parents_stay u.n (shortened u.n u.parent x) (record { bound = k.bound; below = shortened_below u.n u.n u.parent x k.below hx }) y hy)
 
-  to_other : root_other n p x y ≡ other
-  to_other = rw (← eq) (sym e2)
+-- the ways through `join`: u is left as v once x is found, and as w once y is
+module _ (u v w : UnionFind) (k : Parents u.n u.parent) (x y one other : ℕ) (hx : x < u.n) (hy : y < u.n) (e1 : one ≡ climb u.n u.parent x)
+    (ev : v ≡ union_of (shortened u.n u.parent x) u.n) (e2 : other ≡ climb v.n v.parent y) (ew : w ≡ union_of (shortened v.n v.parent y) v.n) where
+  to_other : root_other u.n u.parent x y ≡ other
+  to_other = sym (rw ev at e2)
 
-  to_both : both_shortened n p x y ≡ s
-  to_both = rw (← eq) (sym es)
+  to_both : w ≡ union_of (both_shortened u.n u.parent x y) u.n
+  to_both = rw ev at ew
 
-  pub unite_none : one ≡ other → (false ≡ united n p x y) × (s ≡ hung n p x y)
+  pub one_on : one < most_cells
+  one_on = rw e1 (parents_stay u.n u.parent k x hx u.n)
+
+  pub other_on : other < most_cells
+  other_on = rw e2 (other_stays u v k x y hx hy ev v.n)
+
+  pub unite_none : one ≡ other → (false ≡ united u.n u.parent x y) × (w ≡ union_of (hung u.n u.parent x y) u.n)
   unfolding united hung
-  unite_none e = simp (to_one, to_other, to_both, eq-eqb one other e) (refl, refl)
+  unite_none e = rw to_both (simp (sym e1, to_other, eq-eqb one other e) (refl, refl))
 
-  pub unite_some : one ≢ other → (true ≡ united n p x y) × (set s one other ≡ hung n p x y)
+  pub unite_some : one ≢ other
+      → (true ≡ united u.n u.parent x y) × (union_of (set w.parent one other) w.n ≡ union_of (hung u.n u.parent x y) u.n)
   unfolding united hung
-  unite_some z = simp (to_one, to_other, to_both, ne_eqb one other z) (refl, refl)
-
-module _ (n : ℕ) (p : List ℕ) (k : Parents n p) (x y : ℕ) (hx : x < n) (hy : y < n) where
-  pub second_stays : (q : List ℕ) → q ≡ shortened n p x → Stays q y
-  second_stays q e =
-      rw e (parents_stay n (shortened n p x) (record { bound = k.bound; below = shortened_below n n p x k.below hx }) y hy)
+  unite_some z = rw to_both (simp (sym e1, to_other, ne_eqb one other z) (refl, refl))
 
 -- UNITE keeps parents good, and x's root is y's from then on: exactly the two parts are one
 module _ (n : ℕ) (p : List ℕ) (g : Good n p) (x y : ℕ) (hx : x < n) (hy : y < n) where

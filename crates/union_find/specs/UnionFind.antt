@@ -1,7 +1,9 @@
 -- The answers of the three calls: SPEC 3's questions in their order, and the record that comes back. Assumes nothing.
-use Rattle.std.specs.Prelude.{ℕ, Bool, false, List, ltb, leb, replicate}
+use Rattle.std.specs.Prelude.{ℕ, Bool, false, List, ltb, leb, replicate, Result, Ok, Err}
 use Rattle.std.proofs.lemmas.List.Edits.{sets}
 use Rattle.limits.specs.Limits.{most_cells}
+use Rattle.answers.specs.declared.Refusal.{Refusal}
+use Rattle.answers.specs.Refusals.{number_of}
 use Rattle.lists.specs.Choice.{both, pick}
 use Rattle.lists.specs.Lists.{range}
 use Rattle.union_find.specs.Chains.{climb, shortened, united, hung, parents_exist, chains_end}
@@ -48,3 +50,23 @@ unite_of u x y =
     (pick (leb u.n y) (not_united 3 u)
     (record { code = 0; united = united u.n u.parent x y; union = union_of (hung u.n u.parent x y) u.n })))
     (not_united 2 u))
+
+-- questions 1 and 2 of a union, and question 3 of a vertex: the number of the question that refuses, or 0
+abbrev pub check_of : UnionFind → ℕ
+check_of u = pick (ltb most_cells u.n) 1 (pick (holds_of u.n u.parent) 0 2)
+
+abbrev pub vertex_of : UnionFind → ℕ → ℕ
+vertex_of u x = pick (leb u.n x) 3 0
+
+-- the record of an answer: what a making, a find or a unite answers, with the union that it leaves
+abbrev pub made_as : Result UnionFind Refusal → Made
+made_as (Ok u) = record { code = 0; union = u }
+made_as (Err e) = record { code = number_of e; union = union_of zeros 0 }
+
+abbrev pub found_as : Result ℕ Refusal → UnionFind → Found
+found_as (Ok r) u = record { code = 0; root = r; union = u }
+found_as (Err e) u = not_found (number_of e) u
+
+abbrev pub united_as : Result Bool Refusal → UnionFind → United
+united_as (Ok b) u = record { code = 0; united = b; union = u }
+united_as (Err e) u = not_united (number_of e) u

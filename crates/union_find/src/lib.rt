@@ -2,16 +2,12 @@
 // vertices are in one part when their chains of parents end at one root.
 #![tactic(auto)]
 
-ghost use Rattle.std.specs.Prelude.{◌≡◌, ◌≤◌, ◌<◌};
-ghost use Rattle.std.proofs.lemmas.List.Edits.{sets};
+ghost use Rattle.std.specs.Prelude.{◌≡◌, ◌≤◌};
 ghost use Rattle.limits.specs.Limits.{most_cells};
-ghost use Rattle.lists.specs.Lists.{range};
-ghost use Rattle.union_find.specs.Chains.{climb, shortened, united, hung, parents_exist, chains_end};
-ghost use Rattle.union_find.specs.Requires.{Stays, Parents};
-ghost use Rattle.union_find.specs.UnionFind.{holds_of, new_of, find_of, unite_of};
+ghost use Rattle.union_find.specs.UnionFind.{new_of, find_of, unite_of};
 
+use answers::Refusal;
 use limits::CELLS;
-use lists::wide;
 
 // The first `n` places of `parent` are the vertices; what stands behind them is no part of the record.
 #[repr(C)]
@@ -21,6 +17,144 @@ pub struct UnionFind {
     pub n: usize,
 }
 
+impl UnionFind {
+    ghost use Rattle.std.specs.Prelude.{◌<◌};
+    ghost use Rattle.std.proofs.lemmas.List.Edits.{sets};
+    ghost use Rattle.lists.specs.Lists.{range};
+    ghost use Rattle.answers.specs.Refusals.{code_of};
+    ghost use Rattle.union_find.specs.Chains.{climb, shortened, united, hung, parents_exist, chains_end};
+    ghost use Rattle.union_find.specs.Requires.{Stays, Parents};
+    ghost use Rattle.union_find.specs.UnionFind.{zeros, union_of, check_of, vertex_of, made_as, found_as, united_as};
+
+    // A union of `n` vertices, each its own parent.
+    pub fn new(n: usize) -> Result<UnionFind, Refusal>
+        ensures { made_as result ≡ new_of n }
+    {
+        if CELLS < n {
+            return Err(Refusal::Size);
+        }
+        Ok(UnionFind::alone(n))
+    }
+
+    // The same of a number of vertices that is known to fit.
+    pub fn alone(n: usize) -> UnionFind
+        requires { n ≤ most_cells }
+        ensures { result ≡ union_of (sets zeros 0 (range n)) n }
+    {
+        let mut union = UnionFind {
+            parent: [0; CELLS],
+            n,
+        };
+        for i in 0..n {
+            union.parent[i] = i as u16;
+        }
+        union
+    }
+
+    // The root of `x`; its chain is shortened.
+    pub fn find(&mut self, x: usize) -> Result<usize, Refusal>
+        ensures { found_as result self.new ≡ find_of self.old x }
+    {
+        self.check()?;
+        self.check_vertex(x)?;
+        Ok(self.climb(x, self.n))
+    }
+
+    // Unites the parts of `x` and `y`, and tells whether they were two.
+    pub fn unite(&mut self, x: usize, y: usize) -> Result<bool, Refusal>
+        ensures { united_as result self.new ≡ unite_of self.old x y }
+    {
+        self.check()?;
+        self.check_vertex(x)?;
+        self.check_vertex(y)?;
+        Ok(self.join(x, y))
+    }
+
+    // The vertex `depth` steps above `x`, which is its root where the chain is no longer; each vertex on the way then names it.
+    fn climb(&mut self, x: usize, depth: usize) -> usize
+        requires { Stays self.old.parent x }
+        ensures value { result ≡ climb depth self.old.parent x }
+        ensures after { self.new ≡ union_of (shortened depth self.old.parent x) self.old.n }
+    {
+        if depth == 0 {
+            return x;
+        }
+        let up = usize::from(self.parent[x]);
+        if up == x {
+            return x;
+        }
+        let root = self.climb(up, depth - 1);
+        self.parent[x] = root as u16;
+        root
+    }
+
+    // What `unite` does to a record that is known to hold together, and to vertices that exist.
+    pub fn join(&mut self, x: usize, y: usize) -> bool
+        requires parents { Parents self.old.n self.old.parent }
+        requires x_lt_n { (x < self.old.n) × (y < self.old.n) }
+        ensures value { result ≡ united self.old.n self.old.parent x y }
+        ensures after { self.new ≡ union_of (hung self.old.n self.old.parent x y) self.old.n }
+    {
+        let one = self.climb(x, self.n);
+        let other = self.climb(y, self.n);
+        if one == other {
+            return false;
+        }
+        self.parent[one] = other as u16;
+        true
+    }
+
+    // Questions 1 and 2: do the vertices fit, do their parents exist, and does every chain end?
+    fn check(&self) -> Result<(), Refusal>
+        ensures { code_of result ≡ check_of self.now }
+    {
+        if CELLS < self.n {
+            return Err(Refusal::Size);
+        }
+        if self.parents_exist() && self.chains_end() {
+            Ok(())
+        } else {
+            Err(Refusal::Record)
+        }
+    }
+
+    // Question 3: does the vertex exist?
+    fn check_vertex(&self, x: usize) -> Result<(), Refusal>
+        ensures { code_of result ≡ vertex_of self.now x }
+    {
+        if self.n <= x {
+            return Err(Refusal::Missing);
+        }
+        Ok(())
+    }
+
+    // Is each vertex' parent one of the vertices?
+    fn parents_exist(&self) -> bool
+        requires { self.now.n ≤ most_cells }
+        ensures { result ≡ parents_exist self.now.n self.now.parent }
+    {
+        self.parent[..self.n]
+            .iter()
+            .all(|&up| usize::from(up) < self.n)
+    }
+
+    // Does every chain end? Each vertex is found in a copy of the union, so that no chain is walked twice.
+    fn chains_end(&self) -> bool
+        requires { Parents self.now.n self.now.parent }
+        ensures { result ≡ chains_end self.now.n self.now.parent }
+    {
+        let mut found = *self;
+        for i in 0..self.n {
+            let root = found.climb(i, self.n);
+            if usize::from(self.parent[root]) != root {
+                return false;
+            }
+        }
+        true
+    }
+}
+
+// The calls as other languages make them: the record is handed in and comes back in one record with the answer.
 #[repr(C)]
 #[derive(Clone, Copy)]
 pub struct Made {
@@ -44,187 +178,47 @@ pub struct United {
     pub union: UnionFind,
 }
 
-// Each of the first `n` vertices becomes its own parent.
-pub fn alone(p: &mut [u16; CELLS], n: usize)
-    requires { n ≤ most_cells }
-    ensures { p.new ≡ sets p.old 0 (range n) }
-{
-    let mut i = 0;
-    while i < n {
-        p[i] = i as u16;
-        i += 1;
-    }
-}
-
-// The vertex `depth` steps above `x`, which is its root where the chain is no longer; each vertex on the way then names it.
-pub fn find_in(p: &mut [u16; CELLS], x: usize, depth: usize) -> usize
-    requires { Stays p.old x }
-    ensures { (result ≡ climb depth p.old x) × (p.new ≡ shortened depth p.old x) }
-{
-    if depth == 0 {
-        return x;
-    }
-    let up = p[x] as usize;
-    if up == x {
-        return x;
-    }
-    let root = find_in(p, up, depth - 1);
-    p[x] = root as u16;
-    root
-}
-
-// Unites the parts of `x` and `y` of `n` vertices, and tells whether they were two.
-pub fn unite_in(p: &mut [u16; CELLS], n: usize, x: usize, y: usize) -> bool
-    requires parents { Parents n p.old }
-    requires x_lt_n { (x < n) × (y < n) }
-    ensures { (result ≡ united n p.old x y) × (p.new ≡ hung n p.old x y) }
-{
-    let one = find_in(p, x, n);
-    let other = find_in(p, y, n);
-    if one == other {
-        return false;
-    }
-    p[one] = other as u16;
-    true
-}
-
-// Is each of the `n` vertices' parents one of them?
-fn parents_exist(p: &[u16; CELLS], n: usize) -> bool
-    requires { n ≤ most_cells }
-    ensures { result ≡ parents_exist n p.now }
-{
-    let mut i = 0;
-    while i < n {
-        if n <= wide(p[i]) {
-            return false;
-        }
-        i += 1;
-    }
-    true
-}
-
-// Does every chain end? `q` holds the parents too, and each vertex is found in it, so that no chain is walked twice.
-fn chains_end(p: &[u16; CELLS], q: &mut [u16; CELLS], n: usize) -> bool
-    requires parents { Parents n p.now }
-    requires q_value { q.old ≡ p.now }
-    ensures { result ≡ chains_end n p.now }
-{
-    let mut i = 0;
-    while i < n {
-        let root = find_in(q, i, n);
-        if wide(p[root]) != root {
-            return false;
-        }
-        i += 1;
-    }
-    true
-}
-
-// Question 2: do the parents exist, and does every chain end?
-fn holds(u: UnionFind) -> bool
-    requires { u.n ≤ most_cells }
-    ensures { result ≡ holds_of u.n u.parent }
-{
-    let n = u.n;
-    let p = u.parent;
-    if !parents_exist(&p, n) {
-        return false;
-    }
-    let mut q = u.parent;
-    chains_end(&p, &mut q, n)
-}
-
-// A union of `n` vertices, each its own parent.
 pub fn new(n: usize) -> Made
     ensures { result ≡ new_of n }
 {
-    let mut parent = [0u16; CELLS];
-    if CELLS < n {
-        return Made {
-            code: 1,
-            union: UnionFind { parent, n: 0 },
-        };
-    }
-    alone(&mut parent, n);
-    Made {
-        code: 0,
-        union: UnionFind { parent, n },
+    match UnionFind::new(n) {
+        Ok(union) => Made { code: 0, union },
+        Err(refusal) => Made {
+            code: u8::from(refusal),
+            union: UnionFind {
+                parent: [0; CELLS],
+                n: 0,
+            },
+        },
     }
 }
 
-// The root of `x`; its chain is shortened.
 pub fn find(u: UnionFind, x: usize) -> Found
     ensures { result ≡ find_of u x }
 {
-    let n = u.n;
-    if CELLS < n {
-        return Found {
-            code: 1,
-            root: 0,
-            union: u,
-        };
-    }
-    if !holds(u) {
-        return Found {
-            code: 2,
-            root: 0,
-            union: u,
-        };
-    }
-    if n <= x {
-        return Found {
-            code: 3,
-            root: 0,
-            union: u,
-        };
-    }
-    let mut next = u;
-    let root = find_in(&mut next.parent, x, n);
-    Found {
+    let mut found = Found {
         code: 0,
-        root,
-        union: next,
+        root: 0,
+        union: u,
+    };
+    match found.union.find(x) {
+        Ok(root) => found.root = root,
+        Err(refusal) => found.code = u8::from(refusal),
     }
+    found
 }
 
-// Unites the parts of `x` and `y`.
 pub fn unite(u: UnionFind, x: usize, y: usize) -> United
     ensures { result ≡ unite_of u x y }
 {
-    let n = u.n;
-    if CELLS < n {
-        return United {
-            code: 1,
-            united: false,
-            union: u,
-        };
-    }
-    if !holds(u) {
-        return United {
-            code: 2,
-            united: false,
-            union: u,
-        };
-    }
-    if n <= x {
-        return United {
-            code: 3,
-            united: false,
-            union: u,
-        };
-    }
-    if n <= y {
-        return United {
-            code: 3,
-            united: false,
-            union: u,
-        };
-    }
-    let mut next = u;
-    let united = unite_in(&mut next.parent, n, x, y);
-    United {
+    let mut answer = United {
         code: 0,
-        united,
-        union: next,
+        united: false,
+        union: u,
+    };
+    match answer.union.unite(x, y) {
+        Ok(united) => answer.united = united,
+        Err(refusal) => answer.code = u8::from(refusal),
     }
+    answer
 }
