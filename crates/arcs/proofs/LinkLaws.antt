@@ -1,36 +1,23 @@
 -- The lists of arcs while edges are linked: an arc more at the front of its vertex' list, and the lists of all edges' arcs at the end. Assumes nothing.
-use Prim.Native.Nat.{ℕ, suc, ◌+◌, ◌≤◌, ◌<◌}
-use mathlib.Core.Path.{◌≡◌, sym, ap, ◌∙◌, subst}
+use Prim.Native.Nat.{ℕ, zero, suc, ◌+◌, ◌≤◌, ◌<◌}
+use mathlib.Core.Path.{◌≡◌, refl, sym, ap, ◌∙◌, subst}
 use mathlib.Core.Logic.{inl, inr, ◌≢◌, ⊎_elim}
 use mathlib.Core.List.{List, [], ◌∷◌}
 use native.Mathlib.Omega.{arith}
 use native.Mathlib.Numerals.{add-one}
-use lib.ListN.{get_or, set, length, length-set}
+use lib.ListN.{get_or, set, length, length-set, replicate, length-replicate}
 use lib.Seq.{get_or-set_same, get_or-set_other}
 use Rattle.lists.proofs.Cases.{eq_or_ne}
 use Rattle.parts.specs.Parts.{Edge, edge, Has, Within}
 use Rattle.parts.specs.Flood.{Link}
 use Rattle.parts.proofs.PartLaws.{edge_ends, ends_edge}
 use Rattle.parts.proofs.PartLists.{within_ends}
-use Rattle.arcs.specs.Walk.{OnList, here, later, Arcs}
-use Rattle.arcs.proofs.WalkLaws.{on_cases}
+use Rattle.limits.specs.Limits.{most_cells}
+use Rattle.arcs.specs.Walk.{OnList, here, later, Lists, Arcs}
+use Rattle.arcs.specs.Linked.{Linked, arcs_of}
+use Rattle.arcs.proofs.WalkLaws.{on_cases, on_below}
 
--- A's arcs, k of them, are on the lists of their first ends, and each list runs through falling numbers
-pub record Linked (A : List Edge) (n k : ℕ) (head next to : List ℕ) : Type 0 where
-  pub within : Within n A
-  pub tops : (u : ℕ) → u < n → get_or head u 0 ≤ k
-  pub falls : (j : ℕ) → j < k → get_or next j 0 ≤ j
-  pub sound : (u j : ℕ) → u < n → OnList next (get_or head u 0) j → Has A u (get_or to j 0)
-  pub whole : (c d : ℕ) → Has A c d → (j : ℕ) × OnList next (get_or head c 0) j × (get_or to j 0 ≡ d)
-  pub head_long : n ≤ length head
-  pub next_long : 3968 ≤ length next
-  pub to_long : 3968 ≤ length to
-
--- a list that begins below k stays below it, and does not notice a store at k
-on_below : (next : List ℕ) (k : ℕ) → ((j : ℕ) → j < k → get_or next j 0 ≤ j) → (at j : ℕ) → at ≤ k → OnList next at j → j < k
-on_below next k f at j l (here e) = omega arith
-on_below next k f at j l (later {k = i} e o) = on_below next k f (get_or next i 0) j (omega (arith, f i (omega arith))) o
-
+-- a list that begins below k does not notice a store at k
 on_set : (next : List ℕ) (k v : ℕ) → ((j : ℕ) → j < k → get_or next j 0 ≤ j) → (at j : ℕ) → at ≤ k → OnList next at j → OnList (set next k v) at j
 on_set next k v f at j l (here e) = here e
 on_set next k v f at j l (later {k = i} e o) =
@@ -134,11 +121,6 @@ module _ (A : List Edge) (n k : ℕ) (head next to : List ℕ) (w : Linked A n k
         to_long = simp length-set w.to_long;
       }
 
--- the arcs of edges: each edge both ways
-unfoldable pub arcs_of : List Edge → List Edge
-arcs_of [] = []
-arcs_of (e ∷ E) = edge e.other e.one ∷ e ∷ arcs_of E
-
 arcs_link : (E : List Edge) (c d : ℕ) → Has (arcs_of E) c d → Link E c d
 unfolding arcs_of
 arcs_link [] c d m = absurd m
@@ -156,21 +138,49 @@ link_arcs (e ∷ E) c d (inr (inl q)) =
     let o = edge_ends {c = d} {d = c} {e = e} q in inl (ends_edge {c = c} {d = d} {e = edge e.other e.one} o.1 o.0)
 link_arcs (e ∷ E) c d (inr (inr m)) = inr (inr (link_arcs E c d (inr m)))
 
+unfoldable pub zeros : ℕ → List ℕ
+zeros k = replicate k 0
+
+pub zeros_at : (k i : ℕ) → get_or (zeros k) i 0 ≡ 0
+unfolding zeros
+zeros_at zero i = refl
+zeros_at (suc k) zero = refl
+zeros_at (suc k) (suc i) = zeros_at k i
+
+pub zeros_long : (k : ℕ) → length (zeros k) ≡ k
+unfolding zeros
+zeros_long k = length-replicate {A = ℕ} k 0
+
 -- no edge is linked yet
-pub link_none : (n : ℕ) (head next to : List ℕ) → ((u : ℕ) → get_or head u 0 ≡ 0) → n ≤ length head → 3968 ≤ length next → 3968 ≤ length to
-    → Linked (arcs_of []) n 0 head next to
-unfolding arcs_of
-link_none n head next to z lh ln lt =
-    record {
-      within = tt;
-      tops = λ u h. omega (arith, z u);
-      falls = λ j h. omega arith;
-      sound = λ u j h o. absurd (⊎_elim (λ e. omega (arith, z u)) (λ y. omega (arith, z u, y.1)) (on_cases next (get_or head u 0) j o));
-      whole = λ c d m. absurd m;
-      head_long = lh;
-      next_long = ln;
-      to_long = lt;
-    }
+module _ (n : ℕ) (few : n ≤ most_cells) where
+  pub link_none : Linked (arcs_of []) n 0 (zeros 1024) (zeros 3968) (zeros 3968)
+  unfolding arcs_of
+  link_none =
+      record {
+        within = tt;
+        tops = λ u h. omega (arith, zeros_at 1024 u);
+        falls = λ j h. omega arith;
+        sound = λ u j h o.
+            absurd
+            (⊎_elim
+            (λ e. omega (arith, zeros_at 1024 u))
+            (λ y. omega (arith, zeros_at 1024 u, y.1))
+            (on_cases (zeros 3968) (get_or (zeros 1024) u 0) j o));
+        whole = λ c d m. absurd m;
+        head_long = omega (arith, zeros_long 1024);
+        next_long = omega (arith, zeros_long 3968);
+        to_long = omega (arith, zeros_long 3968);
+      }
+
+  pub lists_none : Lists n 0 (zeros 1024) (zeros 3968) (zeros 3968)
+  lists_none =
+      record {
+        few = few;
+        room = omega arith;
+        tops = λ u h. omega (arith, zeros_at 1024 u);
+        falls = λ j h. omega arith;
+        ends = λ j h. omega arith;
+      }
 
 -- both arcs of an edge
 pub link_edge : (E : List Edge) (n k : ℕ) (head next to : List ℕ) → Linked (arcs_of E) n k head next to → (u v : ℕ) → u < n → v < n → k + 1 < 3968
@@ -183,12 +193,17 @@ link_edge E n k head next to w u v hu hv l head₁ next₁ to₁ head₂ next₂
     rw (d, e, f, two) (link_arc (edge u v ∷ arcs_of E) n (k + 1) head₁ next₁ to₁ first v u hv hu l)
 
 -- the lists of all edges
-pub link_all : (E : List Edge) (n k : ℕ) (head next to : List ℕ) → n ≤ 1024 → k ≤ 3968 → Within n E → Linked (arcs_of E) n k head next to → Arcs E n head next to
-link_all E n k head next to few room inside w =
+arcs_within : (n : ℕ) (E : List Edge) → Within n (arcs_of E) → Within n E
+unfolding arcs_of
+arcs_within n [] w = tt
+arcs_within n (e ∷ E) w = (w.1.0, arcs_within n E w.1.1)
+
+pub link_all : (E : List Edge) (n k : ℕ) (head next to : List ℕ) → Lists n k head next to → Linked (arcs_of E) n k head next to → Arcs E n head next to
+link_all E n k head next to a w =
     record {
-      few = few;
-      within = inside;
-      low = λ u j h o. let l = on_below next k w.falls (get_or head u 0) j (w.tops u h) o in (omega arith, w.falls j l);
+      few = a.few;
+      within = arcs_within n E w.within;
+      low = λ u j h o. let l = on_below next k w.falls (get_or head u 0) j (w.tops u h) o in (omega (arith, a.room), w.falls j l);
       sound = λ u j h o. arcs_link E u (get_or to j 0) (w.sound u j h o);
       whole = λ c d m. w.whole c d (link_arcs E c d m);
     }

@@ -9,7 +9,8 @@ use native.Mathlib.Omega.{arith}
 use native.Mathlib.Numerals.{add-one}
 use borrow.Author.Tests.{eq-eqb, ne_eqb, ltb-true, lt-ltb, le-ltb}
 use lib.Dec.{eqb, ltb}
-use lib.ListN.{get_or, set}
+use lib.ListN.{get_or, set, take, length}
+use Rattle.std.proofs.lemmas.List.{get_or-take, length-take-le}
 use Rattle.lists.proofs.Cases.{eq_or_ne, true_or_false}
 use Rattle.parts.specs.Parts.{Edge, over, root, begun}
 use Rattle.parts.specs.Flood.{HasMark, blank}
@@ -18,7 +19,7 @@ use Rattle.parts.proofs.UniteLaws.{begun_none, begun_within, begun_unite}
 use Rattle.parts.proofs.FloodLaws.{marked_other}
 use Rattle.room_parts.specs.Graph.{Graph, graph, edge_at, states_in, is_state, is_connected, not_wall, edges_if, passing, parts_if, later_marked, Lent}
 use Rattle.room_parts.proofs.EdgeLaws.{edges_in}
-use Rattle.room_parts.proofs.JoinedLaws.{zeros, zeros_at}
+use Rattle.arcs.proofs.LinkLaws.{zeros, zeros_at}
 
 -- counting the edges whose state passes
 module _ (p : ℕ → Bool) (s : ℕ → ℕ) where
@@ -111,6 +112,15 @@ module _ (marks : List ℕ) (k i : ℕ) (e : k ≡ blank 0 i marks) where
   pub blank_same : get_or marks i 0 ≢ 0 → k ≡ blank 0 (i + 1) marks
   unfolding blank
   blank_same q = rw (add-one i, ne_eqb (get_or marks i 0) 0 q) (omega (arith, e))
+
+-- what stands behind the vertices does not count
+blank_front : (k n : ℕ) (marks : List ℕ) → k ≤ n → blank 0 k (take n marks) ≡ blank 0 k marks
+unfolding blank
+blank_front zero n marks l = refl
+blank_front (suc k) n marks l = rw (get_or-take n marks k 0 (omega arith), blank_front k n marks (omega arith)) refl
+
+pub blank_taken : (n : ℕ) (marks : List ℕ) → n ≤ length marks → blank 0 (length (take n marks)) (take n marks) ≡ blank 0 n marks
+blank_taken n marks l = rw (length-take-le n marks l) (blank_front n n marks (omega arith))
 
 module _ (g : Graph) (s : ℕ → ℕ) where
   abbrev open_edges : List Edge

@@ -1,11 +1,11 @@
 -- The count by a union: what is left is the number of parts that the edges so far make, and it has not gone below the count. Assumes nothing.
 use Prim.Native.Nat.{ℕ, ◌+◌, ◌-◌, ◌≤◌, ◌<◌}
 use mathlib.Core.Path.{◌≡◌, refl, sym, ap, ◌∙◌}
-use mathlib.Core.Logic.{⊎_elim}
+use mathlib.Core.Logic.{◌≢◌, ⊎_elim}
 use mathlib.Core.Bool.{Bool, true, false}
 use mathlib.Core.List.{List}
 use native.Mathlib.Omega.{arith}
-use borrow.Author.Tests.{lt-ltb, le-ltb}
+use borrow.Author.Tests.{eq-eqb, ne_eqb, lt-ltb, le-ltb}
 use lib.Dec.{ltb}
 use lib.ListN.{get_or, length, length-replicate}
 use lib.Seq.{sets}
@@ -48,16 +48,16 @@ zeros_long : length zeros ≡ 1024
 unfolding zeros
 zeros_long = length-replicate {A = ℕ} 1024 0
 
-pub taken_none : (g : Graph) (count : ℕ) (s : ℕ → ℕ) (p : List ℕ) → g.vertices ≤ 1024 → p ≡ sets zeros 0 (range g.vertices) → Taken g count s p g.vertices 0
+pub taken_none : (g : Graph) (count : ℕ) (s : ℕ → ℕ) {p : List ℕ} → g.vertices ≤ 1024 → p ≡ sets zeros 0 (range g.vertices) → Taken g count s p g.vertices 0
 unfolding edges_if
-taken_none g count s p l e =
+taken_none g count s {p} l e =
     record {
       joins = joins_none g.vertices p (rw e (alone_up g.vertices zeros (rw zeros_long l)));
       left_is = sym (begun_none g.vertices);
       above = λ h. omega arith;
     }
 
-module _ (g : Graph) (count : ℕ) (s : ℕ → ℕ) (p : List ℕ) (left i : ℕ) (w : Taken g count s p left i) where
+module _ {g : Graph} {count : ℕ} {s : ℕ → ℕ} {p : List ℕ} {left i : ℕ} (w : Taken g count s p left i) where
   pub taken_parents : g.vertices ≤ 1024 → Parents g.vertices p
   taken_parents l = record { bound = l; below = w.joins.good.below }
 
@@ -100,8 +100,19 @@ module _ (g : Graph) (count : ℕ) (s : ℕ → ℕ) (p : List ℕ) (left i : �
         let d : parts_if is_connected g s < g.vertices = omega (arith, q, w.left_is, begun_small (edges_if is_connected g s i) g.vertices) in
         sym (true_both _ _ (lt-ltb _ _ b) (lt-ltb _ _ d))
 
-    pub taken_turn : Turn g count s left i p' r
+    taken_turn : Turn g count s left i p' r
     taken_turn = record { some = taken_some; less = taken_less; same = taken_same; tips = taken_tips }
+
+  -- a Connected edge, whose ends were joined, and another one
+  pub join_turn : {p' : List ℕ} {u v : ℕ} {r : Bool} → s i ≡ 1 → get_or g.us i 0 < g.vertices → get_or g.vs i 0 < g.vertices
+      → u ≡ get_or g.us i 0 → v ≡ get_or g.vs i 0 → r ≡ united g.vertices p u v → p' ≡ hung g.vertices p u v → Turn g count s left i p' r
+  join_turn {p'} {u} {v} {r} t hu hv eu ev er ep =
+      let k : is_connected (s i) ≡ true = eq-eqb (s i) 1 t in taken_turn p' u v r hu hv eu ev (rw k er) (rw k ep)
+
+  pub skip_turn : s i ≢ 1 → Taken g count s p left (i + 1)
+  skip_turn z =
+      let k : edges_if is_connected g s (i + 1) ≡ edges_if is_connected g s i = edges_skip is_connected g s i (ne_eqb (s i) 1 z) in
+      record { joins = rw k w.joins; left_is = rw k w.left_is; above = w.above }
 
   pub taken_all : i ≡ g.edges → false ≡ tipped_of g count s
   unfolding tipped_of parts_if

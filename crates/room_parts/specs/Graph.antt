@@ -14,6 +14,10 @@ pub record Graph : Type 0 where
 abbrev pub graph : ℕ → ℕ → List ℕ → List ℕ → Graph
 graph n m us vs = record { vertices = n; edges = m; us = us; vs = vs }
 
+-- the graph whose edges are those that have a state
+abbrev pub graph_of : ℕ → List ℕ → List ℕ → List ℕ → Graph
+graph_of n us vs states = graph n (length states) us vs
+
 abbrev pub edge_at : Graph → ℕ → Edge
 edge_at g i = edge (get_or g.us i 0) (get_or g.vs i 0)
 

@@ -3,100 +3,113 @@
 // walk can be left out.
 #![tactic(auto)]
 
-ghost use Rattle.std.specs.Prelude.{◌≡◌, ◌-◌, ◌≤◌, ◌<◌, ltb, length};
-ghost use Rattle.limits.specs.Limits.{most_cells, most_borders};
-ghost use Rattle.lists.specs.Choice.{both, pick};
+ghost use Rattle.std.specs.Prelude.{◌≡◌, ◌≤◌, ◌<◌, length};
+ghost use Rattle.limits.specs.Limits.{most_cells};
 ghost use Rattle.parts.specs.Flood.{blank};
-ghost use Rattle.union_find.specs.Chains.{united, hung};
-ghost use Rattle.union_find.specs.Requires.{Parents};
-ghost use Rattle.room_parts.specs.Graph.{graph, states_in, is_state, is_connected, passing, tipped_of, joined_parts, later_marked, Lent};
+ghost use Rattle.room_parts.specs.Graph.{Lent, later_marked};
 
+use arcs::ArcLists;
 use limits::CELLS;
-use lists::wide;
+use union_find::UnionFind;
 
-// Unites the ends of a Connected edge, and tells whether they were in two parts.
-fn take_edge(p: &mut [u16; CELLS], n: usize, state: u8, u: usize, v: usize) -> bool
-    requires parents { Parents n p.old }
-    requires u_lt_n { (u < n) × (v < n) }
-    ensures value { result ≡ both (is_connected state) (united n p.old u v) }
-    ensures p_after { p.new ≡ pick (is_connected state) (hung n p.old u v) p.old }
-{
-    if state == 1 {
-        return union_find::unite_in(p, n, u, v);
-    }
-    false
+// A room graph with the states of its edges: edge e is between the vertices at place e of `us` and `vs`.
+#[derive(Clone, Copy)]
+pub struct RoomGraph<'a> {
+    pub vertices: usize,
+    pub us: &'a [u16],
+    pub vs: &'a [u16],
+    pub states: &'a [u8],
+    ghost us_whole: { length us.now ≡ length states.now },
+    ghost vs_whole: { length vs.now ≡ length states.now },
+    ghost lent: { Lent vertices (length states.now) us.now vs.now states.now },
 }
 
-// How many of the first `m` edges have the state `k`. The counter is narrow, so that the loop is compiled to take many states at a time.
-fn in_state(m: usize, states: &[u8], k: u8) -> usize
-    requires { (m ≤ most_borders) × (m ≤ length states.now) }
-    ensures { result ≡ passing (is_state k) (states_in states.now) m }
-{
-    let mut r = 0u16;
-    let mut i = 0;
-    while i < m {
-        if states[i] == k {
-            r += 1;
+impl RoomGraph<'_> {
+    ghost use Rattle.std.specs.Prelude.{ltb};
+    ghost use Rattle.room_parts.specs.Graph.{graph_of, states_in, is_state, passing, tipped_of, joined_parts};
+
+    // Counts down from the vertices, one for each uniting Connected edge: does that go below the count? Where even one part less for
+    // each Connected edge would not be below it, no edge is united.
+    pub fn tipped(self, count: usize) -> bool
+        ensures { result ≡ tipped_of (graph_of self.entry.vertices self.entry.us.now self.entry.vs.now self.entry.states.now) count
+            (states_in self.entry.states.now) }
+    {
+        self.vertices.saturating_sub(self.in_state(1)) < count && self.counts_below(count)
+    }
+
+    // Do the parts joined without Walls outnumber the count? The walk counts them where bounds do not tell.
+    pub fn outnumbers(self, count: usize) -> bool
+        ensures { result ≡ ltb count (joined_parts
+            (graph_of self.entry.vertices self.entry.us.now self.entry.vs.now self.entry.states.now) (states_in self.entry.states.now)) }
+    {
+        let open = self.states.len() - self.in_state(2);
+        if count < self.vertices.saturating_sub(open) {
+            return true;
         }
-        i += 1;
+        count < self.most_parts() && count < self.joined_parts()
     }
-    wide(r)
-}
 
-// What is left of the vertices where each edge takes one: edges leave no fewer parts.
-fn left_by(n: usize, edges: usize) -> usize
-    ensures { result ≡ n - edges }
-{
-    if n < edges {
-        return 0;
-    }
-    n - edges
-}
-
-// Counts down from the vertices, one for each uniting Connected edge: did that go below the count?
-fn counts_below<'a>(
-    n: usize,
-    m: usize,
-    us: &'a [u16],
-    vs: &'a [u16],
-    states: &'a [u8],
-    count: usize,
-) -> bool
-    requires { Lent n m us.now vs.now states.now }
-    ensures { result ≡ tipped_of (graph n m us.now vs.now) count (states_in states.now) }
-{
-    let mut p = [0u16; CELLS];
-    union_find::alone(&mut p, n);
-    let mut left = n;
-    let mut i = 0;
-    while i < m {
-        if take_edge(&mut p, n, states[i], wide(us[i]), wide(vs[i])) {
-            left -= 1;
-            if left < count {
-                return true;
+    // How many edges have the state `k`. The counter is narrow, so that the loop is compiled to take many states at a time.
+    fn in_state(self, k: u8) -> usize
+        ensures { result ≡ passing (is_state k) (states_in self.entry.states.now) (length self.entry.states.now) }
+    {
+        let mut found = 0u16;
+        for &state in self.states {
+            if state == k {
+                found += 1;
             }
         }
-        i += 1;
+        usize::from(found)
     }
-    false
-}
 
-// The same. Where even one part less for each Connected edge would not be below the count, no edge is united.
-pub fn tipped<'a>(
-    n: usize,
-    m: usize,
-    us: &'a [u16],
-    vs: &'a [u16],
-    states: &'a [u8],
-    count: usize,
-) -> bool
-    requires { Lent n m us.now vs.now states.now }
-    ensures { result ≡ tipped_of (graph n m us.now vs.now) count (states_in states.now) }
-{
-    if count <= left_by(n, in_state(m, states, 1)) {
-        return false;
+    // The countdown itself.
+    fn counts_below(self, count: usize) -> bool
+        ensures { result ≡ tipped_of (graph_of self.entry.vertices self.entry.us.now self.entry.vs.now self.entry.states.now) count
+            (states_in self.entry.states.now) }
+    {
+        let mut union = UnionFind::alone(self.vertices);
+        let mut left = self.vertices;
+        for (i, &state) in self.states.iter().enumerate() {
+            if state == 1 && union.join(usize::from(self.us[i]), usize::from(self.vs[i])) {
+                left -= 1;
+                if left < count {
+                    return true;
+                }
+            }
+        }
+        false
     }
-    counts_below(n, m, us, vs, states, count)
+
+    // How many vertices no edge but a Wall joins to an earlier vertex. Each part has one, its first: there are no more parts than that.
+    fn most_parts(self) -> usize
+        ensures { joined_parts (graph_of self.entry.vertices self.entry.us.now self.entry.vs.now self.entry.states.now)
+            (states_in self.entry.states.now) ≤ result }
+    {
+        let mut marks = [0u8; CELLS];
+        for (i, &state) in self.states.iter().enumerate() {
+            mark_later(
+                &mut marks,
+                state,
+                usize::from(self.us[i]),
+                usize::from(self.vs[i]),
+            );
+        }
+        unmarked(&marks[..self.vertices])
+    }
+
+    // How many parts there are when only Walls part vertices.
+    fn joined_parts(self) -> usize
+        ensures { result ≡ joined_parts (graph_of self.entry.vertices self.entry.us.now self.entry.vs.now self.entry.states.now)
+            (states_in self.entry.states.now) }
+    {
+        let mut arcs = ArcLists::new(self.vertices);
+        for (i, &state) in self.states.iter().enumerate() {
+            if state != 2 {
+                arcs.link(usize::from(self.us[i]), usize::from(self.vs[i]));
+            }
+        }
+        arcs.parts()
+    }
 }
 
 // Marks the later end of an edge that is no Wall.
@@ -104,90 +117,21 @@ fn mark_later(marks: &mut [u8; CELLS], state: u8, u: usize, v: usize)
     requires { (u < most_cells) × (v < most_cells) }
     ensures { marks.new ≡ later_marked state u v marks.old }
 {
-    if state == 2 {
-        return;
-    }
-    if u < v {
-        marks[v] = 1;
-        return;
-    }
-    if v < u {
-        marks[u] = 1;
+    if state != 2 && u != v {
+        marks[u.max(v)] = 1;
     }
 }
 
-// How many of the first `n` vertices have no mark.
-fn unmarked(marks: &[u8; CELLS], n: usize) -> usize
-    requires { n ≤ most_cells }
-    ensures { result ≡ blank 0 n marks.now }
+// How many vertices have no mark.
+fn unmarked(marks: &[u8]) -> usize
+    requires { length marks.now ≤ most_cells }
+    ensures { result ≡ blank 0 (length marks.now) marks.now }
 {
-    let mut k = 0u16;
-    let mut i = 0;
-    while i < n {
-        if marks[i] == 0 {
-            k += 1;
+    let mut found = 0u16;
+    for &mark in marks {
+        if mark == 0 {
+            found += 1;
         }
-        i += 1;
     }
-    wide(k)
-}
-
-// How many vertices no edge but a Wall joins to an earlier vertex. Each part has one, its first: there are no more parts than that.
-fn most_parts<'a>(n: usize, m: usize, us: &'a [u16], vs: &'a [u16], states: &'a [u8]) -> usize
-    requires { Lent n m us.now vs.now states.now }
-    ensures { joined_parts (graph n m us.now vs.now) (states_in states.now) ≤ result }
-{
-    let mut marks = [0u8; CELLS];
-    let mut i = 0;
-    while i < m {
-        mark_later(&mut marks, states[i], wide(us[i]), wide(vs[i]));
-        i += 1;
-    }
-    unmarked(&marks, n)
-}
-
-// How many parts there are when only Walls part vertices.
-fn joined_parts<'a>(n: usize, m: usize, us: &'a [u16], vs: &'a [u16], states: &'a [u8]) -> usize
-    requires { Lent n m us.now vs.now states.now }
-    ensures { result ≡ joined_parts (graph n m us.now vs.now) (states_in states.now) }
-{
-    let mut head = [0u16; CELLS];
-    let mut next = [0u16; 3968];
-    let mut to = [0u16; 3968];
-    let mut arcs = 0;
-    let mut i = 0;
-    while i < m {
-        if states[i] != 2 {
-            let u = wide(us[i]);
-            let v = wide(vs[i]);
-            arcs::link(&mut head, &mut next, &mut to, arcs, u, v);
-            arcs::link(&mut head, &mut next, &mut to, arcs + 1, v, u);
-            arcs += 2;
-        }
-        i += 1;
-    }
-    let mut seen = [0u8; CELLS];
-    arcs::sweep(&head, &next, &to, &mut seen, n)
-}
-
-// Do the parts joined without Walls outnumber the count? The walk counts them where bounds do not tell.
-pub fn outnumber<'a>(
-    n: usize,
-    m: usize,
-    us: &'a [u16],
-    vs: &'a [u16],
-    states: &'a [u8],
-    count: usize,
-) -> bool
-    requires { Lent n m us.now vs.now states.now }
-    ensures { result ≡ ltb count (joined_parts (graph n m us.now vs.now) (states_in states.now)) }
-{
-    let walls = in_state(m, states, 2);
-    if count < left_by(n, m - walls) {
-        return true;
-    }
-    if most_parts(n, m, us, vs, states) <= count {
-        return false;
-    }
-    count < joined_parts(n, m, us, vs, states)
+    usize::from(found)
 }
