@@ -1,13 +1,13 @@
 -- The entries of the edges that have a state: which they are, that they are no more than the edges, and the loop that writes them. Assumes nothing.
 use Prim.Native.Nat.{ℕ, suc, ◌+◌, ◌-◌, ◌≤◌, ◌<◌}
-use mathlib.Core.Path.{◌≡◌, refl, sym, ap, ◌∙◌}
-use mathlib.Core.Logic.{⊎_elim}
+use mathlib.Core.Path.{◌≡◌, refl, ap}
+use mathlib.Core.Logic.{◌≢◌, ⊎_elim}
 use mathlib.Core.Bool.{Bool, true, false}
 use mathlib.Core.List.{List, [], ◌∷◌}
 use native.Mathlib.Omega.{arith}
 use native.Mathlib.Numerals.{add-one}
 use native.Mathlib.Nat.{sub-zero}
-use borrow.Author.Tests.{eqb-true, eq-eqb}
+use borrow.Author.Tests.{eqb-true, eq-eqb, ne_eqb}
 use lib.Dec.{eqb}
 use lib.ListN.{length, set, length-set}
 use lib.Seq.{sets}
@@ -74,10 +74,10 @@ module _ (entry : ℕ → ℕ) (k m : ℕ) (s : ℕ → ℕ) where
   listing_none buf =
       record { within = omega arith; few = omega arith; size = refl; counted = omega (arith, ap length rest_all); listed = rw rest_all }
 
-  module _ (buf₀ buf : List ℕ) (n i : ℕ) (w : Listing buf₀ buf n i) (h : i < m) (r : Bool) (er : r ≡ eqb (s i) k) where
-    pub listing_more : (x : ℕ) → r ≡ true → x ≡ entry i → Listing buf₀ (set buf n x) (n + 1) (i + 1)
-    listing_more x t e =
-        let q : rest i ≡ x ∷ rest (i + 1) = rw e (rest_pass i h (sym er ∙ t)) in
+  module _ (buf₀ buf : List ℕ) (n i : ℕ) (w : Listing buf₀ buf n i) (h : i < m) where
+    pub listing_more : {x : ℕ} → s i ≡ k → x ≡ entry i → Listing buf₀ (set buf n x) (n + 1) (i + 1)
+    listing_more {x} t e =
+        let q : rest i ≡ x ∷ rest (i + 1) = rw e (rest_pass i h (eq-eqb (s i) k t)) in
         record {
           within = omega arith;
           few = omega (arith, w.few);
@@ -86,9 +86,9 @@ module _ (entry : ℕ → ℕ) (k m : ℕ) (s : ℕ → ℕ) where
           listed = rw add-one (rw q at w.listed);
         }
 
-    pub listing_same : r ≡ false → Listing buf₀ buf n (i + 1)
+    pub listing_same : s i ≢ k → Listing buf₀ buf n (i + 1)
     listing_same t =
-        let q : rest i ≡ rest (i + 1) = rest_skip i h (sym er ∙ t) in
+        let q : rest i ≡ rest (i + 1) = rest_skip i h (ne_eqb (s i) k t) in
         record {
           within = omega arith;
           few = omega (arith, w.few);

@@ -1,16 +1,19 @@
 -- One turn and the end of the loop that looks at a graph's ends. Assumes nothing.
-use Prim.Native.Nat.{ℕ, ◌+◌, ◌-◌, ◌≤◌, ◌<◌}
-use mathlib.Core.Path.{◌≡◌, sym}
+use Prim.Native.Nat.{ℕ, ◌+◌, ◌≤◌, ◌<◌}
+use mathlib.Core.Path.{◌≡◌, refl, sym}
 use mathlib.Core.Bool.{Bool, true, false}
 use mathlib.Core.List.{List}
 use native.Mathlib.Omega.{arith}
 use borrow.Author.Tests.{ltb-true, lt-ltb, le-ltb}
 use lib.Dec.{ltb}
-use lib.ListN.{get_or}
+use native.Mathlib.Numerals.{add-one}
+use lib.ListN.{get_or, length, take, drop, drop_of_length-le}
+use lib.Seq.{drop-cons}
+use Rattle.std.proofs.lemmas.List.{get_or-take, length-take-le}
 use Rattle.lists.specs.Choice.{both}
-use Rattle.lists.specs.Lists.{count_from, range, all}
+use Rattle.lists.specs.Lists.{range, all}
 use Rattle.lists.proofs.ChoiceLaws.{both_true, true_both, same_truth}
-use Rattle.lists.proofs.ListLaws.{all_not, all_true, true_all, range_in, in_range, all_start, all_step, all_end}
+use Rattle.lists.proofs.ListLaws.{all_not, all_true, true_all, range_in, in_range, in_get_d, get_d_in}
 use Rattle.city_count.specs.Room.{below, ends_exist}
 
 -- a test of two is two tests
@@ -26,22 +29,33 @@ all_both p q xs =
     true_all (λ x. both (p x) (q x)) xs (λ x m. true_both (p x) (q x) (all_true p xs o.0 x m) (all_true q xs o.1 x m)))
 
 -- `fine` tells whether the numbers before i are below n, and the rest is left to test
-module _ (n m : ℕ) (xs : List ℕ) where
+module _ (n : ℕ) (xs : List ℕ) where
+  abbrev pub small : ℕ → Bool
+  small x = ltb x n
+
   abbrev pub Testing : Bool → ℕ → Type 0
-  Testing fine i = both fine (all (below n xs) (count_from i (m - i))) ≡ all (below n xs) (range m)
+  Testing fine i = both fine (all small (drop i xs)) ≡ all small xs
 
-  pub testing_none : Testing true 0
-  testing_none = all_start (below n xs) m
+  pub testing_in : (fine : Bool) (i : ℕ) → i < length xs → get_or xs i 0 < n → Testing fine i → Testing fine (i + 1)
+  unfolding all
+  testing_in fine i h l w = rw (add-one i) (rw (drop-cons xs i 0 h, lt-ltb (get_or xs i 0) n l) at w)
 
-  pub testing_in : (fine : Bool) (i : ℕ) → i < m → get_or xs i 0 < n → Testing fine i → Testing fine (i + 1)
-  testing_in fine i h l w = rw (all_step (below n xs) m i h, lt-ltb (get_or xs i 0) n l) at w
+  pub testing_out : (i : ℕ) → i < length xs → n ≤ get_or xs i 0 → Testing false (i + 1)
+  testing_out i h l = sym (all_not small xs (get_or xs i 0) (get_d_in 0 xs i h) (le-ltb (get_or xs i 0) n l))
 
-  pub testing_out : (i : ℕ) → i < m → n ≤ get_or xs i 0 → Testing false (i + 1)
-  testing_out i h l = sym (all_not (below n xs) (range m) i (range_in m i h) (le-ltb (get_or xs i 0) n l))
-
-  pub testing_all : (fine : Bool) (i : ℕ) → m ≤ i → Testing fine i → fine ≡ all (below n xs) (range m)
-  testing_all true i l w = rw (all_end (below n xs) m i l) at w
+  pub testing_all : (fine : Bool) (i : ℕ) → length xs ≤ i → Testing fine i → fine ≡ all small xs
+  unfolding all
+  testing_all true i l w = rw (drop_of_length-le xs {i = i} l) at w
   testing_all false i l w = w
+
+  -- by their places
+  pub small_places : all small xs ≡ all (below n xs) (range (length xs))
+  small_places =
+      same_truth (all small xs) (all (below n xs) (range (length xs)))
+      (λ q. true_all (below n xs) (range (length xs)) (λ i m. all_true small xs q (get_or xs i 0) (get_d_in 0 xs i (in_range (length xs) i m))))
+      (λ q.
+      true_all small xs
+      (λ x m. let o = in_get_d 0 x xs m in rw o.2 at (all_true (below n xs) (range (length xs)) q o.0 (range_in (length xs) o.0 o.1))))
 
 module _ (n : ℕ) (us vs : List ℕ) where
   -- the ends of the edges before i exist
@@ -56,11 +70,8 @@ module _ (n : ℕ) (us vs : List ℕ) where
   unfolding ends_exist
   ends_both m = all_both (below n us) (below n vs) (range m)
 
-  pub ends_first : (m : ℕ) → all (below n us) (range m) ≡ false → false ≡ ends_exist n m us vs
-  ends_first m e = rw (ends_both m, e)
-
-  pub ends_second : (m : ℕ) (r : Bool) → all (below n us) (range m) ≡ true → r ≡ all (below n vs) (range m) → r ≡ ends_exist n m us vs
-  ends_second m r e q = rw (ends_both m, e) q
+  pub ends_small : length us ≡ length vs → ends_exist n (length us) us vs ≡ both (all (small n us) us) (all (small n vs) vs)
+  ends_small e = rw (ends_both (length us), small_places n us, small_places n vs, e) refl
 
   pub ends_all : (m i : ℕ) → m ≤ i → Ends i → true ≡ ends_exist n m us vs
   unfolding ends_exist ends_at
@@ -74,3 +85,18 @@ module _ (n : ℕ) (us vs : List ℕ) where
   all_ends m t j h =
       let o = both_true (ltb (get_or us j 0) n) (ltb (get_or vs j 0) n) (all_true ends_at (range m) t j (range_in m j h)) in
       (ltb-true _ n o.0, ltb-true _ n o.1)
+
+-- what stands behind the edges does not count
+pub ends_taken : (n m : ℕ) (us vs : List ℕ) → m ≤ length us → m ≤ length vs
+    → ends_exist n (length (take m us)) (take m us) (take m vs) ≡ ends_exist n m us vs
+ends_taken n m us vs h k =
+    rw (length-take-le m us h)
+    (same_truth (ends_exist n m (take m us) (take m vs)) (ends_exist n m us vs)
+    (λ q.
+    sym
+    (ends_all n us vs m m (omega arith)
+    (λ j l. rw (get_or-take m us j 0 l, get_or-take m vs j 0 l) at (all_ends n (take m us) (take m vs) m q j l))))
+    (λ q.
+    sym
+    (ends_all n (take m us) (take m vs) m m (omega arith)
+    (λ j l. rw (get_or-take m us j 0 l, get_or-take m vs j 0 l) (all_ends n us vs m q j l)))))

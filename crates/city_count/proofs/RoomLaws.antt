@@ -1,6 +1,6 @@
 -- A graph that questions 1 and 2 accept, as facts; and a law for each answer. Assumes nothing.
 use Prim.Native.Nat.{ℕ, ◌≤◌, ◌<◌}
-use mathlib.Core.Path.{◌≡◌, refl, ap, sym, ◌∙◌}
+use mathlib.Core.Path.{◌≡◌, refl, sym, ◌∙◌}
 use mathlib.Core.Logic.{◌≢◌}
 use mathlib.Core.Bool.{Bool, true, false}
 use mathlib.Core.List.{List, [], ◌∷◌}
@@ -8,24 +8,26 @@ use mathlib.Core.Option.{Option, none, some}
 use native.Mathlib.Omega.{arith}
 use borrow.Author.Tests.{eq-eqb, ne_eqb, le-leb, lt-leb, leb-true}
 use lib.Dec.{leb}
-use lib.ListN.{length}
+use lib.ListN.{length, take}
+use Rattle.std.proofs.lemmas.List.{get_or-take}
 use lib.Seq.{sets}
 use Rattle.limits.specs.Limits.{most_cells, most_borders}
 use Rattle.lists.specs.Choice.{both, pick}
 use Rattle.lists.proofs.ChoiceLaws.{both_true}
-use Rattle.answers.specs.declared.Found.{Found}
-use Rattle.answers.specs.declared.Found.TheVariants as case_found
-use Rattle.answers.specs.declared.Answer.TheVariants as case_answer
-use Rattle.answers.specs.Answers.{answer_of, written, found, found_of, Told}
+use Rattle.answers.specs.Answers.{found, written, length_found, Finds}
+use Rattle.answers.specs.Refusals.{Answers, ask_plain, answer_plain}
+use Rattle.std.specs.Prelude.{Ok}
+use Rattle.std.specs.Prelude as std
 use Rattle.ledger.specs.declared.Book.{Book}
-use Rattle.ledger.specs.Ledger.{decisions, stroke_code, first_code}
-use Rattle.ledger.specs.Books.{zeros, none_given, state_at, book_holds}
+use Rattle.ledger.specs.Ledger.{decisions}
+use Rattle.ledger.specs.Books.{zeros, none_given, book_holds}
 use Rattle.ledger.specs.Marks.{Entry}
-use Rattle.ledger.proofs.Codes.{first_stops, first_passes, as_decide}
-use Rattle.ledger.proofs.Found.{Places, Placeable, Takeable, placeable, takeable}
+use Rattle.ledger.proofs.Codes.{as_decide}
 use Rattle.room_parts.specs.Graph as rooms
 use Rattle.city_count.specs.declared.CityCountConstraint.{CityCountConstraint}
-use Rattle.city_count.specs.Room.{zero_room, fresh_room, answer, ends_exist, check_of, room_code, make_of, onto, answered, stroke_of, decide_of, fault_of, ask_of, Sized}
+use Rattle.city_count.specs.Fault.{room_fault}
+use Rattle.city_count.specs.Room.{room_of, zero_room, fresh_room, answer, ends_exist, check_of, room_code, make_of, answered, stroke_of, decide_of, graph_of, fault_of, ask_of}
+use Rattle.city_count.proofs.FaultLaws.{room_agrees, room_ends}
 use Rattle.city_count.proofs.LoopLaws.{Ends, all_ends, ends_all}
 
 -- a graph within the limits whose ends exist
@@ -84,78 +86,49 @@ module _ (n : ℕ) (us vs : List ℕ) (count : ℕ) where
     pub make_ends : ends_exist n (length us) us vs ≡ false → answer 3 zero_room ≡ make_of n us vs count
     make_ends f = simp (le-leb n most_cells h, le-leb (length us) most_borders k, eq-eqb (length us) (length vs) e, f)
 
-    pub made : (a b : List ℕ) → a ≡ sets zeros 0 us → b ≡ sets zeros 0 vs → ends_exist n (length us) us vs ≡ true
-        → answer 0 (fresh_room n (length us) a b count) ≡ make_of n us vs count
-    made a b ea eb t = simp (le-leb n most_cells h, le-leb (length us) most_borders k, eq-eqb (length us) (length vs) e, t, ea, eb)
+    pub filled : {r : CityCountConstraint} {a b : List ℕ} → r ≡ fresh_room n (length us) zeros zeros count → a ≡ sets r.us 0 us → b ≡ sets r.vs 0 vs
+        → ends_exist n (length us) us vs ≡ true → answer 0 (room_of r.vertices r.edges a b r.count r.book) ≡ make_of n us vs count
+    filled er ea eb t = rw (ea, eb, er) (simp (le-leb n most_cells h, le-leb (length us) most_borders k, eq-eqb (length us) (length vs) e, t))
 
--- what the check asks of the arrays of a graph that holds together
-pub lent_room : (n m : ℕ) (us vs : List ℕ) (b : Book) → Ready n m us vs b → Sized us vs b.states b.names → rooms.Lent n m us vs b.states
-lent_room n m us vs b r z =
-    let f = r.fits in
-    record {
-      few_vertices = f.few_vertices;
-      few_edges = f.few_edges;
-      us_long = omega (arith, f.few_edges, z.us_sized);
-      vs_long = omega (arith, f.few_edges, z.vs_sized);
-      states_long = omega (arith, f.few_edges, z.states_sized);
-      us_exist = λ i h. (f.ends i h).0;
-      vs_exist = λ i h. (f.ends i h).1;
-    }
+-- a graph that holds together, with its edges' states, as slices of as many places as there are edges
+module _ (r : CityCountConstraint) (z : room_code r ≡ 0) (us_are : length (take r.edges r.us) ≡ r.edges) (vs_are : length (take r.edges r.vs) ≡ r.edges)
+    (states_are : length (take r.edges r.book.states) ≡ r.edges) where
+  pub lent_room : rooms.Lent r.vertices (length (take r.edges r.book.states)) (take r.edges r.us) (take r.edges r.vs) (take r.edges r.book.states)
+  lent_room =
+      let f = (ready r.vertices r.edges r.us r.vs r.book z).fits in
+      rw states_are
+      (record {
+        few_vertices = f.few_vertices;
+        few_edges = f.few_edges;
+        us_long = omega (arith, us_are);
+        vs_long = omega (arith, vs_are);
+        states_long = omega (arith, states_are);
+        us_exist = λ i h. rw (get_or-take r.edges r.us i 0 h) (f.ends i h).0;
+        vs_exist = λ i h. rw (get_or-take r.edges r.vs i 0 h) (f.ends i h).1;
+      })
 
--- STROKE, UNDO and ASK of a graph that question 1 or 2 refuses, or none of them
-module _ (r : CityCountConstraint) (code : ℕ) (q : code ≡ room_code r) where
-  pub stopped : (next : ℕ) (b : Book) → code ≢ 0 → answer code r ≡ answered (first_code (room_code r) next) r b
-  stopped next b z = rw (← q, first_stops code next z, ne_eqb code 0 z)
+-- the check of the slices is that of the record
+pub fault_taken : (r : CityCountConstraint) {us vs states : List ℕ} {n : ℕ} → n ≡ r.vertices → us ≡ take r.edges r.us → vs ≡ take r.edges r.vs
+    → (states ≡ take r.edges r.book.states) × (length states ≡ r.edges)
+    → room_fault (rooms.graph_of n us vs states) r.count (rooms.states_in states) ≡ fault_of r
+fault_taken r en eu ev es =
+    let states_are : length (take r.edges r.book.states) ≡ r.edges = rw es.0 at es.1 in
+    rw (en, eu, ev, es.0, states_are)
+    (room_ends r.vertices r.edges (take r.edges r.us) (take r.edges r.vs) r.us r.vs r.count (rooms.states_in (take r.edges r.book.states))
+    (λ i h. get_or-take r.edges r.us i 0 h)
+    (λ i h. get_or-take r.edges r.vs i 0 h)
+    ∙ room_agrees (graph_of r) r.count (rooms.states_in (take r.edges r.book.states)) (rooms.states_in r.book.states) (λ i h. get_or-take r.edges r.book.states i 0 h))
 
-  pub ask_refused : (buffer : List ℕ) → code ≢ 0
-      → (case_answer.Refused code ≡ answer_of (ask_of r (length buffer))) × (buffer ≡ written (ask_of r (length buffer)) buffer)
-  ask_refused buffer z = simp (sym q, ne_eqb code 0 z) (refl, refl)
-
-  module _ (z : code ≡ 0) where
-    pub room_ready : Ready r.vertices r.edges r.us r.vs r.book
-    room_ready = ready r.vertices r.edges r.us r.vs r.book (sym q ∙ z)
-
-    pub next_stops : (next n : ℕ) (b : Book) → n ≡ next → n ≢ 0 → answer n r ≡ answered (first_code (room_code r) next) r b
-    next_stops next n b e k = rw (← q, first_passes code next z, ← e, ne_eqb n 0 k)
-
-    pub accepted : (next n : ℕ) (b : Book) → n ≡ next → n ≡ 0 → answer 0 (onto r b) ≡ answered (first_code (room_code r) next) r b
-    accepted next n b e k = rw (← q, first_passes code next z, ← e, k)
-
-    module _ (s : length r.book.states ≡ most_borders) (l : length r.book.names ≡ most_borders) where
-      places : Places r.edges r.book
-      places = record { few = room_ready.fits.few_edges; states_are = s; names_are = l }
-
-      pub placing : (es : List ℕ) (n : ℕ) → n ≡ stroke_code r.edges (state_at r.book.states) (decisions es) → n ≡ 0 → Placeable r.book es
-      placing es n p k = placeable r.edges none_given r.book room_ready.holds places es (sym p ∙ k)
-
-      pub taking : Takeable r.book
-      taking = takeable r.edges none_given r.book room_ready.holds places
-
-    pub ask_short : (buffer : List ℕ) → length buffer < r.edges
-        → (case_answer.Refused 6 ≡ answer_of (ask_of r (length buffer))) × (buffer ≡ written (ask_of r (length buffer)) buffer)
-    ask_short buffer h = simp (sym q, z, lt-leb r.edges (length buffer) h) (refl, refl)
-
-    -- what is found says which answer it is
-    module _ (buffer buffer' : List ℕ) (h : r.edges ≤ length buffer) (f : Found) (t : Told (fault_of r) buffer buffer' f) where
-      asked : ask_of r (length buffer) ≡ found (fault_of r)
-      asked = simp (sym q, z, le-leb r.edges (length buffer) h)
-
-      stored : buffer' ≡ written (ask_of r (length buffer)) buffer
-      stored = rw asked t.stored
-
-      pub ask_fault : (n : ℕ) → f ≡ case_found.Fault n → (case_answer.Fault n ≡ answer_of (ask_of r (length buffer))) × (buffer' ≡ written (ask_of r (length buffer)) buffer)
-      ask_fault n e = (rw asked (says (fault_of r) (sym e ∙ t.answer)), stored)
-        where
-          says : (o : Option (List ℕ)) → case_found.Fault n ≡ found_of o → case_answer.Fault n ≡ answer_of (found o)
-          says none e = absurd (let z : ◌≡◌ {A = ℕ} 0 1 = cc in omega arith)
-          says (some l) e = let q : n ≡ length l = cc in ap case_answer.Fault q
-
-      pub ask_clear : ((n : ℕ) → f ≡ case_found.Fault n → ⊥) → (case_answer.Clear ≡ answer_of (ask_of r (length buffer))) × (buffer' ≡ written (ask_of r (length buffer)) buffer)
-      ask_clear e = (rw asked (says (fault_of r) f e t.answer), stored)
-        where
-          says : (o : Option (List ℕ)) (f : Found) → ((n : ℕ) → f ≡ case_found.Fault n → ⊥) → f ≡ found_of o → case_answer.Clear ≡ answer_of (found o)
-          says none f e k = refl
-          says (some l) f e k = absurd (e (length l) k)
+-- what is found is what the ask comes to
+pub asked : (r : CityCountConstraint) {buffer buffer' : List ℕ} {f : std.Option ℕ} → room_code r ≡ 0 → r.edges ≤ length buffer → {o : Option (List ℕ)} → o ≡ fault_of r
+    → Finds o buffer buffer' f → Answers (ask_of r (length buffer)) (Ok f) × (buffer' ≡ written (ask_of r (length buffer)) buffer)
+asked r {buffer} z h {o} e k =
+    let a : ask_of r (length buffer) ≡ found o = simp (z, le-leb r.edges (length buffer) h, sym e) in
+    rw (a, k.answer) (says o, k.stored)
+  where
+    says : (o : Option (List ℕ)) → ask_plain (Ok (length_found o)) ≡ answer_plain (found o)
+    says none = refl
+    says (some l) = refl
 
 -- an ask of a record that holds together, with a long enough buffer
 pub ask_accepted : (r : CityCountConstraint) (places : ℕ) → room_code r ≡ 0 → r.edges ≤ places → ask_of r places ≡ found (fault_of r)

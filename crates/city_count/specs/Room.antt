@@ -1,10 +1,12 @@
 -- What a room graph's calls answer (SPEC 1.8, 3.1 to 3.6, 4.14, 12): the ledger's answers, around a graph and a count. Assumes nothing.
-use Rattle.std.specs.Prelude.{ℕ, ◌≡◌, Bool, List, eqb, ltb, leb, length, get_or}
+use Rattle.std.specs.Prelude.{ℕ, Bool, List, eqb, ltb, leb, length, get_or, Result, Ok, Err}
 use Rattle.std.proofs.Math.Option.{Option}
 use Rattle.std.proofs.lemmas.List.Edits.{sets}
 use Rattle.limits.specs.Limits.{most_cells, most_borders}
 use Rattle.lists.specs.Choice.{both, pick}
 use Rattle.lists.specs.Lists.{range, all}
+use Rattle.answers.specs.declared.Refusal.{Refusal}
+use Rattle.answers.specs.Refusals.{number_of}
 use Rattle.answers.specs.Answers.{Outcome, refused, found}
 use Rattle.ledger.specs.declared.Book.{Book}
 use Rattle.ledger.specs.Ledger.{Decision, single, stroke_code, undo_code, first_code}
@@ -55,6 +57,11 @@ make_of n us vs count =
     (pick (ends_exist n (length us) us vs) (answer 0 (fresh_room n (length us) (sets zeros 0 us) (sets zeros 0 vs) count)) (answer 3 zero_room))
     (answer 1 zero_room)
 
+-- what a making answers, as a record: a refused one returns zeros
+abbrev pub made : Result CityCountConstraint Refusal → Decided
+made (Ok r) = answer 0 r
+made (Err refusal) = answer (number_of refusal) zero_room
+
 -- the graph with another book
 abbrev pub onto : CityCountConstraint → Book → CityCountConstraint
 onto r b = room_of r.vertices r.edges r.us r.vs r.count b
@@ -86,10 +93,3 @@ ask_code r places = first_code (room_code r) (pick (leb r.edges places) 0 6)
 -- what an ask comes to
 abbrev pub ask_of : CityCountConstraint → ℕ → Outcome
 ask_of r places = pick (eqb (ask_code r places) 0) (found (fault_of r)) (refused (ask_code r places))
-
--- the arrays have their places
-pub record Sized (us vs s l : List ℕ) : Type 0 where
-  pub us_sized : length us ≡ most_borders
-  pub vs_sized : length vs ≡ most_borders
-  pub states_sized : length s ≡ most_borders
-  pub names_sized : length l ≡ most_borders

@@ -1,21 +1,23 @@
-// The room count (`CityCountConstraint`): a room graph with its count and a ledger over its edges. Making, stroke, decide, undo and ask on a
-// record by value; the check itself works on lent slices.
+// The room count (`CityCountConstraint`): a room graph with its count and a ledger over its edges. Making, stroke, decide, undo and ask where a
+// graph stands, and on a record by value.
 #![tactic(auto)]
 
-ghost use Rattle.std.specs.Prelude.{◌≡◌, ◌≤◌, length, eqb};
+ghost use Rattle.std.specs.Prelude.{◌≡◌, ◌≤◌, length, take, ltb};
 ghost use Rattle.std.proofs.lemmas.List.Edits.{sets};
 ghost use Rattle.limits.specs.Limits.{most_cells, most_borders};
-ghost use Rattle.lists.specs.Lists.{range, all};
-ghost use Rattle.answers.specs.Answers.{answer_of, written, Told};
+ghost use Rattle.lists.specs.Lists.{all};
+ghost use Rattle.answers.specs.Answers.{answer_of, written, Finds};
+ghost use Rattle.answers.specs.Refusals.{code_of, Answers};
 ghost use Rattle.ledger.specs.Ledger.{decisions, state_for};
-ghost use Rattle.ledger.specs.Books.{book};
+ghost use Rattle.ledger.specs.Books.{zeros};
 ghost use Rattle.borders.specs.Entry.{entry_of};
-ghost use Rattle.room_parts.specs.Graph.{graph, states_in, Lent};
+ghost use Rattle.room_parts.specs.Graph.{graph_of, states_in};
 ghost use Rattle.city_count.specs.Fault.{entries_of, room_fault};
-ghost use Rattle.city_count.specs.Room.{below, ends_exist, check_of, room_code, zero_room, answer, make_of, stroke_of, decide_of, undo_of, ask_of, Sized};
+ghost use Rattle.city_count.specs.Room.{ends_exist, room_code, fresh_room, answer, made, make_of, stroke_of, decide_of, undo_of, ask_of};
 
-use answers::{Answer, Found};
+use answers::{Answer, Refusal};
 use ledger::Book;
+use room_parts::RoomGraph;
 
 // Edge i is between the vertices us[i] and vs[i]; the first `edges` places count. The book is over the edges.
 #[repr(C)]
@@ -37,215 +39,197 @@ pub struct Decided {
     pub room: CityCountConstraint,
 }
 
-// Whether an edge of this state is Wall, or Connected.
-fn stands(state: u8, wall: bool) -> bool
-    ensures { result ≡ eqb state (state_for wall) }
-{
-    if wall {
-        return state == 2;
+impl CityCountConstraint {
+    // A graph of so many vertices and edges, all undecided, whose ends are all vertex 0.
+    fn empty(vertices: usize, edges: usize, count: u32) -> CityCountConstraint
+        ensures { result ≡ fresh_room vertices edges zeros zeros count }
+    {
+        CityCountConstraint {
+            vertices,
+            edges,
+            us: [0; limits::BORDERS],
+            vs: [0; limits::BORDERS],
+            count,
+            book: Book {
+                states: [0; limits::BORDERS],
+                names: [0; limits::BORDERS],
+                len: 0,
+            },
+        }
     }
-    state == 1
+
+    // A room graph of `n` vertices with an edge between us[i] and vs[i] for each i, all undecided.
+    pub fn new(n: usize, us: &[u16], vs: &[u16], count: u32) -> Result<CityCountConstraint, Refusal>
+        ensures { made result ≡ make_of n us.now vs.now count }
+    {
+        if limits::CELLS < n || limits::BORDERS < us.len() || us.len() != vs.len() {
+            return Err(Refusal::Size);
+        }
+        if !ends_exist(n, us, vs) {
+            return Err(Refusal::Missing);
+        }
+        let mut room = CityCountConstraint::empty(n, us.len(), count);
+        lists::copy(us, &mut room.us);
+        lists::copy(vs, &mut room.vs);
+        Ok(room)
+    }
+
+    // Questions 1 and 2: whether a record holds together.
+    pub fn check(&self) -> Result<(), Refusal>
+        ensures { code_of result ≡ room_code self.now }
+    {
+        if limits::CELLS < self.vertices || limits::BORDERS < self.edges {
+            return Err(Refusal::Size);
+        }
+        if !ends_exist(
+            self.vertices,
+            &self.us[..self.edges],
+            &self.vs[..self.edges],
+        ) {
+            return Err(Refusal::Record);
+        }
+        let mut marks = [0u8; limits::BORDERS];
+        if !self.book.holds(self.edges, &mut marks) {
+            return Err(Refusal::Record);
+        }
+        Ok(())
+    }
+
+    // The graph with its edges' states.
+    fn graph(&self) -> RoomGraph<'_>
+        requires { room_code self.now ≡ 0 }
+        ensures vertices { result.vertices ≡ self.now.vertices }
+        ensures ends { (result.us.now ≡ take self.now.edges self.now.us) × (result.vs.now ≡ take self.now.edges self.now.vs) }
+        ensures states { (result.states.now ≡ take self.now.edges self.now.book.states) × (length result.states.now ≡ self.now.edges) }
+    {
+        RoomGraph {
+            vertices: self.vertices,
+            us: &self.us[..self.edges],
+            vs: &self.vs[..self.edges],
+            states: &self.book.states[..self.edges],
+        }
+    }
+
+    // Decides the edges of a stroke, all or none: a refusal leaves the graph as it was.
+    pub fn stroke(&mut self, entries: &[u16]) -> Result<(), Refusal>
+        ensures { answer (code_of result) self.new ≡ stroke_of self.old (decisions entries.now) }
+    {
+        self.check()?;
+        self.book.stroke(entries, self.edges)
+    }
+
+    // Decides an edge as Wall or Connected: a stroke of one.
+    pub fn decide(&mut self, edge: usize, wall: bool) -> Result<(), Refusal>
+        ensures { answer (code_of result) self.new ≡ decide_of self.old edge wall }
+    {
+        self.stroke(&[ledger::entry_of(edge, wall)])
+    }
+
+    // Takes the whole last stroke back: of a graph that calls have made, the very record before it is there again.
+    pub fn undo(&mut self) -> Result<(), Refusal>
+        ensures { answer (code_of result) self.new ≡ undo_of self.old }
+    {
+        self.check()?;
+        self.book.undo()
+    }
+
+    // The room check: clear, or a fault whose list fills the buffer's front.
+    pub fn ask(&self, buffer: &mut [u16]) -> Result<Option<usize>, Refusal>
+        ensures value { Answers (ask_of self.now (length buffer.old)) result }
+        ensures buffer_after { buffer.new ≡ written (ask_of self.now (length buffer.old)) buffer.old }
+    {
+        self.check()?;
+        if buffer.len() < self.edges {
+            return Err(Refusal::ShortBuffer);
+        }
+        Ok(find(self.graph(), self.count as usize, buffer))
+    }
 }
 
 // Writes the entries of all Walls, or of all Connected edges, to the buffer's front, and returns how many there are.
-fn list(m: usize, states: &[u8], wall: bool, buffer: &mut [u16]) -> usize
-    requires { (m ≤ most_borders) × (m ≤ length states.now) × (m ≤ length buffer.old) }
-    ensures value { result ≡ length (entries_of (entry_of wall) (state_for wall) m (states_in states.now)) }
-    ensures buffer_after { buffer.new ≡ sets buffer.old 0 (entries_of (entry_of wall) (state_for wall) m (states_in states.now)) }
+fn list(states: &[u8], wall: bool, buffer: &mut [u16]) -> usize
+    requires { (length states.now ≤ most_borders) × (length states.now ≤ length buffer.old) }
+    ensures value { result ≡ length (entries_of (entry_of wall) (state_for wall) (length states.now) (states_in states.now)) }
+    ensures buffer_after { buffer.new ≡ sets buffer.old 0 (entries_of (entry_of wall) (state_for wall) (length states.now) (states_in states.now)) }
 {
+    let kind = if wall { 2 } else { 1 };
     let mut n = 0;
-    let mut i = 0;
-    while i < m {
-        if stands(states[i], wall) {
+    for (i, &state) in states.iter().enumerate() {
+        if state == kind {
             buffer[n] = borders::entry(i, wall);
             n += 1;
         }
-        i += 1;
     }
     n
 }
 
-// The check of a graph whose edges have these states: a fault's list goes to the buffer's front.
-fn find<'a>(
-    n: usize,
-    m: usize,
-    us: &'a [u16],
-    vs: &'a [u16],
-    states: &'a [u8],
-    count: usize,
-    buffer: &mut [u16],
-) -> Found
-    requires lent { Lent n m us.now vs.now states.now }
-    requires m_in_bounds { m ≤ length buffer.old }
-    ensures { Told (room_fault (graph n m us.now vs.now) count (states_in states.now)) buffer.old buffer.new result }
+// The check of a graph: a fault's list goes to the buffer's front.
+fn find(graph: RoomGraph<'_>, count: usize, buffer: &mut [u16]) -> Option<usize>
+    requires { length graph.states.now ≤ length buffer.old }
+    ensures { Finds (room_fault (graph_of graph.entry.vertices graph.entry.us.now graph.entry.vs.now graph.entry.states.now) count
+        (states_in graph.entry.states.now)) buffer.old buffer.new result }
 {
-    if room_parts::tipped(n, m, us, vs, states, count) {
-        return Found::Fault(list(m, states, false, buffer));
+    if graph.tipped(count) {
+        return Some(list(graph.states, false, buffer));
     }
-    if room_parts::outnumber(n, m, us, vs, states, count) {
-        return Found::Fault(list(m, states, true, buffer));
+    if graph.outnumbers(count) {
+        return Some(list(graph.states, true, buffer));
     }
-    Found::Nothing
+    None
 }
 
-// Is each of the first `m` numbers below `n`? The loop has no way out before its end, so that it is compiled to take many numbers at a time.
-fn all_below(n: usize, m: usize, xs: &[u16]) -> bool
-    requires { (n ≤ most_cells) × (m ≤ length xs.now) }
-    ensures { result ≡ all (below n xs.now) (range m) }
+// Is each number below `n`? The loop has no way out before its end, so that it is compiled to take many numbers at a time.
+fn all_below(n: usize, xs: &[u16]) -> bool
+    requires { n ≤ most_cells }
+    ensures { result ≡ all (λ x. ltb x n) xs.now }
 {
     let end = n as u16;
     let mut fine = true;
-    let mut i = 0;
-    while i < m {
-        if end <= xs[i] {
+    for &x in xs {
+        if end <= x {
             fine = false;
         }
-        i += 1;
     }
     fine
 }
 
-// Is each end of the first `m` edges one of the `n` vertices?
-fn ends_exist<'a>(n: usize, m: usize, us: &'a [u16], vs: &'a [u16]) -> bool
-    requires { (n ≤ most_cells) × (m ≤ length us.now) × (m ≤ length vs.now) }
-    ensures { result ≡ ends_exist n m us.now vs.now }
+// Is each end of the edges one of the `n` vertices?
+fn ends_exist(n: usize, us: &[u16], vs: &[u16]) -> bool
+    requires { (n ≤ most_cells) × (length us.now ≡ length vs.now) }
+    ensures { result ≡ ends_exist n (length us.now) us.now vs.now }
 {
-    if !all_below(n, m, us) {
-        return false;
-    }
-    all_below(n, m, vs)
+    all_below(n, us) && all_below(n, vs)
 }
 
-// Questions 1 and 2 of a room graph's parts: the number, or 0.
-fn check_parts<'a>(
-    n: usize,
-    m: usize,
-    us: &'a [u16],
-    vs: &'a [u16],
-    states: &'a [u8],
-    names: &'a [u16],
-    len: usize,
-) -> u8
-    requires { Sized us.now vs.now states.now names.now }
-    ensures { result ≡ check_of n m us.now vs.now (book states.now names.now len) }
+// The calls on a record by value. The answer is made first and changed where it stands: the record's 14 KB are copied in and
+// out, and not once more.
+
+// A room graph, or refused with a record of zeros.
+pub fn make<'a>(n: usize, us: &'a [u16], vs: &'a [u16], count: u32) -> Decided
+    ensures { result ≡ make_of n us.now vs.now count }
 {
-    if limits::CELLS < n {
-        return 1;
+    match CityCountConstraint::new(n, us, vs, count) {
+        Ok(room) => Decided { code: 0, room },
+        Err(refusal) => Decided {
+            code: u8::from(refusal),
+            room: CityCountConstraint::empty(0, 0, 0),
+        },
     }
-    if limits::BORDERS < m {
-        return 1;
-    }
-    if !ends_exist(n, m, us, vs) {
-        return 2;
-    }
-    let mut marks = [0u8; limits::BORDERS];
-    if ledger::book_holds(states, names, len, m, &mut marks) {
-        return 0;
-    }
-    2
 }
 
 // Whether a record holds together: 0, or the number of the question that refuses it, 1 or 2.
 pub fn check(r: CityCountConstraint) -> u8
     ensures { result ≡ room_code r }
 {
-    check_parts(
-        r.vertices,
-        r.edges,
-        &r.us,
-        &r.vs,
-        &r.book.states,
-        &r.book.names,
-        r.book.len,
-    )
+    answers::code_of(r.check())
 }
 
-// A refused making: a record whose every number is 0.
-fn unmade(code: u8) -> Decided
-    ensures { result ≡ answer code zero_room }
-{
-    Decided {
-        code,
-        room: CityCountConstraint {
-            vertices: 0,
-            edges: 0,
-            us: [0u16; limits::BORDERS],
-            vs: [0u16; limits::BORDERS],
-            count: 0,
-            book: Book {
-                states: [0u8; limits::BORDERS],
-                names: [0u16; limits::BORDERS],
-                len: 0,
-            },
-        },
-    }
-}
-
-// A room graph of `n` vertices with an edge between us[i] and vs[i] for each i, all undecided.
-pub fn make<'a>(n: usize, us: &'a [u16], vs: &'a [u16], count: u32) -> Decided
-    ensures { result ≡ make_of n us.now vs.now count }
-{
-    let m = us.len();
-    if limits::CELLS < n {
-        return unmade(1);
-    }
-    if limits::BORDERS < m {
-        return unmade(1);
-    }
-    if m != vs.len() {
-        return unmade(1);
-    }
-    if !ends_exist(n, m, us, vs) {
-        return unmade(3);
-    }
-    let mut firsts = [0u16; limits::BORDERS];
-    lists::copy(us, &mut firsts);
-    let mut seconds = [0u16; limits::BORDERS];
-    lists::copy(vs, &mut seconds);
-    Decided {
-        code: 0,
-        room: CityCountConstraint {
-            vertices: n,
-            edges: m,
-            us: firsts,
-            vs: seconds,
-            count,
-            book: Book {
-                states: [0u8; limits::BORDERS],
-                names: [0u16; limits::BORDERS],
-                len: 0,
-            },
-        },
-    }
-}
-
-// Decides the edges of a stroke, all or none. The answer is made first and changed where it stands.
+// Decides the edges of a stroke, all or none.
 pub fn stroke(r: CityCountConstraint, entries: &[u16]) -> Decided
     ensures { result ≡ stroke_of r (decisions entries.now) }
 {
-    let len = r.book.len;
     let mut out = Decided { code: 0, room: r };
-    let code = check_parts(
-        r.vertices,
-        r.edges,
-        &out.room.us,
-        &out.room.vs,
-        &out.room.book.states,
-        &out.room.book.names,
-        len,
-    );
-    if code != 0 {
-        out.code = code;
-        return out;
-    }
-    let number = ledger::stroke_code(&out.room.book.states, entries, r.edges);
-    if number != 0 {
-        out.code = number;
-        return out;
-    }
-    ledger::place_states(&mut out.room.book.states, entries);
-    ledger::place_names(&mut out.room.book.names, len, entries);
-    out.room.book.len = len + entries.len();
+    out.code = answers::code_of(out.room.stroke(entries));
     out
 }
 
@@ -253,74 +237,28 @@ pub fn stroke(r: CityCountConstraint, entries: &[u16]) -> Decided
 pub fn decide(r: CityCountConstraint, edge: usize, wall: bool) -> Decided
     ensures { result ≡ decide_of r edge wall }
 {
-    let one = [ledger::entry_of(edge, wall)];
-    stroke(r, &one)
-}
-
-// Takes the whole last stroke back: of a record that calls have made, the very record before it is there again.
-pub fn undo(r: CityCountConstraint) -> Decided
-    ensures { result ≡ undo_of r }
-{
-    let len = r.book.len;
     let mut out = Decided { code: 0, room: r };
-    let code = check_parts(
-        r.vertices,
-        r.edges,
-        &out.room.us,
-        &out.room.vs,
-        &out.room.book.states,
-        &out.room.book.names,
-        len,
-    );
-    if code != 0 {
-        out.code = code;
-        return out;
-    }
-    let number = ledger::undo_code(len);
-    if number != 0 {
-        out.code = number;
-        return out;
-    }
-    let from = ledger::start_of(&out.room.book.names, len);
-    let names = out.room.book.names;
-    ledger::clear_states(&mut out.room.book.states, &names, from, len);
-    ledger::clear_names(&mut out.room.book.names, from, len);
-    out.room.book.len = from;
+    out.code = answers::code_of(out.room.decide(edge, wall));
     out
 }
 
-// The room check: clear, or a fault whose list fills the buffer's front.
+// Takes the whole last stroke back.
+pub fn undo(r: CityCountConstraint) -> Decided
+    ensures { result ≡ undo_of r }
+{
+    let mut out = Decided { code: 0, room: r };
+    out.code = answers::code_of(out.room.undo());
+    out
+}
+
+// The room check, for callers that still take `Answer`.
 pub fn ask(r: CityCountConstraint, buffer: &mut [u16]) -> Answer
     ensures value { result ≡ answer_of (ask_of r (length buffer.old)) }
     ensures buffer_after { buffer.new ≡ written (ask_of r (length buffer.old)) buffer.old }
 {
-    let code = check_parts(
-        r.vertices,
-        r.edges,
-        &r.us,
-        &r.vs,
-        &r.book.states,
-        &r.book.names,
-        r.book.len,
-    );
-    if code != 0 {
-        return Answer::Refused(code);
+    match r.ask(buffer) {
+        Ok(None) => Answer::Clear,
+        Ok(Some(n)) => Answer::Fault(n),
+        Err(refusal) => Answer::Refused(u8::from(refusal)),
     }
-    if buffer.len() < r.edges {
-        return Answer::Refused(6);
-    }
-    let count = r.count as usize;
-    let found = find(
-        r.vertices,
-        r.edges,
-        &r.us,
-        &r.vs,
-        &r.book.states,
-        count,
-        buffer,
-    );
-    if let Found::Fault(n) = found {
-        return Answer::Fault(n);
-    }
-    Answer::Clear
 }

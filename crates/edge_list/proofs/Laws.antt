@@ -18,12 +18,6 @@ use Rattle.edge_list.specs.EdgeList.{firsts, seconds, held_of}
 abbrev pub none : Edge
 none = record { u = 0; v = 0 }
 
-pub held_places : (n : ℕ) → held_of n ≤ 1985
-held_places n = ⊎_elim (λ (h : n ≤ 1985). rw (le-leb n 1985 h) h) (λ (h : 1985 < n). rw (lt-leb n 1985 h) (omega arith)) (le_or_lt n 1985)
-
-pub held_edges : (n : ℕ) → held_of n ≤ n
-held_edges n = ⊎_elim (λ (h : n ≤ 1985). rw (le-leb n 1985 h) (omega arith)) (λ (h : 1985 < n). rw (lt-leb n 1985 h) (omega arith)) (le_or_lt n 1985)
-
 -- a place more is stored
 stored : (us xs : List ℕ) (i : ℕ) (x : ℕ) → i < length us → i < length xs → get_or xs i 0 ≡ x → take i us ≡ take i xs → take (i + 1) (set us i x) ≡ take (i + 1) xs
 stored us xs i x h k at e =
