@@ -22,7 +22,8 @@ use Rattle.grid.specs.Steps.{Step}
 use Rattle.grid.proofs.Geometry.{goes_step, one_pair, border_lt, cell_wide}
 use Rattle.boundary.proofs.Lengths.{when_most}
 use Rattle.rooms.specs.RoomGraph.{Spot, is_in, in_room, spots_at, spots, border_of}
-use Rattle.rooms.proofs.Places.{in_map, map_in, Rising, once}
+use Rattle.rooms.specs.Lent.{Rising}
+use Rattle.rooms.proofs.Places.{in_map, map_in, once}
 use Rattle.rooms.proofs.RoomLaws.{is_in_lem}
 
 -- WHAT IS GATHERED ONCE

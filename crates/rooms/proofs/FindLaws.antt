@@ -6,24 +6,25 @@ use mathlib.Core.List.{List, [], ◌∷◌, ◌++◌, map}
 use mathlib.Core.Option.{some}
 use native.Mathlib.Omega.{arith}
 use lib.Dec.{eqb, ltb}
-use lib.ListN.{length, get_or, length-map, length-replicate}
-use lib.Seq.{sets, length-sets}
+use lib.ListN.{length, get_or, take, length-map, length-replicate}
+use lib.Seq.{sets}
+use Rattle.std.proofs.lemmas.List.{length-take}
 use Rattle.limits.specs.Limits.{most_borders}
 use Rattle.lists.specs.Choice.{pick, when, give, or_else, through}
 use Rattle.lists.specs.Lists.{In, count_from, range, gather}
-use Rattle.lists.proofs.SetsLaws.{front_at}
+use Rattle.lists.proofs.SetsLaws.{front}
 use Rattle.grid.specs.declared.Grid.{Grid}
 use Rattle.grid.proofs.Geometry.{border_count_le}
 use Rattle.borders.specs.Border.{state_of}
 use Rattle.borders.specs.Entry.{entry_of, connected_entry, wall_entry}
-use Rattle.room_parts.specs.Graph.{Graph, graph, states_in, is_connected, not_wall, edges_if, parts_if, joined_parts, tipped_of, Lent}
+use Rattle.room_parts.specs.Graph.{Graph, graph, graph_of, states_in, is_connected, not_wall, edges_if, parts_if, joined_parts, tipped_of, Lent}
 use Rattle.city_count.specs.Fault.{entries_of, room_fault}
-use Rattle.rooms.specs.declared.Miscount.TheVariants.{Nothing, Listed}
+use Rattle.std.specs.Prelude.{Some, None}
 use Rattle.rooms.specs.RoomGraph.{Spot, spots, from_of, into_of, border_of, room_graph, room_borders, edge_state, on_board, room_list, side_of, kind_of, room_entries, side_list}
-use Rattle.rooms.specs.Lent.{blank, marked_in, Housed, Space, Written}
+use Rattle.rooms.specs.Lent.{blank, marked_in, Housed, Written}
 use Rattle.rooms.proofs.Places.{at_place, place_of}
 use Rattle.rooms.proofs.FewEdges.{edges_few, spot_ends}
-use Rattle.rooms.proofs.HouseLaws.{few, inside, rising}
+use Rattle.rooms.proofs.HouseLaws.{few}
 
 -- GRAPHS THAT ARE THE SAME WHERE IT MATTERS
 module _ (g h : Graph) (s t : ℕ → ℕ) (vertices : g.vertices ≡ h.vertices) (edges : g.edges ≡ h.edges)
@@ -42,74 +43,101 @@ module _ (g h : Graph) (s t : ℕ → ℕ) (vertices : g.vertices ≡ h.vertices
   unfolding side_of tipped_of
   side_same count = cc (vertices, parts_same is_connected, parts_same not_wall)
 
--- an array with nothing written
-blank_length : length blank ≡ 2048
-unfolding blank
-blank_length = length-replicate {A = ℕ} 2048 0
-
-pub blank_space : Space blank blank blank 2048
-blank_space = let l = blank_length in record { us_long = omega arith; vs_long = omega arith; here_long = omega arith }
-
 -- THE ROOM'S GRAPH IN ARRAYS
 module _ (g : Grid) (marks states cs : List ℕ) (w : Housed g marks states cs) (us vs here : List ℕ) (m : ℕ)
     (o : Written g (marked_in marks) states cs blank blank blank us vs here m) where
   abbrev ss : List Spot
   ss = spots g (marked_in marks) cs
 
-  few_edges : m ≤ most_borders
-  few_edges = omega (arith, o.count_is, edges_few g (marked_in marks) cs (inside _ _ _ _ w) (rising _ _ _ _ w), border_count_le g w.limits)
+  few_edges : length ss ≤ most_borders
+  few_edges = omega (arith, edges_few g (marked_in marks) cs w.inside w.rising, border_count_le g w.limits)
 
-  -- what stands at a place in front
-  edge_front : (f : Spot → ℕ) (l : List ℕ) → l ≡ sets blank 0 (map f ss) → (i : ℕ) → i < m → get_or l i 0 ≡ get_or (map f ss) i 0
-  edge_front f l q i h =
-      let n : length (map f ss) ≡ length ss = length-map ss f in
-      ap (λ (x : List ℕ). get_or x i 0) q ∙ front_at blank (map f ss) i (omega (arith, few_edges, o.count_is, blank_length)) (omega (arith, o.count_is))
+  -- what stands in front
+  front_is : (f : Spot → ℕ) {l : List ℕ} → l ≡ sets blank 0 (map f ss) → take m l ≡ map f ss
+  unfolding blank
+  front_is f e =
+      let n : length (map f ss) ≡ m = omega (arith, length-map ss f, o.count_is) in
+      rw (e, ← n) (front blank (map f ss) (omega (arith, o.count_is, few_edges, length-replicate {A = ℕ} 2048 0)))
 
-  array_long : (f : Spot → ℕ) (l : List ℕ) → l ≡ sets blank 0 (map f ss) → m ≤ length l
-  array_long f l q = rw q (omega (arith, few_edges, blank_length, length-sets blank 0 (map f ss)))
+  us_are : take m us ≡ map (from_of cs) ss
+  us_are = front_is (from_of cs) o.us_are
+
+  vs_are : take m vs ≡ map (into_of g cs) ss
+  vs_are = front_is (into_of g cs) o.vs_are
+
+  here_are : take m here ≡ map (λ s. get_or states (border_of g s) 0) ss
+  here_are = front_is (λ s. get_or states (border_of g s) 0) o.here_are
+
+  -- a place for each, and as many as there are edges
+  taken : (f : Spot → ℕ) {l : List ℕ} → l ≡ sets blank 0 (map f ss) → (m ≤ length l) × (m ≡ length (take m l))
+  taken f {l} e =
+      let n : length (take m l) ≡ m = rw (front_is f e) (length-map ss f ∙ sym o.count_is) in
+      (omega (arith, n, length-take m l), sym n)
+
+  pub us_taken : (m ≤ length us) × (m ≡ length (take m us))
+  us_taken = taken (from_of cs) o.us_are
+
+  pub vs_taken : (m ≤ length vs) × (m ≡ length (take m vs))
+  vs_taken = taken (into_of g cs) o.vs_are
+
+  pub states_taken : (m ≤ length here) × (m ≡ length (take m here))
+  states_taken = taken (λ s. get_or states (border_of g s) 0) o.here_are
+
+  pub us_whole : length (take m us) ≡ length (take m here)
+  us_whole = rw (us_are, here_are) (length-map ss (from_of cs) ∙ sym (length-map ss (λ s. get_or states (border_of g s) 0)))
+
+  pub vs_whole : length (take m vs) ≡ length (take m here)
+  vs_whole = rw (vs_are, here_are) (length-map ss (into_of g cs) ∙ sym (length-map ss (λ s. get_or states (border_of g s) 0)))
 
   -- the ends of each edge are vertices
-  end_lt : (f : Spot → ℕ) → ((s : Spot) → In s ss → f s < length cs) → (l : List ℕ) → l ≡ sets blank 0 (map f ss) → (i : ℕ) → i < m → get_or l i 0 < length cs
-  end_lt f h l q i k = let x = at_place ss i (omega (arith, o.count_is)) in rw (edge_front f l q i k, x.2 f) (h x.0 x.1)
+  end_lt : (f : Spot → ℕ) → ((s : Spot) → In s ss → f s < length cs) → (i : ℕ) → i < length ss → get_or (map f ss) i 0 < length cs
+  end_lt f h i k = let x = at_place ss i k in rw (x.2 f) (h x.0 x.1)
 
-  pub array_lent : Lent (length cs) m us vs here
+  pub array_lent : Lent (length cs) (length (take m here)) (take m us) (take m vs) (take m here)
   array_lent =
-      record {
+      rw
+      (us_are, vs_are, here_are, length-map ss (λ s. get_or states (border_of g s) 0))
+      (record {
         few_vertices = few _ _ _ _ w;
         few_edges = few_edges;
-        us_long = array_long (from_of cs) us o.us_are;
-        vs_long = array_long (into_of g cs) vs o.vs_are;
-        states_long = array_long (λ s. get_or states (border_of g s) 0) here o.here_are;
-        us_exist = end_lt (from_of cs) (λ s i. (place_of cs _ (spot_ends g (marked_in marks) cs s i).0).0) us o.us_are;
-        vs_exist = end_lt (into_of g cs) (λ s i. (place_of cs _ (spot_ends g (marked_in marks) cs s i).1).0) vs o.vs_are;
-      }
+        us_long = omega (arith, length-map ss (from_of cs));
+        vs_long = omega (arith, length-map ss (into_of g cs));
+        states_long = omega (arith, length-map ss (λ s. get_or states (border_of g s) 0));
+        us_exist = end_lt (from_of cs) (λ s i. (place_of cs _ (spot_ends g (marked_in marks) cs s i).0).0);
+        vs_exist = end_lt (into_of g cs) (λ s i. (place_of cs _ (spot_ends g (marked_in marks) cs s i).1).0);
+      })
 
-  pub array_side : (count : ℕ) → side_of (graph (length cs) m us vs) count (states_in here)
+  array_side : (count : ℕ) → side_of (graph_of (length cs) (take m us) (take m vs) (take m here)) count (states_in (take m here))
       ≡ side_of (room_graph g (marked_in marks) cs) count (edge_state (room_borders g (marked_in marks) cs) (state_of states))
   unfolding room_graph room_borders
   array_side count =
-      side_same (graph (length cs) m us vs) (room_graph g (marked_in marks) cs) (states_in here) (edge_state (room_borders g (marked_in marks) cs) (state_of states)) refl o.count_is
-      (λ i h. edge_front (from_of cs) us o.us_are i (omega (arith, o.count_is)))
-      (λ i h. edge_front (into_of g cs) vs o.vs_are i (omega (arith, o.count_is)))
-      (λ i h.
-      let x = at_place ss i h in
-      edge_front (λ s. get_or states (border_of g s) 0) here o.here_are i (omega (arith, o.count_is)) ∙ x.2 (λ s. get_or states (border_of g s) 0) ∙ ap (state_of states) (sym (x.2 (border_of g)))) count
+      rw
+      (us_are, vs_are, here_are, length-map ss (λ s. get_or states (border_of g s) 0))
+      (side_same (graph (length cs) (length ss) (map (from_of cs) ss) (map (into_of g cs) ss)) (room_graph g (marked_in marks) cs)
+      (states_in (map (λ s. get_or states (border_of g s) 0) ss))
+      (edge_state (room_borders g (marked_in marks) cs) (state_of states))
+      refl
+      refl
+      (λ i h. refl)
+      (λ i h. refl)
+      (λ i h. let x = at_place ss i h in x.2 (λ s. get_or states (border_of g s) 0) ∙ ap (state_of states) (sym (x.2 (border_of g))))
+      count)
 
   -- the three answers
-  pub joined : (count : ℕ) (t : Bool) → t ≡ tipped_of (graph (length cs) m us vs) count (states_in here) → t ≡ true
-      → Listed false ≡ side_of (room_graph g (marked_in marks) cs) count (edge_state (room_borders g (marked_in marks) cs) (state_of states))
+  pub joined : (count : ℕ) (t : Bool) → t ≡ tipped_of (graph_of (length cs) (take m us) (take m vs) (take m here)) count (states_in (take m here)) → t ≡ true
+      → Some false ≡ side_of (room_graph g (marked_in marks) cs) count (edge_state (room_borders g (marked_in marks) cs) (state_of states))
   unfolding side_of
-  joined count t q h = let e : Listed false ≡ side_of (graph (length cs) m us vs) count (states_in here) = rw (sym q ∙ h) in e ∙ array_side count
+  joined count t q h = let e : Some false ≡ side_of (graph_of (length cs) (take m us) (take m vs) (take m here)) count (states_in (take m here)) = rw (sym q ∙ h) in e ∙ array_side count
 
-  module _ (count : ℕ) (t : Bool) (q : t ≡ tipped_of (graph (length cs) m us vs) count (states_in here)) (h : t ≡ false) (u : Bool)
-      (p : u ≡ ltb count (joined_parts (graph (length cs) m us vs) (states_in here))) where
-    pub parted : u ≡ true → Listed true ≡ side_of (room_graph g (marked_in marks) cs) count (edge_state (room_borders g (marked_in marks) cs) (state_of states))
+  module _ (count : ℕ) (t : Bool) (q : t ≡ tipped_of (graph_of (length cs) (take m us) (take m vs) (take m here)) count (states_in (take m here))) (h : t ≡ false) (u : Bool)
+      (p : u ≡ ltb count (joined_parts (graph_of (length cs) (take m us) (take m vs) (take m here)) (states_in (take m here)))) where
+    pub parted : u ≡ true → Some true ≡ side_of (room_graph g (marked_in marks) cs) count (edge_state (room_borders g (marked_in marks) cs) (state_of states))
     unfolding side_of
-    parted k = let e : Listed true ≡ side_of (graph (length cs) m us vs) count (states_in here) = rw (sym q ∙ h, sym p ∙ k) in e ∙ array_side count
+    parted k = let e : Some true ≡ side_of (graph_of (length cs) (take m us) (take m vs) (take m here)) count (states_in (take m here)) = rw (sym q ∙ h, sym p ∙ k) in e ∙ array_side count
 
-    pub neither : u ≡ false → Nothing ≡ side_of (room_graph g (marked_in marks) cs) count (edge_state (room_borders g (marked_in marks) cs) (state_of states))
+    pub neither : u ≡ false → None ≡ side_of (room_graph g (marked_in marks) cs) count (edge_state (room_borders g (marked_in marks) cs) (state_of states))
     unfolding side_of
-    neither k = let e : Nothing ≡ side_of (graph (length cs) m us vs) count (states_in here) = rw (sym q ∙ h, sym p ∙ k) in e ∙ array_side count
+    neither k = let e : None ≡ side_of (graph_of (length cs) (take m us) (take m vs) (take m here)) count (states_in (take m here)) = rw (sym q ∙ h, sym p ∙ k) in e ∙ array_side count
 
 -- WHAT IS LISTED
 gather_up : (f : ℕ → List ℕ) (a n : ℕ) → gather f (count_from (suc a) n) ≡ gather (λ i. f (suc i)) (count_from a n)
@@ -165,7 +193,7 @@ module _ (g : Grid) (given : ℕ → Bool) (cs : List ℕ) (s : ℕ → ℕ) whe
   unfolding side_of room_list room_fault through or_else give
   side_list_lem count = go (tipped_of (room_graph g given cs) count (edge_state borders s)) (ltb count (joined_parts (room_graph g given cs) (edge_state borders s)))
     where
-      go : (t u : Bool) → side_list g given cs s (pick t (Listed false) (pick u (Listed true) Nothing))
+      go : (t u : Bool) → side_list g given cs s (pick t (Some false) (pick u (Some true) None))
           ≡ through (or_else (give t (entries_of connected_entry 1 (room_graph g given cs).edges (edge_state borders s))) (give u (entries_of wall_entry 2 (room_graph g given cs).edges (edge_state borders s)))) (λ l. some (map (on_board borders) l))
       go true u = ap some (sym (entries_board false))
       go false true = ap some (sym (entries_board true))

@@ -17,6 +17,7 @@ use Rattle.grid.specs.declared.Grid.{Grid}
 use Rattle.grid.specs.Grid.{cells}
 use Rattle.groups.specs.Groups.{cells_in, cells_of}
 use Rattle.rooms.specs.RoomGraph.{place}
+use Rattle.rooms.specs.Lent.{Rising}
 
 -- THROUGH FUNCTIONS
 module _ {A : Type 0} where
@@ -44,9 +45,6 @@ module _ {A B : Type 0} (f : A → B) where
   map_in (y ∷ ys) x (inr m) = inr (map_in ys x m)
 
 -- RISING LISTS
-abbrev pub Rising : List ℕ → Type 0
-Rising xs = (i j : ℕ) → i < j → j < length xs → get_or xs i 0 < get_or xs j 0
-
 -- rising, from a on
 abbrev Above : ℕ → List ℕ → Type 0
 Above a [] = Unit {0}

@@ -29,7 +29,8 @@ use Rattle.rooms.specs.Rooms.{is_given, room_ids, room_cells}
 use Rattle.rooms.specs.RoomGraph.{Spot, spots, place, from_of, into_of, border_of, room_graph, room_borders, edge_state}
 use Rattle.rooms.specs.Units.{InRoom, GivenWalls, HoldsUnits}
 use Rattle.room_parts.proofs.EdgeLaws.{in_edges, edges_in}
-use Rattle.rooms.proofs.Places.{at_place, place_at, in_map, map_in, Rising, cells_rising, kept_rising, place_of, rising_place, once, no_longer}
+use Rattle.rooms.specs.Lent.{Rising}
+use Rattle.rooms.proofs.Places.{at_place, place_at, in_map, map_in, cells_rising, kept_rising, place_of, rising_place, once, no_longer}
 use Rattle.rooms.proofs.RoomLaws.{same_room, in_room_cells, room_cells_in, Inside, spot_inside, inside_spot}
 
 -- COUNTING PARTS BY THEIR FIRST VERTICES

@@ -1,14 +1,16 @@
 -- What the functions over lent slices ask and promise. Assumes nothing.
-use Rattle.std.specs.Prelude.{ℕ, suc, ◌≤◌, ◌<◌, ◌≡◌, Bool, not, List, [], ◌∷◌, map, eqb, length, get_or, set, replicate}
+use Rattle.std.specs.Prelude.{ℕ, suc, ◌≤◌, ◌<◌, ◌≡◌, Bool, not, List, [], ◌∷◌, map, eqb, length, get_or, set, replicate, Option, Some, None}
+use Rattle.lists.specs.Choice.{pick}
 use Rattle.std.proofs.lemmas.List.Edits.{sets}
 use Rattle.limits.specs.Limits.{most_borders, most_cells}
 use Rattle.lists.specs.Lists.{In}
 use Rattle.grid.specs.declared.Grid.{Grid}
-use Rattle.grid.specs.Grid.{Limits, Cell, cells, border_count}
-use Rattle.groups.specs.Groups.{cells_of}
+use Rattle.grid.specs.Grid.{Limits, Cell, cells, border_count, next, border}
+use Rattle.grid.specs.declared.Direction.{Direction}
+use Rattle.grid.specs.declared.Neighbour.{Neighbour}
 use Rattle.groups.specs.Turn.{sizes_of}
 use Rattle.rooms.specs.Rooms.{room_ids, room_count}
-use Rattle.rooms.specs.RoomGraph.{spots, from_of, into_of, border_of}
+use Rattle.rooms.specs.RoomGraph.{in_room, spots, from_of, into_of, border_of}
 
 -- arrays with nothing written: marks of borders, vertices of cells, two edges for each cell
 unfoldable pub unmarked : List ℕ
@@ -59,27 +61,23 @@ pub record Roomed (g : Grid) (given ids sizes ids' sizes' : List ℕ) (count : �
 abbrev pub marked_in : List ℕ → ℕ → Bool
 marked_in marks e = not (eqb (get_or marks e 0) 0)
 
--- a mark for each border, a vertex or 0 for each cell, and a cell of the board
-pub record Looking (g : Grid) (marks vertex : List ℕ) (cell : ℕ) : Type 0 where
-  pub limits : Limits g
-  pub marks_long : border_count g ≤ length marks
-  pub vertex_long : cells g ≤ length vertex
-  pub inside : Cell g cell
+-- the edge there, or none
+abbrev pub edge_of : Grid → List ℕ → List ℕ → ℕ → Direction → Option Neighbour
+edge_of g marks vertex c d =
+    pick (in_room g (marked_in marks) (marked_in vertex) c d) (Some (record { cell = next g d c; border = border g d c })) None
 
--- a mark and a state for each border, and the cells of a room: those that have its number in some list
+-- each is greater than the one before
+abbrev pub Rising : List ℕ → Type 0
+Rising xs = (i j : ℕ) → i < j → j < length xs → get_or xs i 0 < get_or xs j 0
+
+-- a mark and a state for each border, and cells of the board in row order
 pub record Housed (g : Grid) (marks states cs : List ℕ) : Type 0 where
   pub limits : Limits g
   pub marks_long : border_count g ≤ length marks
   pub states_long : border_count g ≤ length states
-  pub ids : List ℕ
-  pub room : ℕ
-  pub cells_are : cs ≡ cells_of g ids room
-
--- three slices that have places for m edges
-pub record Space (us vs here : List ℕ) (m : ℕ) : Type 0 where
-  pub us_long : m ≤ length us
-  pub vs_long : m ≤ length vs
-  pub here_long : m ≤ length here
+  pub few_cells : length cs ≤ cells g
+  pub inside : (c : ℕ) → In c cs → Cell g c
+  pub rising : Rising cs
 
 -- the ends and states of a room's edges stand at the fronts; `count` is how many there are
 pub record Written (g : Grid) (given : ℕ → Bool) (states cs us vs here us' vs' here' : List ℕ) (count : ℕ) : Type 0 where

@@ -10,8 +10,8 @@ use Rattle.grid.specs.Orders.{forward}
 use Rattle.borders.specs.Entry.{entry_of}
 use Rattle.room_parts.specs.Graph.{Graph, graph, tipped_of, joined_parts, parts_if}
 use Rattle.city_count.specs.Fault.{room_fault}
-use Rattle.rooms.specs.declared.Miscount.{Miscount}
-use Rattle.rooms.specs.declared.Miscount.TheVariants.{Nothing, Listed}
+use Rattle.std.specs.Prelude as std
+use Rattle.std.specs.Prelude.{Some, None}
 
 -- a border, told from its upper or left cell
 pub record Spot : Type 0 where
@@ -79,9 +79,9 @@ room_list g given cs count s =
     through (room_fault (room_graph g given cs) count (edge_state borders s)) (λ l. some (map (on_board borders) l))
 
 -- FIND, THEN WRITE: which side of the count fails (SPEC 4.14), Walls or Connected edges, and the entries that are listed then
-unfoldable pub side_of : Graph → ℕ → (ℕ → ℕ) → Miscount
+unfoldable pub side_of : Graph → ℕ → (ℕ → ℕ) → std.Option Bool
 unfolding tipped_of parts_if
-side_of graph count s = pick (tipped_of graph count s) (Listed false) (pick (ltb count (joined_parts graph s)) (Listed true) Nothing)
+side_of graph count s = pick (tipped_of graph count s) (Some false) (pick (ltb count (joined_parts graph s)) (Some true) None)
 
 -- Wall or Connected, as a state
 abbrev pub kind_of : Bool → ℕ
@@ -92,6 +92,6 @@ unfoldable pub room_entries : Grid → (ℕ → Bool) → List ℕ → Bool → 
 unfolding gather when
 room_entries g given cs wall s = gather (λ x. when (eqb (s (border_of g x)) (kind_of wall)) (entry_of wall (border_of g x))) (spots g given cs)
 
-abbrev pub side_list : Grid → (ℕ → Bool) → List ℕ → (ℕ → ℕ) → Miscount → Option (List ℕ)
-side_list g given cs s Nothing = none
-side_list g given cs s (Listed wall) = some (room_entries g given cs wall s)
+abbrev pub side_list : Grid → (ℕ → Bool) → List ℕ → (ℕ → ℕ) → std.Option Bool → Option (List ℕ)
+side_list g given cs s None = none
+side_list g given cs s (Some wall) = some (room_entries g given cs wall s)
