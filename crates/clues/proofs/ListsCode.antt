@@ -1,5 +1,5 @@
 -- Questions 3, 7, 8 and 9 as the code puts them: a law for each answer; the sizes are those of the rooms. Assumes nothing.
-use Prim.Native.Nat.{ℕ, zero, suc, ◌<◌}
+use Prim.Native.Nat.{ℕ, zero, suc, ◌≤◌, ◌<◌}
 use mathlib.Core.Path.{◌≡◌, refl, ap, ap₂, sym, ◌∙◌}
 use mathlib.Core.Logic.{◌≢◌}
 use mathlib.Core.Bool.{Bool, true, false}
@@ -20,6 +20,7 @@ use Rattle.groups.specs.Turn.{sizes_of}
 use Rattle.groups.proofs.Counting.{sized_by}
 use Rattle.rooms.specs.Rooms.{room_ids, room_count, room_cells}
 use Rattle.rooms.specs.Lent.{Given, Places, Roomed}
+use Rattle.rooms.proofs.PutLaws.{sizes_there}
 use Rattle.rooms.proofs.RoomLaws.{rooms_few}
 use Rattle.clues.specs.Clues.{rises, fits_room, clues_fit, rooms_code, lists_code, clue_fits, all_fit}
 
@@ -38,15 +39,15 @@ module _ (g : Grid) (given clues : List ℕ) where
     unfolding lists_code
     by_rooms b = rw (a, b)
 
-  pub not_one_each : length clues ≢ room_count g given → 8 ≡ rooms_code g given clues
+  not_one_each : length clues ≢ room_count g given → 8 ≡ rooms_code g given clues
   not_one_each c = rw (ne_eqb (length clues) (room_count g given) c)
 
-  pub by_clues : length clues ≡ room_count g given → (t : Bool) → clues_fit g given clues ≡ t → pick t 0 9 ≡ rooms_code g given clues
+  by_clues : length clues ≡ room_count g given → (t : Bool) → clues_fit g given clues ≡ t → pick t 0 9 ≡ rooms_code g given clues
   by_clues c t d = rw (eq-eqb (length clues) (room_count g given) c, d)
 
 -- the test with the code's number of borders
-pub tested : (n m : ℕ) (l : List ℕ) (t : Bool) → n ≡ m → t ≡ all (λ e. ltb e n) l → all (λ e. ltb e m) l ≡ t
-tested n m l t q k = sym (k ∙ ap (λ x. all (λ e. ltb e x) l) q)
+pub tested : {n m : ℕ} (l : List ℕ) {t u : Bool} → n ≡ m → t ≡ all (λ e. ltb e n) l → t ≡ u → all (λ e. ltb e m) l ≡ u
+tested l q k e = sym (sym e ∙ k ∙ ap (λ x. all (λ e. ltb e x) l) q)
 
 pub walls_given : (g : Grid) (given : List ℕ) → Limits g → all (λ e. ltb e (border_count g)) given ≡ true → Given g given
 walls_given g given l a = record { limits = l; below = λ e m. ltb-true e (border_count g) (all_true (λ x. ltb x (border_count g)) given a e m) }
@@ -65,7 +66,7 @@ module _ (g : Grid) (given ids sizes ids' sizes' : List ℕ) (lent : Places g id
       rw o.sizes_are (front_at sizes (sizes_of (cells g) (room_ids g given) (room_count g given)) r (omega (arith, z.long, rooms_few g given, lent.sizes_long)) (omega (arith, z.long, o.count_is)))
       ∙ z.are r (omega (arith, o.count_is))
 
-  pub fits_same : all_fit sizes' clues ≡ clues_fit g given clues
+  fits_same : all_fit sizes' clues ≡ clues_fit g given clues
   unfolding all_fit clues_fit
   fits_same =
       ap (λ k. all (clue_fits sizes' clues) (range k)) o.count_is
@@ -73,3 +74,19 @@ module _ (g : Grid) (given ids sizes ids' sizes' : List ℕ) (lent : Places g id
       (λ r m.
       let h : r < length clues = omega (arith, in_range (room_count g given) r m, o.count_is) in
       ap₂ (λ c k. either (eqb c no_clue) (leb c k)) (other_default clues r 0 no_clue h) (room_size r h))
+
+-- the answers of questions 8 and 9, once the rooms are counted
+module _ (g : Grid) (given clues : List ℕ) (w : Given g given) {ids sizes ids' sizes' : List ℕ} {count : ℕ} (l : Places g ids sizes)
+    (o : Roomed g given ids sizes ids' sizes' count) where
+  pub other_count : length clues ≢ count → 8 ≡ rooms_code g given clues
+  other_count z = not_one_each g given clues (λ e. z (e ∙ sym o.count_is))
+
+  module _ (e : length clues ≡ count) where
+    counted : Roomed g given ids sizes ids' sizes' (length clues)
+    counted = rw e o
+
+    pub sizes_long : length clues ≤ length sizes'
+    sizes_long = sizes_there g given w l counted
+
+    pub by_sizes : (t : Bool) → all_fit sizes' clues ≡ t → pick t 0 9 ≡ rooms_code g given clues
+    by_sizes t q = by_clues g given clues counted.count_is t (sym (fits_same g given ids sizes ids' sizes' l clues counted) ∙ q)

@@ -1,34 +1,23 @@
--- The loops over given walls and clues: what is left to test, or to copy. Assumes nothing.
+-- The loops over given walls and clues: what is left to test. Assumes nothing.
 use Prim.Native.Nat.{ℕ, ◌+◌, ◌-◌, ◌≤◌, ◌<◌}
 use mathlib.Core.Path.{◌≡◌, refl, ap, ◌∙◌}
+use mathlib.Core.Logic.{◌≢◌}
 use mathlib.Core.Bool.{true, false}
 use mathlib.Core.List.{List, [], ◌∷◌}
 use native.Mathlib.Omega.{arith}
 use native.Mathlib.Numerals.{add-one}
-use borrow.Author.Tests.{lt-ltb, le-ltb}
-use lib.Dec.{ltb}
-use lib.ListN.{length, get_or, drop, length-drop, drop_of_length-le}
+use borrow.Author.Tests.{lt-ltb, le-ltb, lt-leb, le-leb, eq-eqb, ne_eqb}
+use lib.ListN.{length, get_or, drop, length-drop}
 use lib.Seq.{drop-cons}
-use Rattle.lists.specs.Lists.{all}
-use Rattle.clues.specs.Clues.{rises}
+use Rattle.limits.specs.Limits.{no_clue}
+use Rattle.lists.specs.Choice.{both}
+use Rattle.lists.specs.Lists.{all, count_from}
+use Rattle.lists.proofs.ListLaws.{all_step}
+use Rattle.clues.specs.Clues.{rises, clue_fits, all_fit}
 
 module _ (given : List ℕ) where
   rest_turn : (i : ℕ) → i < length given → drop i given ≡ get_or given i 0 ∷ drop (i + 1) given
   rest_turn i h = rw (drop-cons given i 0 h, add-one)
-
-  -- EACH BELOW n
-  module _ (n i : ℕ) where
-    pub exist_end : length given ≤ i → all (λ e. ltb e n) (drop i given) ≡ true
-    unfolding all
-    exist_end h = rw (drop_of_length-le given {i = i} h)
-
-    pub exist_stop : i < length given → n ≤ get_or given i 0 → all (λ e. ltb e n) (drop i given) ≡ false
-    unfolding all
-    exist_stop h k = rw (rest_turn i h, le-ltb (get_or given i 0) n k)
-
-    pub exist_turn : i < length given → get_or given i 0 < n → all (λ e. ltb e n) (drop i given) ≡ all (λ e. ltb e n) (drop (i + 1) given)
-    unfolding all
-    exist_turn h k = rw (rest_turn i h, lt-ltb (get_or given i 0) n k)
 
   -- RISING
   module _ (i : ℕ) (some : 1 ≤ i) where
@@ -55,3 +44,19 @@ module _ (given : List ℕ) where
         short [] k = unfold rises in refl
         short (x ∷ []) k = unfold rises in refl
         short (x ∷ y ∷ l) k = absurd (omega arith)
+
+-- CLUES
+module _ (sizes clues : List ℕ) (room : ℕ) (h : room < length clues)
+    (w : all (clue_fits sizes clues) (count_from room (length clues - room)) ≡ all_fit sizes clues) where
+  fit_step : both (clue_fits sizes clues room) (all (clue_fits sizes clues) (count_from (room + 1) (length clues - (room + 1)))) ≡ all_fit sizes clues
+  fit_step = rw (all_step (clue_fits sizes clues) (length clues) room h) at w
+
+  pub fit_stop : get_or clues room 0 ≢ no_clue → get_or sizes room 0 < get_or clues room 0 → false ≡ all_fit sizes clues
+  fit_stop z l = rw (ne_eqb (get_or clues room 0) no_clue z, lt-leb (get_or clues room 0) (get_or sizes room 0) l) at fit_step
+
+  pub fit_none : get_or clues room 0 ≡ no_clue → all (clue_fits sizes clues) (count_from (room + 1) (length clues - (room + 1))) ≡ all_fit sizes clues
+  fit_none e = rw (eq-eqb (get_or clues room 0) no_clue e) at fit_step
+
+  pub fit_small : get_or clues room 0 ≢ no_clue → get_or clues room 0 ≤ get_or sizes room 0
+      → all (clue_fits sizes clues) (count_from (room + 1) (length clues - (room + 1))) ≡ all_fit sizes clues
+  fit_small z l = rw (ne_eqb (get_or clues room 0) no_clue z, le-leb (get_or clues room 0) (get_or sizes room 0) l) at fit_step
