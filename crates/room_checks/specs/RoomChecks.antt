@@ -1,31 +1,25 @@
 -- The counts of the clued rooms, in their order: what is found first, answered and left in the buffer; what the functions ask and promise. Assumes nothing.
 use Rattle.std.specs.Prelude.{ℕ, ◌*◌, ◌≤◌, ◌<◌, ◌≡◌, Bool, List, eqb, length, get_or}
+use Rattle.std.specs.Prelude as std
+use Rattle.std.specs.Prelude.{Some, None}
 use Rattle.std.proofs.Math.Option.{Option, none, some}
 use Rattle.std.proofs.lemmas.List.Edits.{sets}
 use Rattle.limits.specs.Limits.{no_clue}
 use Rattle.lists.specs.Choice.{pick}
 use Rattle.lists.specs.Lists.{range, all, first}
 use Rattle.grid.specs.declared.Grid.{Grid}
-use Rattle.grid.specs.Grid.{Limits, cells, border_count}
-use Rattle.groups.specs.Info.{group_part}
-use Rattle.groups.specs.Lent.{Between}
+use Rattle.grid.specs.Grid.{cells, border_count}
 use Rattle.borders.specs.Border.{state_of}
 use Rattle.rooms.specs.Rooms.{is_given, room_count, room_cells}
 use Rattle.rooms.specs.RoomGraph.{room_entries, room_list}
 use Rattle.rooms.specs.Lent.{Given}
-use Rattle.room_checks.specs.declared.Checked.{Checked}
-use Rattle.room_checks.specs.declared.Checked.TheVariants.{Nothing, At}
-use Rattle.room_checks.specs.declared.Counted.{Counted}
-use Rattle.room_checks.specs.declared.Counted.TheVariants as case
+use Rattle.room_checks.specs.declared.in_turn.Failing.{Failing}
+use Rattle.room_checks.specs.declared.RoomFault.{RoomFault}
 
 -- no room has a clue (SPEC 1.7)
 unfoldable pub none_clued : List ℕ → Bool
 unfolding all
 none_clued clues = all (λ c. eqb c no_clue) clues
-
--- the cells of room r: the part of `flat` between its start and its end
-abbrev pub part_at : Grid → List ℕ → List ℕ → ℕ → ℕ → List ℕ
-part_at g starts flat count r = group_part (cells g) count starts flat r
 
 -- what the count of a room with these cells lists where it has a clue; `given` tells the given walls
 unfoldable pub clue_list : Grid → (ℕ → Bool) → List ℕ → ℕ → (ℕ → ℕ) → Option (List ℕ)
@@ -51,36 +45,26 @@ abbrev pub rooms_in : Grid → List ℕ → List ℕ → List ℕ → Option Fau
 rooms_in g given clues states = rooms_fault g (is_given given) (room_cells g given) clues (state_of states)
 
 -- what the counts answer, and what they leave in the buffer
-abbrev pub counted_of : Option Faulty → Counted
-counted_of none = case.Clear
-counted_of (some f) = case.Fault f.room (length f.list)
+abbrev pub counted_of : Option Faulty → std.Option RoomFault
+counted_of none = None
+counted_of (some f) = Some (record { room = f.room; len = length f.list })
 
 abbrev pub leaves : Option Faulty → List ℕ → List ℕ
 leaves none buffer = buffer
 leaves (some f) buffer = sets buffer 0 f.list
 
 -- what is found where a room's count fails, and that there is such a room
-abbrev pub found_at : Grid → (ℕ → Bool) → (ℕ → List ℕ) → (ℕ → ℕ) → Checked → Option Faulty
-found_at g given cs s Nothing = none
-found_at g given cs s (At r wall) = some (record { room = r; list = room_entries g given (cs r) wall s })
+abbrev pub found_at : Grid → (ℕ → Bool) → (ℕ → List ℕ) → (ℕ → ℕ) → std.Option Failing → Option Faulty
+found_at g given cs s None = none
+found_at g given cs s (Some f) = some (record { room = f.room; list = room_entries g given (cs f.room) f.wall s })
 
-abbrev pub Among : ℕ → Checked → Type 0
-Among n Nothing = Unit {0}
-Among n (At r wall) = r < n
+abbrev pub Among : ℕ → std.Option Failing → Type 0
+Among n None = Unit {0}
+Among n (Some f) = f.room < n
 
-pub record Checks (g : Grid) (given : ℕ → Bool) (cs : ℕ → List ℕ) (clues : List ℕ) (s : ℕ → ℕ) (r : Checked) : Type 0 where
+pub record Checks (g : Grid) (given : ℕ → Bool) (cs : ℕ → List ℕ) (clues : List ℕ) (s : ℕ → ℕ) (r : std.Option Failing) : Type 0 where
   pub told : found_at g given cs s r ≡ rooms_fault g given cs clues s
   pub among : Among (length clues) r
-
--- a board's rooms: marks at the given walls, states, and the cells of each room from its start to its end
-pub record Housing (g : Grid) (marks states starts flat : List ℕ) (count : ℕ) : Type 0 where
-  pub limits : Limits g
-  pub marks_long : border_count g ≤ length marks
-  pub states_long : border_count g ≤ length states
-  pub starts_long : count ≤ length starts
-  pub flat_long : cells g ≤ length flat
-  pub ids : List ℕ
-  pub between : (r : ℕ) → r < count → Between g ids starts flat count r
 
 -- given walls, states, a clue for each room, and a buffer that is long enough for an ask
 pub record Finding (g : Grid) (given states clues buffer : List ℕ) : Type 0 where

@@ -21,9 +21,9 @@ use Rattle.grid.proofs.Geometry.{border_count_le}
 use Rattle.parts.specs.Parts.{parts, roots, begun_in}
 use Rattle.groups.specs.Groups.{passes, edges_over, group_ids, group_count}
 use Rattle.groups.specs.Turn.{in_turn, starts_of, Keys, Sized}
-use Rattle.groups.specs.Lent.{Fits, Counted, InTurn}
+use Rattle.groups.specs.Lent.{Fits, Lent, Grouped, Counted, InTurn}
 use Rattle.groups.proofs.Lending.{sizes_fit, turn_asks, grouped}
-use Rattle.groups.proofs.Theorems.{in_turn_lem}
+use Rattle.groups.proofs.Theorems.{made, made_ids, made_ids_fit, made_starts_fit}
 use Rattle.rooms.specs.Rooms.{is_given, room_ids, room_count}
 use Rattle.rooms.specs.Lent.{unmarked, puts, Below, Given, Blank, Places, Roomed}
 
@@ -159,9 +159,23 @@ module _ (g : Grid) (given : List ℕ) (w : Given g given) where
         → Keys (cells g) ids' (length (take count sizes')) × (Sized (cells g) ids' (length (take count sizes')) (take count sizes') × ((length (take count sizes') ≤ m) × (cells g ≤ k)))
     room_asks h k = turn_asks w.limits l.ids_long l.sizes_long counted h k
 
-    pub room_turns : (starts flat : List ℕ) {starts' flat' : List ℕ} → cells g ≤ length starts → cells g ≤ length flat
-        → starts' ≡ sets starts 0 (starts_of (cells g) ids' (length (take count sizes'))) → flat' ≡ sets flat 0 (in_turn (cells g) ids' (length (take count sizes')))
-        → InTurn g (room_ids g given) count starts' flat'
-    room_turns starts flat h k a b =
-        rw (ids_same (unmarked_blank g w.limits)) at
-        (in_turn_lem (record { ids_long = l.ids_long; starts_long = h; flat_long = k }) (grouped w.limits l.ids_long l.sizes_long counted a b))
+    -- the places of the cells in turn, in slices that end with the last cell and the last room's start
+    module _ (starts flat : List ℕ) {starts' flat' : List ℕ} (h : cells g ≤ length starts) (k : cells g ≤ length flat)
+        (a : starts' ≡ sets starts 0 (starts_of (cells g) ids' (length (take count sizes')))) (b : flat' ≡ sets flat 0 (in_turn (cells g) ids' (length (take count sizes')))) where
+      lent : Lent (cells g) ids starts flat
+      lent = record { ids_long = l.ids_long; starts_long = h; flat_long = k }
+
+      in_order : Grouped g (puts given 2 unmarked) true ids starts flat ids' starts' flat' count
+      in_order = grouped w.limits l.ids_long l.sizes_long counted a b
+
+      pub room_ids_fit : cells g ≤ length ids'
+      room_ids_fit = made_ids_fit lent in_order
+
+      pub room_starts_fit : count ≤ length starts'
+      room_starts_fit = made_starts_fit lent in_order
+
+      pub room_ids_are : take (cells g) ids' ≡ room_ids g given
+      room_ids_are = made_ids lent in_order ∙ ids_same (unmarked_blank g w.limits)
+
+      pub room_turns : InTurn g (take (cells g) ids') (length (take count starts')) (take count starts') flat'
+      room_turns = made lent in_order

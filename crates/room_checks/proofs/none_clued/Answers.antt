@@ -1,19 +1,12 @@
--- `room_checks::none_clued` meets its contract: the invariant says what is left to test. Assumes nothing.
-use mathlib.Core.Path.{refl, sym, ◌∙◌}
-use native.Mathlib.Omega.{arith}
-use Rattle.room_checks.proofs.Unclued.{all_tested, one_clued, one_tested}
+-- `room_checks::none_clued` meets its contract: `all` tests each clue. Assumes nothing.
+use Rattle.std.proofs.Common.{◌↔◌, eqb, All, IsTrue, rules}
+use Rattle.limits.specs.Limits.{no_clue}
+use Rattle.lists.proofs.Bridges.{all_is}
+use Rattle.room_checks.specs.RoomChecks.{none_clued}
 use Rattle.room_checks.proofs.none_clued.Goals as goal
 
-pub loop-room-init : goal.loop-room-init
-loop-room-init c = (omega arith, refl)
-
-pub returns-then-clues-room : goal.returns-then-clues-room
-returns-then-clues-room c =
-    sym (one_clued c.args.clues.now c.loop-room.room c.loop-room-test.true c.if-clues-room.true) ∙ c.loop-room.invariant.1
-
-pub loop-room-preserved : goal.loop-room-preserved
-loop-room-preserved c =
-    (omega arith, sym (one_tested c.args.clues.now c.loop-room.room c.loop-room-test.true c.if-clues-room.false) ∙ c.loop-room.invariant.1)
-
 pub returns : goal.returns
-returns c = sym (all_tested c.args.clues.now c.loop-room.room c.loop-room-test.false) ∙ c.loop-room.invariant.1
+unfolding none_clued
+returns c =
+    all_is (λ e. eqb e no_clue) c.args.clues.now c.all.result
+    (let h : IsTrue c.all.result ↔ All (λ e. IsTrue (eqb e no_clue)) c.args.clues.now = search rules in h)
