@@ -21,8 +21,7 @@ use Rattle.answers.specs.Answers.{Finds, length_found, written, found as outcome
 use Rattle.rooms.specs.Rooms.{is_given, room_count, room_cells, clue_of}
 use Rattle.rooms.specs.RoomGraph.{room_list}
 use Rattle.clues.proofs.ListsCode.{other_default}
-use Rattle.room_checks.specs.declared.Counted.{Counted}
-use Rattle.room_checks.specs.declared.Counted.TheVariants as counted
+use Rattle.room_checks.specs.declared.RoomFault.{RoomFault}
 use Rattle.room_checks.specs.RoomChecks.{clue_list, Faulty, fault_at, rooms_fault, rooms_in, counted_of, leaves}
 use Rattle.puzzle.specs.declared.Check.TheVariants.{Shape, Room}
 use Rattle.puzzle.specs.declared.Check.{Check}
@@ -38,11 +37,11 @@ asked (some f) = some (record { check = Room f.room; list = f.list })
 abbrev fault : Check → ℕ → std.Option Fault
 fault check n = std.Some (record { check = check; len = n })
 
-abbrev pub answer_by : Counted → std.Option Fault
-answer_by counted.Clear = std.None
-answer_by (counted.Fault r n) = std.Some (record { check = Room r; len = n })
+abbrev pub answer_by : std.Option RoomFault → std.Option Fault
+answer_by std.None = std.None
+answer_by (std.Some f) = std.Some (record { check = Room f.room; len = f.len })
 
-by_counts : (f : Option Faulty) (x : Counted) (buf buf' : List ℕ) → (x ≡ counted_of f) × (buf' ≡ leaves f buf) → (answer_by x ≡ told (asked f)) × (buf' ≡ writes 0 (asked f) buf)
+by_counts : (f : Option Faulty) (x : std.Option RoomFault) (buf buf' : List ℕ) → (x ≡ counted_of f) × (buf' ≡ leaves f buf) → (answer_by x ≡ told (asked f)) × (buf' ≡ writes 0 (asked f) buf)
 unfolding asked
 by_counts none x buf buf' e = (ap answer_by e.0, e.1)
 by_counts (some f) x buf buf' e = (ap answer_by e.0, e.1)
@@ -119,7 +118,7 @@ module _ (g : Grid) (given clues states : List ℕ) (one_each : length clues ≡
     pub shape_clear : r ≡ std.None → buf' ≡ buf
     shape_clear q = t.stored ∙ ap (λ f. written (outcome f) buf) (told_clear (shape_fault g states) (sym q ∙ t.answer))
 
-    pub rooms_answer : r ≡ std.None → (x y : Counted) (buf'' : List ℕ) → (x ≡ counted_of (rooms_in g given clues states)) × (buf'' ≡ leaves (rooms_in g given clues states) buf') → x ≡ y
+    pub rooms_answer : r ≡ std.None → (x y : std.Option RoomFault) (buf'' : List ℕ) → (x ≡ counted_of (rooms_in g given clues states)) × (buf'' ≡ leaves (rooms_in g given clues states) buf') → x ≡ y
         → (answer_by y ≡ told (fault_of g given clues states)) × (buf'' ≡ writes 0 (fault_of g given clues states) buf)
     rooms_answer q x y buf'' e k =
         let same = fault_rooms (told_clear (shape_fault g states) (sym q ∙ t.answer)) in

@@ -17,7 +17,6 @@ use board::Board;
 use borders::Borders;
 use grid::Grid;
 use ledger::Book;
-use room_checks::Counted;
 
 // The board has the given walls as Wall; its ledger names none of them. The first `given_len` places of `given` are the given walls,
 // the first `clues_len` of `clues` the clues.
@@ -233,13 +232,11 @@ pub fn fault_of(
             len,
         });
     }
-    match room_checks::count_rooms(b.grid, given, b.states, clues, buffer) {
-        Counted::Clear => None,
-        Counted::Fault(room, len) => Some(Fault {
-            check: Check::Room(room),
-            len,
-        }),
-    }
+    let fault = room_checks::count_rooms(b, given, clues, buffer)?;
+    Some(Fault {
+        check: Check::Room(fault.room),
+        len: fault.len,
+    })
 }
 
 // The calls on a record by value. The answer is made first and changed where it stands: the record is copied in and out, and not

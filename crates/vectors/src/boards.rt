@@ -3,6 +3,7 @@ use crate::desk::Desk;
 use crate::text::{Record, Spaced, first};
 use answers::Plain;
 use board::Board;
+use groups::Grouping;
 use std::io;
 use std::io::Write;
 
@@ -67,16 +68,12 @@ impl Question {
     // The board's answer, and its list in the buffer.
     fn ask(self, board: &Board, buffer: &mut [u16]) -> Plain {
         match self {
-            Question::Path { start, target } => answers::of_listed(path::reason_for_path(
-                *board, start, target, buffer,
-            )),
-            Question::Unit(unit) => answers::of_listed(boundary::reason_for_unit_and_its_boundary(
-                *board, unit, buffer,
-            )),
-            Question::PotentialUnit(unit) => answers::of_listed(
-                boundary::reason_for_potential_unit_boundary(*board, unit, buffer),
-            ),
-            Question::Fault => answers::of_answer(shape_check::find_inconsistency(*board, buffer)),
+            Question::Path { start, target } => path::between(board, start, target, buffer).into(),
+            Question::Unit(unit) => boundary::of_unit(board, unit, buffer).into(),
+            Question::PotentialUnit(unit) => boundary::of_potential_unit(
+                board, unit, buffer,
+            ).into(),
+            Question::Fault => shape_check::find(board, buffer).into(),
         }
     }
 }
@@ -111,9 +108,8 @@ impl<W: Write + Drop> Desk<W> {
     // The groups of so many cells: each cell's group, the cells in turn and the starts.
     fn say_groups(&mut self, cells: usize, is_potential: bool) -> io::Result<()> {
         let mut buffer = [0u16; limits::CELLS];
-        let grouping = groups::compute_connected_components(self.board, is_potential, &mut buffer);
-        let info = grouping.info;
-        let code = grouping.code;
+        let made = groups::connected_components(&self.board, is_potential, &mut buffer);
+        let Grouping { code, info } = made.into();
         let ids = Spaced(first(&info.ids, cells));
         let turn = Spaced(first(&buffer, cells));
         let starts = Spaced(first(&info.starts, info.count));
@@ -123,8 +119,9 @@ impl<W: Write + Drop> Desk<W> {
     // The cells that are handed out for a group.
     fn say_group(&mut self, group: usize, is_potential: bool) -> io::Result<()> {
         let mut buffer = [0u16; limits::CELLS];
-        let grouping = groups::compute_connected_components(self.board, is_potential, &mut buffer);
-        let part = groups::group(grouping.info, &buffer, group);
+        let made = groups::connected_components(&self.board, is_potential, &mut buffer);
+        let Grouping { info, .. } = made.into();
+        let part = groups::group(info, &buffer, group);
         let len = part.len();
         let cells = Spaced(part);
         writeln!(self.out, "{len}{cells}")

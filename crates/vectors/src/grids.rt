@@ -10,15 +10,6 @@ pub enum Call {
     Neighbour { cell: usize, direction: Direction },
 }
 
-fn direction(n: usize) -> Direction {
-    match n {
-        0 => Direction::Up,
-        1 => Direction::Down,
-        2 => Direction::Left,
-        _ => Direction::Right,
-    }
-}
-
 impl Call {
     pub fn new(letter: u8, x: usize, y: usize) -> Option<Call> {
         let call = match letter {
@@ -28,7 +19,7 @@ impl Call {
             },
             b'n' => Call::Neighbour {
                 cell: x,
-                direction: direction(y),
+                direction: *grid::AROUND.get(y)?,
             },
             _ => return None,
         };

@@ -64,7 +64,7 @@ impl<W: Write + Drop> Desk<W> {
     }
 
     fn make_puzzle(&mut self, height: usize, width: usize) -> io::Result<()> {
-        let made = puzzle::make(height, width, self.first.as_slice(), self.second.as_slice());
+        let made = puzzle::make(height, width, &self.first, &self.second);
         self.puzzle = made.puzzle;
         self.say(made.code)
     }

@@ -1,6 +1,5 @@
 // Calls on a room graph: make (its edges wait in the two lists), stroke, decide, undo and ask.
 use crate::desk::Desk;
-use city_count::Decided;
 use std::io;
 use std::io::Write;
 
@@ -13,17 +12,13 @@ pub enum Call {
     Ask,
 }
 
-// A number of 32 bits; a larger one counts as the largest.
-fn narrow(x: usize) -> u32 {
-    u32::try_from(x).unwrap_or(u32::MAX)
-}
-
 impl Call {
+    // A count of more than 32 bits counts as the largest.
     pub fn new(letter: u8, x: usize, y: usize) -> Option<Call> {
         let call = match letter {
             b'm' => Call::Make {
                 vertices: x,
-                count: narrow(y),
+                count: u32::try_from(y).unwrap_or(u32::MAX),
             },
             b's' => Call::Stroke,
             b'd' => Call::Decide {
@@ -40,28 +35,22 @@ impl Call {
 
 impl<W: Write + Drop> Desk<W> {
     pub fn on_room(&mut self, call: Call) -> io::Result<()> {
-        match call {
-            Call::Make { vertices, count } => self.keep_room(city_count::make(
-                vertices,
-                self.first.as_slice(),
-                self.second.as_slice(),
-                count,
-            )),
-            Call::Stroke => self.keep_room(city_count::stroke(self.room, &self.first)),
-            Call::Decide { edge, wall } => self.keep_room(city_count::decide(
-                self.room, edge, wall,
-            )),
-            Call::Undo => self.keep_room(city_count::undo(self.room)),
-            Call::Ask => {
-                let mut buffer = [0u16; limits::BORDERS];
-                let answer = answers::of_answer(city_count::ask(self.room, &mut buffer));
-                self.say_plain(answer, &buffer)
+        let decided = match call {
+            Call::Make { vertices, count } => {
+                city_count::make(vertices, &self.first, &self.second, count)
             }
-        }
-    }
-
-    fn keep_room(&mut self, decided: Decided) -> io::Result<()> {
+            Call::Stroke => city_count::stroke(self.room, &self.first),
+            Call::Decide { edge, wall } => city_count::decide(self.room, edge, wall),
+            Call::Undo => city_count::undo(self.room),
+            Call::Ask => return self.ask_room(),
+        };
         self.room = decided.room;
         self.say(decided.code)
+    }
+
+    fn ask_room(&mut self) -> io::Result<()> {
+        let mut buffer = [0u16; limits::BORDERS];
+        let asked = city_count::ask(self.room, &mut buffer);
+        self.say_plain(answers::of_answer(asked), &buffer)
     }
 }

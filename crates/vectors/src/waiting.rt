@@ -12,17 +12,14 @@ pub enum Call {
     HandOver { room: usize },
 }
 
-// A number of 16 bits; a larger one counts as the largest.
-fn narrow(x: usize) -> u16 {
-    u16::try_from(x).unwrap_or(u16::MAX)
-}
-
 impl Call {
+    // A number of more than 16 bits counts as the largest.
     pub fn new(letter: u8, x: usize) -> Option<Call> {
+        let number = u16::try_from(x).unwrap_or(u16::MAX);
         let call = match letter {
             b'e' => Call::Clear,
-            b'f' => Call::First(narrow(x)),
-            b's' => Call::Second(narrow(x)),
+            b'f' => Call::First(number),
+            b's' => Call::Second(number),
             b'h' => Call::HandOver { room: x },
             _ => return None,
         };
