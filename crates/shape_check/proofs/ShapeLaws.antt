@@ -23,18 +23,9 @@ use Rattle.answers.specs.Answers.{Finds, Told, found, length_found}
 use Rattle.answers.specs.Refusals.{Answers}
 use Rattle.inner_walls.specs.Asked.{Asked}
 use Rattle.inner_walls.proofs.FindLaws.{finds_long, first_finds, next_finds}
-use Rattle.unit_check.specs.Units.{unit_stage, Staged}
+use Rattle.unit_check.specs.Units.{unit_stage, Checked}
 
--- what a stage told, as an option
-pub told_some : (o : Option (List ℕ)) {b b' : List ℕ} {r : Found} {n : ℕ} → Told o b b' r → r ≡ Fault n → Finds o b b' (std.Some n)
-told_some none t e = absurd (let q : Nothing ≡ Fault _ = sym t.answer ∙ e in let z : ◌≡◌ {A = ℕ} 0 1 = cc in omega arith)
-told_some (some L) {n = n} t e = record { answer = (let q : Fault (length L) ≡ Fault n = sym t.answer ∙ e in cc); stored = t.stored }
-
-pub told_none : (o : Option (List ℕ)) {b b' : List ℕ} {r : Found} → Told o b b' r → r ≡ Nothing → Finds o b b' std.None
-told_none none t e = record { answer = refl; stored = t.stored }
-told_none (some L) t e = absurd (let q : Fault (length L) ≡ Nothing = sym t.answer ∙ e in let z : ◌≡◌ {A = ℕ} 0 1 = cc in omega arith)
-
--- and the other way round
+-- what a stage finds, as it is told to callers that take no option
 pub some_told : (o : Option (List ℕ)) {b b' : List ℕ} {r : std.Option ℕ} {n : ℕ} → Finds o b b' r → r ≡ std.Some n → Told o b b' (Fault n)
 some_told none {n = n} t e = absurd (let q : std.None ≡ std.Some n = sym t.answer ∙ e in let z : ◌≡◌ {A = ℕ} 0 1 = cc in omega arith)
 some_told (some L) {n = n} t e = record { answer = (let q : std.Some (length L) ≡ std.Some n = sym t.answer ∙ e in cc); stored = t.stored }
@@ -77,15 +68,9 @@ module _ {g : Grid} {states : List ℕ} (p : Fits g states) {ids starts flat : L
         (unfold fault_in in
         first_finds (inner_wall g states (take (cells g) ids)) (first (unit_fault g states (take (cells g) ids) (group_ids g states true) (group_count g states true)) (range count)) t e)
 
-    pub staged : 9 * cells g ≤ length b → Staged g states (take (cells g) ids) (take count starts) flat (length b')
-    staged h =
-        record {
-          limits = p.limits;
-          states_long = p.borders;
-          ids_long = ids_part;
-          units = made (arrays_lent p.limits) w;
-          enough = omega (arith, finds_long (inner_wall g states (take (cells g) ids)) t);
-        }
+    pub checked : 9 * cells g ≤ length b → Checked g g (take (cells g) ids) (length b')
+    checked h =
+        record { units_of = refl; ids_long = ids_part; enough = omega (arith, finds_long (inner_wall g states (take (cells g) ids)) t) }
 
     next : r ≡ std.None → {b'' : List ℕ} {r' : std.Option ℕ} → Finds (first (unit_fault g states (take (cells g) ids) (group_ids g states true) (group_count g states true)) (range count)) b' b'' r'
         → Finds (fault_in g states (take (cells g) ids) (group_ids g states true) count (group_count g states true)) b b'' r'

@@ -14,6 +14,7 @@ use answers::{Answer, Found, Refusal};
 use board::Board;
 use borders::Borders;
 use grid::Grid;
+use groups::Groups;
 use limits::CELLS;
 
 // The check of borders: inner Walls, and else the units in order.
@@ -26,21 +27,16 @@ pub fn fault(b: Borders<'_>, buffer: &mut [u16]) -> Option<usize>
     let mut starts = [0u16; CELLS];
     let mut flat = [0u16; CELLS];
     let count = groups::group_cells(b, false, &mut ids, &mut starts, &mut flat);
-    if let Some(len) = inner_walls::inner_wall(b, &ids[..n], buffer) {
+    let units = Groups {
+        grid: b.grid,
+        ids: &ids[..n],
+        starts: &starts[..count],
+        flat: &flat,
+    };
+    if let Some(len) = inner_walls::inner_wall(b, units.ids, buffer) {
         return Some(len);
     }
-    let found = unit_check::check_units(
-        b.grid,
-        b.states,
-        &ids[..n],
-        &starts[..count],
-        &flat,
-        buffer,
-    );
-    match found {
-        Found::Fault(len) => Some(len),
-        Found::Nothing => None,
-    }
+    unit_check::check(b, units, buffer)
 }
 
 // A board's ask: whether its standing borders contradict the laws that concern shape, and by which.
