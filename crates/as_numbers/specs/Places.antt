@@ -1,5 +1,5 @@
 -- An answer of `Grid::neighbour` as numbers. Assumes nothing.
-use Rattle.std.specs.Prelude.{ℕ, true, false, Option, Some, None, Result, Ok, Err}
+use Rattle.std.specs.Prelude.{true, false, Option, Some, None, Result, Ok, Err}
 use Rattle.answers.specs.declared.Refusal.{Refusal}
 use Rattle.answers.specs.Refusals.{number_of}
 use Rattle.grid.specs.declared.Neighbour.{Neighbour}

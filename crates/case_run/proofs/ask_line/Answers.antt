@@ -1,11 +1,10 @@
 -- `case_run::ask_line` meets its contract: a line for each answer. Assumes nothing.
-use Rattle.std.proofs.Common.{◌≡◌, refl}
+use Rattle.std.proofs.Common.{refl}
 use Rattle.answers.specs.Refusals.{number_of}
 use Rattle.puzzle.specs.declared.Answer.TheVariants.{Clear, Fault, Refused}
-use Rattle.puzzle.specs.Puzzle.{ask_of}
 use Rattle.case_run.specs.CaseRun.{blank}
 use Rattle.case_run.proofs.LineLaws.{by_line}
-use Rattle.case_run.proofs.AskLaws.{Filled, fault_part, clear_line, fault_line, refused_line}
+use Rattle.case_run.proofs.AskLaws.{fault_part, clear_line, fault_line, refused_line}
 use Rattle.case_run.proofs.ask_line.Goals.{in-Ok-None, in-Err}
 use Rattle.case_run.proofs.ask_line.Goals as goal
 

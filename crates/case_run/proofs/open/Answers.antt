@@ -1,8 +1,6 @@
 -- `case_run::open` meets its contract: an unsound file is refused, and a sound one's lists are read whole. Assumes nothing.
-use mathlib.Core.Path.{◌≡◌, sym, ◌∙◌}
-use Rattle.case_file.specs.Sound.{decode_of}
-use Rattle.case_run.specs.CaseRun.{opened_as, opened_of}
-use Rattle.case_run.proofs.OpenLaws.{refused_file, places, Read, sound, walls_read, clues_read, made_file, opened_refused, opened_made}
+use mathlib.Core.Path.{sym, ◌∙◌}
+use Rattle.case_run.proofs.OpenLaws.{refused_file, places, walls_read, clues_read, made_file, opened_refused, opened_made}
 use Rattle.case_run.proofs.open.Goals as goal
 
 pub returns-in_default : goal.returns-in_default
@@ -11,39 +9,39 @@ returns-in_default c = refused_file c.args.file.now c.in_default.field-0 c.unsou
 pub slice_bounds-walls-end : goal.slice_bounds-walls-end
 unfolding places
 slice_bounds-walls-end c =
-    let walls : Read c.in-Ok.layout.walls.count c.numbers.new.buffer (sound c.args.file.now c.in-Ok.layout c.in-Ok.ensures.value).0.walls = walls_read c.args.file.now c.in-Ok.layout c.in-Ok.ensures.value c.numbers.new.buffer c.numbers.ensures.buffer_after in
+    let walls = walls_read c.args.file.now c.in-Ok.layout c.in-Ok.ensures.value c.numbers.new.buffer c.numbers.ensures.buffer_after in
     walls.within
 
 pub slice_bounds-make-end : goal.slice_bounds-make-end
 unfolding places
 slice_bounds-make-end c =
-    let walls : Read c.in-Ok.layout.walls.count c.numbers.new.buffer (sound c.args.file.now c.in-Ok.layout c.in-Ok.ensures.value).0.walls = walls_read c.args.file.now c.in-Ok.layout c.in-Ok.ensures.value c.numbers.new.buffer c.numbers.ensures.buffer_after in
+    let walls = walls_read c.args.file.now c.in-Ok.layout c.in-Ok.ensures.value c.numbers.new.buffer c.numbers.ensures.buffer_after in
     walls.long
 
 pub slice_bounds-clues-end : goal.slice_bounds-clues-end
 unfolding places
 slice_bounds-clues-end c =
-    let clues : Read c.in-Ok.layout.clues.count c.numbers-2.new.buffer (sound c.args.file.now c.in-Ok.layout c.in-Ok.ensures.value).0.clues = clues_read c.args.file.now c.in-Ok.layout c.in-Ok.ensures.value c.numbers-2.new.buffer c.numbers-2.ensures.buffer_after in
+    let clues = clues_read c.args.file.now c.in-Ok.layout c.in-Ok.ensures.value c.numbers-2.new.buffer c.numbers-2.ensures.buffer_after in
     clues.within
 
 pub slice_bounds-make-end-2 : goal.slice_bounds-make-end-2
 unfolding places
 slice_bounds-make-end-2 c =
-    let clues : Read c.in-Ok.layout.clues.count c.numbers-2.new.buffer (sound c.args.file.now c.in-Ok.layout c.in-Ok.ensures.value).0.clues = clues_read c.args.file.now c.in-Ok.layout c.in-Ok.ensures.value c.numbers-2.new.buffer c.numbers-2.ensures.buffer_after in
+    let clues = clues_read c.args.file.now c.in-Ok.layout c.in-Ok.ensures.value c.numbers-2.new.buffer c.numbers-2.ensures.buffer_after in
     clues.long
 
 pub returns-then-made-ne0 : goal.returns-then-made-ne0
 unfolding places
 returns-then-made-ne0 c =
-    let walls : Read c.in-Ok.layout.walls.count c.numbers.new.buffer (sound c.args.file.now c.in-Ok.layout c.in-Ok.ensures.value).0.walls = walls_read c.args.file.now c.in-Ok.layout c.in-Ok.ensures.value c.numbers.new.buffer c.numbers.ensures.buffer_after in
-    let clues : Read c.in-Ok.layout.clues.count c.numbers-2.new.buffer (sound c.args.file.now c.in-Ok.layout c.in-Ok.ensures.value).0.clues = clues_read c.args.file.now c.in-Ok.layout c.in-Ok.ensures.value c.numbers-2.new.buffer c.numbers-2.ensures.buffer_after in
-    let made : opened_as c.make-made.result c.in-Ok.layout.calls.at c.in-Ok.layout.calls.count ≡ opened_of (decode_of c.args.file.now) = made_file c.args.file.now c.in-Ok.layout c.in-Ok.ensures.value c.make-made.result _ _ walls.is clues.is c.make-made.ensures in
+    let walls = walls_read c.args.file.now c.in-Ok.layout c.in-Ok.ensures.value c.numbers.new.buffer c.numbers.ensures.buffer_after in
+    let clues = clues_read c.args.file.now c.in-Ok.layout c.in-Ok.ensures.value c.numbers-2.new.buffer c.numbers-2.ensures.buffer_after in
+    let made = made_file c.args.file.now c.in-Ok.layout c.in-Ok.ensures.value c.make-made.result _ _ walls.is clues.is c.make-made.ensures in
     opened_refused c.make-made.result _ _ c.if-made-ne0.true made
 
 pub returns : goal.returns
 unfolding places
 returns c =
-    let walls : Read c.in-Ok.layout.walls.count c.numbers.new.buffer (sound c.args.file.now c.in-Ok.layout c.in-Ok.ensures.value).0.walls = walls_read c.args.file.now c.in-Ok.layout c.in-Ok.ensures.value c.numbers.new.buffer c.numbers.ensures.buffer_after in
-    let clues : Read c.in-Ok.layout.clues.count c.numbers-2.new.buffer (sound c.args.file.now c.in-Ok.layout c.in-Ok.ensures.value).0.clues = clues_read c.args.file.now c.in-Ok.layout c.in-Ok.ensures.value c.numbers-2.new.buffer c.numbers-2.ensures.buffer_after in
-    let made : opened_as c.make-made.result c.in-Ok.layout.calls.at c.in-Ok.layout.calls.count ≡ opened_of (decode_of c.args.file.now) = made_file c.args.file.now c.in-Ok.layout c.in-Ok.ensures.value c.make-made.result _ _ walls.is clues.is c.make-made.ensures in
+    let walls = walls_read c.args.file.now c.in-Ok.layout c.in-Ok.ensures.value c.numbers.new.buffer c.numbers.ensures.buffer_after in
+    let clues = clues_read c.args.file.now c.in-Ok.layout c.in-Ok.ensures.value c.numbers-2.new.buffer c.numbers-2.ensures.buffer_after in
+    let made = made_file c.args.file.now c.in-Ok.layout c.in-Ok.ensures.value c.make-made.result _ _ walls.is clues.is c.make-made.ensures in
     opened_made c.make-made.result _ _ c.if-made-ne0.false made
