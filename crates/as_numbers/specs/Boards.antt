@@ -1,7 +1,7 @@
 -- The answer about a puzzle's right boards as numbers (SPEC 10.2). Assumes nothing.
 use Rattle.std.specs.Prelude.{false}
-use Rattle.enumerate.specs.declared.Boards.{Boards}
-use Rattle.enumerate.specs.declared.Boards.TheVariants.{Listed, Refused}
+use Rattle.enumerate.specs.Boards.{Boards}
+use Rattle.enumerate.specs.Boards.{Listed, Refused}
 use Rattle.as_numbers.specs.declared.boards.Listing.{Listing}
 
 abbrev pub listing_of : Boards → Listing

@@ -105,9 +105,6 @@ impl Board {
     }
 }
 
-// The calls on a record by value. The answer is made first and changed where it stands: the record's 6 KB are copied in and
-// out, and not once more.
-
 // A fresh board of the size, or refused 1 with a record of zeros.
 pub fn make(height: usize, width: usize) -> Decided
     ensures { result ≡ make_of height width }
@@ -122,38 +119,4 @@ pub fn make(height: usize, width: usize) -> Decided
             }),
         },
     }
-}
-
-// Whether a record holds together: 0, or the number of the question that refuses it, 1 or 2.
-pub fn check(b: Board) -> u8
-    ensures { result ≡ board_code b }
-{
-    answers::code_of(b.check())
-}
-
-// Decides the borders of a stroke, all or none.
-pub fn stroke(b: Board, entries: &[u16]) -> Decided
-    ensures { result ≡ stroke_of b (decisions entries.now) }
-{
-    let mut out = Decided { code: 0, board: b };
-    out.code = answers::code_of(out.board.stroke(entries));
-    out
-}
-
-// Decides a border as Wall or Connected: a stroke of one.
-pub fn decide(b: Board, border: usize, wall: bool) -> Decided
-    ensures { result ≡ decide_of b border wall }
-{
-    let mut out = Decided { code: 0, board: b };
-    out.code = answers::code_of(out.board.decide(border, wall));
-    out
-}
-
-// Takes the whole last stroke back.
-pub fn undo(b: Board) -> Decided
-    ensures { result ≡ undo_of b }
-{
-    let mut out = Decided { code: 0, board: b };
-    out.code = answers::code_of(out.board.undo());
-    out
 }

@@ -24,8 +24,8 @@ use Rattle.lines.specs.declared.Line.TheVariants as line
 use Rattle.lines.specs.Line.{line_of}
 use Rattle.puzzle.specs.declared.Puzzle.{Puzzle}
 use Rattle.puzzle.specs.declared.Check.{Check}
-use Rattle.puzzle.specs.declared.Answer.{Answer}
-use Rattle.puzzle.specs.declared.Answer.TheVariants.{Clear, Fault, Refused}
+use Rattle.puzzle.specs.Answer.{Answer}
+use Rattle.puzzle.specs.Answer.{Clear, Fault, Refused}
 use Rattle.puzzle.specs.Fault.{Found}
 use Rattle.puzzle.specs.Puzzle.{grid_of, borders_of, given_of, clues_of, puzzle_code, long_enough, ask_code, fault_in, says, ask_of}
 use Rattle.demand_3.specs.Run.{puzzle_after, reply_to}

@@ -15,8 +15,8 @@ use Rattle.puzzle.specs.declared.Puzzle.{Puzzle}
 use Rattle.puzzle.specs.declared.Made.{Made}
 use Rattle.puzzle.specs.declared.Check.{Check}
 use Rattle.puzzle.specs.declared.Check.TheVariants.{Shape, Room}
-use Rattle.puzzle.specs.declared.Answer.{Answer}
-use Rattle.puzzle.specs.declared.Answer.TheVariants.{Clear, Fault, Refused}
+use Rattle.puzzle.specs.Answer.{Answer}
+use Rattle.puzzle.specs.Answer.{Clear, Fault, Refused}
 use Rattle.puzzle.specs.Puzzle.{zero_puzzle, make_of}
 use Rattle.demand_3.specs.Run as puzzle
 use Rattle.demand_3.specs.Run.{puzzle_after, run, Reply, coded, asked, reply_to, replies}

@@ -16,8 +16,8 @@ use Rattle.borders.specs.Border.{state_of, StatesOk}
 use Rattle.ledger.specs.declared.Book.{Book}
 use Rattle.ledger.proofs.Reached as book
 use Rattle.puzzle.specs.declared.Puzzle.{Puzzle}
-use Rattle.puzzle.specs.declared.Answer.{Answer}
-use Rattle.puzzle.specs.declared.Answer.TheVariants.{Clear, Fault, Refused}
+use Rattle.puzzle.specs.Answer.{Answer}
+use Rattle.puzzle.specs.Answer.{Clear, Fault, Refused}
 use Rattle.rooms.specs.Rooms.{is_given}
 use Rattle.puzzle.specs.Fault.{Found, fault_of}
 use Rattle.puzzle.specs.Puzzle.{states_of, fresh_puzzle, book_of, onto, puzzle_code, fault_in, ask_code, says, writes, Asked, ask_of}

@@ -16,7 +16,7 @@ use Rattle.shape.specs.Laws.{FullBoard}
 use Rattle.ledger.specs.Ledger.{decisions, state_in, standing, whole, stroke_code}
 use Rattle.ledger.proofs.Standing.{standing_named, standing_given}
 use Rattle.puzzle.specs.declared.Made.{Made}
-use Rattle.puzzle.specs.declared.Answer.TheVariants.{Clear}
+use Rattle.puzzle.specs.Answer.{Clear}
 use Rattle.rooms.specs.Rooms.{is_given}
 use Rattle.puzzle.specs.Fault.{Found, fault_of}
 use Rattle.rooms.specs.Units.{GivenWalls}

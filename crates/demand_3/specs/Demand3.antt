@@ -10,8 +10,8 @@ use Rattle.borders.specs.Entry.{Standing}
 use Rattle.shape.specs.Laws.{FullBoard}
 use Rattle.puzzle.specs.declared.Puzzle.{Puzzle}
 use Rattle.puzzle.specs.declared.Check.{Check}
-use Rattle.puzzle.specs.declared.Answer.{Answer}
-use Rattle.puzzle.specs.declared.Answer.TheVariants.{Clear, Fault, Refused}
+use Rattle.puzzle.specs.Answer.{Answer}
+use Rattle.puzzle.specs.Answer.{Clear, Fault, Refused}
 use Rattle.rooms.specs.Rooms.{is_given}
 use Rattle.puzzle.specs.Fault.{Found, fault_of}
 use Rattle.demand_3.specs.Laws.{RightBoard}

@@ -36,8 +36,8 @@ use Rattle.demand_3.proofs.FaultLaws.{Small}
 use Rattle.demand_3.proofs.Reached.{reached_code}
 use Rattle.demand_3.proofs.Asks.{states_ok}
 use Rattle.demand_3.proofs.Demand3.{accepted, reached_calls}
-use Rattle.enumerate.specs.declared.Boards.{Boards}
-use Rattle.enumerate.specs.declared.Boards.TheVariants.{Listed, Refused}
+use Rattle.enumerate.specs.Boards.{Boards}
+use Rattle.enumerate.specs.Boards.{Listed, Refused}
 use Rattle.enumerate.specs.Boards.{rights, states_in, rights_of, places_code, boards_code, Enumerated, listing, answered, boards_of}
 use Rattle.enumerate.specs.AllAnswers.{IsAnswer, JustOne, boards_in, AllAnswers, Fulfilled}
 use Rattle.enumerate.proofs.Codes.{enough_places}

@@ -30,8 +30,8 @@ use Rattle.puzzle.specs.Puzzle.{grid_of, book_of, borders_of, given_of, clues_of
 use Rattle.puzzle.proofs.Basics.{states_length, states_at, states_are}
 use Rattle.puzzle.proofs.Ready.{Ready, lists_given}
 use Rattle.puzzle.proofs.Answers.{first_refuses, second_says}
-use Rattle.enumerate.specs.declared.Boards.{Boards}
-use Rattle.enumerate.specs.declared.Boards.TheVariants.{Listed, Refused}
+use Rattle.enumerate.specs.Boards.{Boards}
+use Rattle.enumerate.specs.Boards.{Listed, Refused}
 use Rattle.enumerate.specs.declared.Tally.{Tally}
 use Rattle.enumerate.specs.Boards.{extensions, is_right, rights, states_in, rights_of, places_code, boards_code, listing, answered, boards_of}
 use Rattle.enumerate.specs.Search.{Written, written, Searching, searched, no_entries, Started}

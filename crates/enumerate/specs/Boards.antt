@@ -13,8 +13,6 @@ use Rattle.puzzle.specs.Puzzle.{states_of, grid_of, book_of, borders_of, given_o
 use Rattle.answers.specs.declared.Refusal.{Refusal}
 use Rattle.answers.specs.Refusals.{number_of}
 use Rattle.enumerate.specs.declared.Listing.{Listing}
-use Rattle.enumerate.specs.declared.Boards.{Boards}
-use Rattle.enumerate.specs.declared.Boards.TheVariants.{Listed, Refused}
 
 -- THE BOARDS, each a list of its borders' states
 -- these boards with one border more in front
@@ -59,6 +57,11 @@ places_code states cap places = pick (leb (count 0 states) most_undecided) (pick
 -- questions 1, 2, 12 and 6: the number of the one that refuses the call, or 0
 abbrev pub boards_code : Puzzle → ℕ → List ℕ → ℕ
 boards_code p cap buf = first_code (puzzle_code p) (places_code (states_in p) cap (length buf))
+
+-- what is answered: how many boards were written and whether there are more, or refused with the question's number
+pub data Boards : Type 0 where
+  Listed : ℕ → Bool → Boards
+  Refused : ℕ → Boards
 
 -- an answer, as the case that std's words come to
 abbrev pub said : Listing → Boards

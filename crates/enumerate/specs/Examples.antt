@@ -9,7 +9,7 @@ use Rattle.clues.specs.Clues.{lists_code}
 use Rattle.puzzle.specs.Puzzle.{together, no_clues, states_of}
 use Rattle.demand_3.specs.Run.{Call, decide, run}
 use Rattle.demand_3.specs.Demand3.{after}
-use Rattle.enumerate.specs.declared.Boards.TheVariants.{Listed, Refused}
+use Rattle.enumerate.specs.Boards.{Listed, Refused}
 use Rattle.enumerate.specs.Boards.{rights, Enumerated, boards_of}
 
 -- a board without given walls on which these borders are decided

@@ -23,13 +23,6 @@ pub struct Listing {
     pub more: bool,
 }
 
-// The same, or refused with the question's number. For callers that still hand in a record by value.
-#[derive(Clone, Copy)]
-pub enum Boards {
-    Listed(usize, bool),
-    Refused(u8),
-}
-
 // How many boards may be written and are, and whether there is one more.
 #[derive(Clone, Copy)]
 struct Tally {
@@ -181,15 +174,4 @@ pub fn list_right_boards(p: &Puzzle, cap: usize, buffer: &mut [u8]) -> Result<Li
         clues: p.clues(),
     };
     Ok(search(rules, states, cap, buffer))
-}
-
-// The same of a record by value.
-pub fn right_boards(p: Puzzle, cap: usize, buffer: &mut [u8]) -> Boards
-    ensures value { result ≡ (boards_of p cap buffer.old).answer }
-    ensures buffer_after { buffer.new ≡ (boards_of p cap buffer.old).buffer }
-{
-    match list_right_boards(&p, cap, buffer) {
-        Ok(Listing { count, more }) => Boards::Listed(count, more),
-        Err(refusal) => Boards::Refused(u8::from(refusal)),
-    }
 }

@@ -10,8 +10,8 @@ use Rattle.ledger.specs.Ledger.{none_twice, stroke_code}
 use Rattle.ledger.specs.Books.{zeros, names_from, state_all, clear_all, start_of, book_holds}
 use Rattle.puzzle.specs.declared.Check.{Check}
 use Rattle.puzzle.specs.declared.Check.TheVariants.{Shape, Room}
-use Rattle.puzzle.specs.declared.Answer.{Answer}
-use Rattle.puzzle.specs.declared.Answer.TheVariants.{Clear, Fault, Refused}
+use Rattle.puzzle.specs.Answer.{Answer}
+use Rattle.puzzle.specs.Answer.{Clear, Fault, Refused}
 use Rattle.room_parts.specs.Graph.{graph, states_in}
 use Rattle.city_count.specs.Fault.{room_fault}
 use Rattle.hand_over.specs.Sorted.{sorted_once}

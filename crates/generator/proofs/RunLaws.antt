@@ -25,7 +25,7 @@ use Rattle.rooms.specs.Rooms.{is_given}
 use Rattle.rooms.proofs.OneRoom.{one_room}
 use Rattle.clues.specs.Clues.{rises, clues_fit, lists_code}
 use Rattle.puzzle.specs.declared.Puzzle.{Puzzle}
-use Rattle.puzzle.specs.declared.Answer.TheVariants.{Refused}
+use Rattle.puzzle.specs.Answer.{Refused}
 use Rattle.puzzle.specs.Fault.{Found}
 use Rattle.puzzle.specs.Puzzle.{Asked, make_of, answer, answered, grid_of, book_of, puzzle_code, stroke_number, undo_number, fault_in, says}
 use Rattle.puzzle.proofs.Answers.{long_buffer, accepted_ask}

@@ -8,7 +8,7 @@ use Rattle.case_file.specs.declared.Call.{Call}
 use Rattle.case_file.specs.declared.Call.TheVariants.{Undo, Decide, Ask}
 use Rattle.case_file.specs.Sound.{decode_of}
 use Rattle.puzzle.specs.declared.Puzzle.{Puzzle}
-use Rattle.puzzle.specs.declared.Answer.TheVariants.{Refused}
+use Rattle.puzzle.specs.Answer.{Refused}
 use Rattle.puzzle.specs.Puzzle.{fresh_puzzle}
 use Rattle.demand_3.specs.Run.{Reply, coded, asked, replies}
 use Rattle.demand_3.specs.Demand3.{Demand3}

@@ -15,8 +15,8 @@ use Rattle.ledger.specs.Ledger.{decisions, first_code}
 use Rattle.ledger.specs.Marks.{Entry}
 use Rattle.ledger.proofs.Codes.{as_decide}
 use Rattle.puzzle.specs.declared.Puzzle.{Puzzle}
-use Rattle.puzzle.specs.declared.Answer.{Answer}
-use Rattle.puzzle.specs.declared.Answer.TheVariants.{Refused}
+use Rattle.puzzle.specs.Answer.{Answer}
+use Rattle.puzzle.specs.Answer.{Refused}
 use Rattle.puzzle.specs.Fault.{Found}
 use Rattle.puzzle.specs.Puzzle.{answer, grid_of, book_of, borders_of, puzzle_code, onto, answered, stroke_of, decide_of, ask_code, Asked, says, writes, fault_in, ask_of}
 use Rattle.puzzle.proofs.Ready.{ready}

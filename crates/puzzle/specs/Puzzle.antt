@@ -17,8 +17,8 @@ use Rattle.ledger.specs.Books.{zeros, book, fresh_book, state_at, book_holds, pl
 use Rattle.board.specs.declared.Board.{Board}
 use Rattle.puzzle.specs.declared.Puzzle.{Puzzle}
 use Rattle.puzzle.specs.declared.Made.{Made}
-use Rattle.puzzle.specs.declared.Answer.{Answer}
-use Rattle.puzzle.specs.declared.Answer.TheVariants.{Clear, Fault, Refused}
+use Rattle.puzzle.specs.Answer.{Answer}
+use Rattle.puzzle.specs.Answer.{Clear, Fault, Refused}
 use Rattle.rooms.specs.Rooms.{is_given}
 use Rattle.clues.specs.Clues.{lists_code}
 use Rattle.puzzle.specs.Fault.{Found, fault_of}

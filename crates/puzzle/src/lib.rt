@@ -52,14 +52,6 @@ pub struct Fault {
     pub len: usize,
 }
 
-// What an ask answers: clear, a fault with the check that found it and its list's length, or refused with the question's number.
-#[derive(Clone, Copy)]
-pub enum Answer {
-    Clear,
-    Fault(Check, usize),
-    Refused(u8),
-}
-
 impl Puzzle {
     // A record whose every number is 0.
     fn zero() -> Puzzle
@@ -239,9 +231,6 @@ pub fn fault_of(
     })
 }
 
-// The calls on a record by value. The answer is made first and changed where it stands: the record is copied in and out, and not
-// once more.
-
 // Makes a puzzle of a size, given walls and clues, or refuses them by questions 1, 3, 7, 8 and 9 with a record of zeros.
 pub fn make(height: usize, width: usize, given: &[u16], clues: &[u16]) -> Made
     ensures { result ≡ make_of height width given.now clues.now }
@@ -259,58 +248,4 @@ pub fn make(height: usize, width: usize, given: &[u16], clues: &[u16]) -> Made
         out.puzzle.start(grid, given, clues);
     }
     out
-}
-
-// Questions 1 and 2 of a puzzle: their number, or 0.
-pub fn puzzle_code(p: Puzzle) -> u8
-    ensures { result ≡ puzzle_code p }
-{
-    answers::code_of(p.check())
-}
-
-// Decides the borders of a stroke, all or none.
-pub fn stroke(p: Puzzle, entries: &[u16]) -> Made
-    ensures { result ≡ stroke_of p (decisions entries.now) }
-{
-    let mut out = Made { code: 0, puzzle: p };
-    out.code = answers::code_of(out.puzzle.stroke(entries));
-    out
-}
-
-// Decides a border as Wall or Connected: a stroke of one.
-pub fn decide(p: Puzzle, border: usize, wall: bool) -> Made
-    ensures { result ≡ decide_of p border wall }
-{
-    let mut out = Made { code: 0, puzzle: p };
-    out.code = answers::code_of(out.puzzle.decide(border, wall));
-    out
-}
-
-// Takes the whole last stroke back.
-pub fn undo(p: Puzzle) -> Made
-    ensures { result ≡ undo_of p }
-{
-    let mut out = Made { code: 0, puzzle: p };
-    out.code = answers::code_of(out.puzzle.undo());
-    out
-}
-
-// What stands wrong on a puzzle as it stands.
-pub fn ask(p: Puzzle, buffer: &mut [u16]) -> Answer
-    ensures value { result ≡ (ask_of p buffer.old).answer }
-    ensures buffer_after { buffer.new ≡ (ask_of p buffer.old).buffer }
-{
-    Answer::from(p.ask(buffer))
-}
-
-impl From<Result<Option<Fault>, Refusal>> for Answer {
-    ghost from_gives = { λ asked answer. answer ≡ answer_in asked };
-
-    fn from(asked: Result<Option<Fault>, Refusal>) -> Answer {
-        match asked {
-            Ok(None) => Answer::Clear,
-            Ok(Some(Fault { check, len })) => Answer::Fault(check, len),
-            Err(refusal) => Answer::Refused(u8::from(refusal)),
-        }
-    }
 }

@@ -1,7 +1,7 @@
 -- `case_run::ask_line` meets its contract: a line for each answer. Assumes nothing.
 use Rattle.std.proofs.Common.{refl}
 use Rattle.answers.specs.Refusals.{number_of}
-use Rattle.puzzle.specs.declared.Answer.TheVariants.{Clear, Fault, Refused}
+use Rattle.puzzle.specs.Answer.{Clear, Fault, Refused}
 use Rattle.case_run.specs.CaseRun.{blank}
 use Rattle.case_run.proofs.LineLaws.{by_line}
 use Rattle.case_run.proofs.AskLaws.{fault_part, clear_line, fault_line, refused_line}

@@ -8,7 +8,7 @@ use Rattle.grid.specs.Grid.{border_count}
 use Rattle.puzzle.proofs.Ready.{ready}
 use Rattle.enumerate.proofs.Starting.{told_long, no_places, places, all_listed, cut_fits, cut_long, cut_is, cut_started}
 use Rattle.enumerate.specs.Boards.{answer_in}
-use Rattle.enumerate.specs.declared.Boards.TheVariants.{Refused}
+use Rattle.enumerate.specs.Boards.{Refused}
 use Rattle.enumerate.proofs.list_right_boards.Goals as goal
 
 pub slice_bounds-states-end : goal.slice_bounds-states-end

@@ -1,2 +1,0 @@
--- Nothing is defined here: the contracts are by the definitions of the by-value calls, `board`'s `stroke_of`, `decide_of` and `undo_of` and `shape_check`'s
--- `shape_outcome`.
