@@ -3,12 +3,10 @@ use Rattle.std.specs.Prelude.{ℕ, ◌≡◌, Bool, true, false, List, [], lengt
 use Rattle.std.specs.Prelude as std
 use Rattle.std.proofs.Math.Option.{Option, none, some}
 use Rattle.std.proofs.lemmas.List.Edits.{sets}
-use Rattle.answers.specs.declared.Listed.{Listed}
-use Rattle.answers.specs.declared.Listed.TheVariants as case_listed
-use Rattle.answers.specs.declared.Answer.{Answer}
-use Rattle.answers.specs.declared.Answer.TheVariants as case_answer
-use Rattle.answers.specs.declared.Found.{Found}
-use Rattle.answers.specs.declared.Found.TheVariants as case_found
+use Rattle.answers.specs.Listed.{Listed}
+use Rattle.answers.specs.Listed as case_listed
+use Rattle.answers.specs.Answer.{Answer}
+use Rattle.answers.specs.Answer as case_answer
 use Rattle.answers.specs.declared.Plain.{Plain}
 
 -- THE OUTCOME of a call: refused by the question of this number, clear, or a list (a fault's, where the call is an ask)
@@ -33,10 +31,6 @@ answer_of (refused n) = case_answer.Refused n
 answer_of clear = case_answer.Clear
 answer_of (listed l) = case_answer.Fault (length l)
 
-abbrev pub found_of : Option (List ℕ) → Found
-found_of none = case_found.Nothing
-found_of (some l) = case_found.Fault (length l)
-
 -- what the call lists
 abbrev pub list_of : Option (List ℕ) → List ℕ
 list_of none = []
@@ -48,12 +42,7 @@ written (refused n) buffer = buffer
 written clear buffer = buffer
 written (listed l) buffer = sets buffer 0 l
 
--- what a stage of a check answers and leaves
-pub record Told (o : Option (List ℕ)) (buffer buffer' : List ℕ) (r : Found) : Type 0 where
-  pub answer : r ≡ found_of o
-  pub stored : buffer' ≡ written (found o) buffer
-
--- the same where a stage answers by std's `Option`: nothing, or how many places hold the list
+-- what a stage of a check answers, nothing or how many places hold its list, and what it leaves
 abbrev pub length_found : Option (List ℕ) → std.Option ℕ
 length_found none = std.None
 length_found (some l) = std.Some (length l)

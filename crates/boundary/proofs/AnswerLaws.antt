@@ -19,7 +19,7 @@ use Rattle.groups.specs.Groups.{group_ids, group_count}
 use Rattle.groups.specs.Lent.{Lent, Grouped}
 use Rattle.groups.proofs.Theorems.{made_ids}
 use Rattle.answers.specs.declared.Plain.{Plain}
-use Rattle.answers.specs.declared.Listed.TheVariants as case
+use Rattle.answers.specs.Listed as case
 use Rattle.boundary.specs.Listing.{boundary}
 use Rattle.boundary.specs.Appended.{Appended}
 use Rattle.boundary.specs.Answer.{boundary_outcome}

@@ -6,16 +6,16 @@ ghost use Rattle.std.specs.Prelude.{◌≡◌, ◌≤◌, length, take, ltb};
 ghost use Rattle.std.proofs.lemmas.List.Edits.{sets};
 ghost use Rattle.limits.specs.Limits.{most_cells, most_borders};
 ghost use Rattle.lists.specs.Lists.{all};
-ghost use Rattle.answers.specs.Answers.{answer_of, written, Finds};
+ghost use Rattle.answers.specs.Answers.{written, Finds};
 ghost use Rattle.answers.specs.Refusals.{code_of, Answers};
 ghost use Rattle.ledger.specs.Ledger.{decisions, state_for};
 ghost use Rattle.ledger.specs.Books.{zeros};
 ghost use Rattle.borders.specs.Entry.{entry_of};
 ghost use Rattle.room_parts.specs.Graph.{graph_of, states_in};
 ghost use Rattle.city_count.specs.Fault.{entries_of, room_fault};
-ghost use Rattle.city_count.specs.Room.{ends_exist, room_code, fresh_room, answer, made, make_of, stroke_of, decide_of, undo_of, ask_of};
+ghost use Rattle.city_count.specs.Room.{ends_exist, room_code, fresh_room, answer, made, make_of, room_of, stroke_of, decide_of, undo_of, ask_of};
 
-use answers::{Answer, Refusal};
+use answers::Refusal;
 use ledger::Book;
 use room_parts::RoomGraph;
 
@@ -69,9 +69,17 @@ impl CityCountConstraint {
             return Err(Refusal::Missing);
         }
         let mut room = CityCountConstraint::empty(n, us.len(), count);
-        lists::copy(us, &mut room.us);
-        lists::copy(vs, &mut room.vs);
+        room.put_ends(us, vs);
         Ok(room)
+    }
+
+    // Copies the edges' ends to the fronts of the arrays.
+    fn put_ends(&mut self, us: &[u16], vs: &[u16])
+        requires { (length us.now ≤ most_borders) × (length vs.now ≤ most_borders) }
+        ensures { self.new ≡ room_of self.old.vertices self.old.edges (sets self.old.us 0 us.now) (sets self.old.vs 0 vs.now) self.old.count self.old.book }
+    {
+        self.us[..us.len()].copy_from_slice(us);
+        self.vs[..vs.len()].copy_from_slice(vs);
     }
 
     // Questions 1 and 2: whether a record holds together.
@@ -201,9 +209,6 @@ fn ends_exist(n: usize, us: &[u16], vs: &[u16]) -> bool
     all_below(n, us) && all_below(n, vs)
 }
 
-// The calls on a record by value. The answer is made first and changed where it stands: the record's 14 KB are copied in and
-// out, and not once more.
-
 // A room graph, or refused with a record of zeros.
 pub fn make<'a>(n: usize, us: &'a [u16], vs: &'a [u16], count: u32) -> Decided
     ensures { result ≡ make_of n us.now vs.now count }
@@ -214,51 +219,5 @@ pub fn make<'a>(n: usize, us: &'a [u16], vs: &'a [u16], count: u32) -> Decided
             code: u8::from(refusal),
             room: CityCountConstraint::empty(0, 0, 0),
         },
-    }
-}
-
-// Whether a record holds together: 0, or the number of the question that refuses it, 1 or 2.
-pub fn check(r: CityCountConstraint) -> u8
-    ensures { result ≡ room_code r }
-{
-    answers::code_of(r.check())
-}
-
-// Decides the edges of a stroke, all or none.
-pub fn stroke(r: CityCountConstraint, entries: &[u16]) -> Decided
-    ensures { result ≡ stroke_of r (decisions entries.now) }
-{
-    let mut out = Decided { code: 0, room: r };
-    out.code = answers::code_of(out.room.stroke(entries));
-    out
-}
-
-// Decides an edge as Wall or Connected: a stroke of one.
-pub fn decide(r: CityCountConstraint, edge: usize, wall: bool) -> Decided
-    ensures { result ≡ decide_of r edge wall }
-{
-    let mut out = Decided { code: 0, room: r };
-    out.code = answers::code_of(out.room.decide(edge, wall));
-    out
-}
-
-// Takes the whole last stroke back.
-pub fn undo(r: CityCountConstraint) -> Decided
-    ensures { result ≡ undo_of r }
-{
-    let mut out = Decided { code: 0, room: r };
-    out.code = answers::code_of(out.room.undo());
-    out
-}
-
-// The room check, for callers that still take `Answer`.
-pub fn ask(r: CityCountConstraint, buffer: &mut [u16]) -> Answer
-    ensures value { result ≡ answer_of (ask_of r (length buffer.old)) }
-    ensures buffer_after { buffer.new ≡ written (ask_of r (length buffer.old)) buffer.old }
-{
-    match r.ask(buffer) {
-        Ok(None) => Answer::Clear,
-        Ok(Some(n)) => Answer::Fault(n),
-        Err(refusal) => Answer::Refused(u8::from(refusal)),
     }
 }

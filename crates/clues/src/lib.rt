@@ -79,11 +79,3 @@ pub fn check_lists(grid: Grid, given: &[u16], clues: &[u16]) -> Result<(), Refus
         check_rooms::<{ limits::CELLS }>(grid, given, clues)
     }
 }
-
-// The number of the question, or 0. For callers that still take a number.
-pub fn lists_code<'a>(g: Grid, given: &'a [u16], clues: &'a [u16]) -> u8
-    requires { Limits g }
-    ensures { result ≡ lists_code g given.now clues.now }
-{
-    answers::code_of(check_lists(g, given, clues))
-}

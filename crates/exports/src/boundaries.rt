@@ -12,7 +12,7 @@ pub extern "C" fn sendai_unit_boundary(b: Board, unit: usize, buffer: &mut [u16]
     ensures value { result ≡ listed_plain (boundary_outcome b false unit (length buffer.old)) }
     ensures buffer_after { buffer.new ≡ written (boundary_outcome b false unit (length buffer.old)) buffer.old }
 {
-    Plain::from(boundary::of_unit(&b, unit, buffer))
+    Plain::from(boundary::reason_for_unit_and_its_boundary(&b, unit, buffer))
 }
 
 #[unsafe(no_mangle)]
@@ -20,5 +20,5 @@ pub extern "C" fn sendai_potential_unit_boundary(b: Board, unit: usize, buffer: 
     ensures value { result ≡ listed_plain (boundary_outcome b true unit (length buffer.old)) }
     ensures buffer_after { buffer.new ≡ written (boundary_outcome b true unit (length buffer.old)) buffer.old }
 {
-    Plain::from(boundary::of_potential_unit(&b, unit, buffer))
+    Plain::from(boundary::reason_for_potential_unit_boundary(&b, unit, buffer))
 }

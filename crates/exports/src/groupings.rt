@@ -12,7 +12,7 @@ pub extern "C" fn sendai_groups(b: Board, is_potential: bool, buffer: &mut [u16]
     ensures value { result ≡ grouping_of b is_potential (length buffer.old) }
     ensures buffer_after { buffer.new ≡ buffer_of b is_potential buffer.old }
 {
-    Grouping::from(groups::connected_components(&b, is_potential, buffer))
+    Grouping::from(groups::compute_connected_components(&b, is_potential, buffer))
 }
 
 // How many cells the group has; they are copied to the front of `out`. 0, and nothing is copied, where the hand-out is refused or `out`

@@ -39,7 +39,7 @@ pub extern "C" fn sendai_board_ask_in_place(b: &Board, buffer: &mut [u16]) -> Pl
     ensures value { result ≡ answer_plain (shape_outcome b.now (length buffer.old)) }
     ensures buffer_after { buffer.new ≡ written (shape_outcome b.now (length buffer.old)) buffer.old }
 {
-    Plain::from(shape_check::find(b, buffer))
+    Plain::from(shape_check::find_inconsistency(b, buffer))
 }
 
 #[unsafe(no_mangle)]

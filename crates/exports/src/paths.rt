@@ -12,5 +12,5 @@ pub extern "C" fn sendai_path(b: Board, start: usize, target: usize, buffer: &mu
     ensures value { result ≡ listed_plain (path_outcome b start target (length buffer.old)) }
     ensures buffer_after { buffer.new ≡ written (path_outcome b start target (length buffer.old)) buffer.old }
 {
-    Plain::from(path::between(&b, start, target, buffer))
+    Plain::from(path::reason_for_path(&b, start, target, buffer))
 }

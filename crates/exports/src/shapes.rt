@@ -12,5 +12,5 @@ pub extern "C" fn sendai_board_ask(b: Board, buffer: &mut [u16]) -> Plain
     ensures value { result ≡ answer_plain (shape_outcome b (length buffer.old)) }
     ensures buffer_after { buffer.new ≡ written (shape_outcome b (length buffer.old)) buffer.old }
 {
-    Plain::from(shape_check::find(&b, buffer))
+    Plain::from(shape_check::find_inconsistency(&b, buffer))
 }

@@ -15,7 +15,7 @@ use Rattle.lists.specs.Choice.{pick}
 use Rattle.lists.proofs.ChoiceLaws.{both_true}
 use Rattle.lists.proofs.SetsLaws.{front}
 use Rattle.answers.specs.Answers.{Outcome, refused, listed, listed_of, written}
-use Rattle.answers.specs.declared.Listed.TheVariants as answer
+use Rattle.answers.specs.Listed as answer
 use Rattle.grid.specs.declared.Grid.{Grid}
 use Rattle.grid.specs.Grid.{grid, sizes_ok, border_count}
 use Rattle.puzzle.specs.declared.Made.{Made}

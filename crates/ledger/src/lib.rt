@@ -250,7 +250,7 @@ fn free(mark: u8, before: bool) -> bool
 fn border_of(x: u16) -> usize
     ensures { result ≡ half x }
 {
-    lists::wide(x) / 2
+    usize::from(x) / 2
 }
 
 // The entry of a border and its value. A border that no record has becomes one that no entry of a record's border is.

@@ -25,4 +25,3 @@ any_is p xs r e =
 -- what `fill` leaves in a part of n places
 pub filled : (ys : List ℕ) (n v : ℕ) → length ys ≡ n → ((k : ℕ) → k < n → get_or ys k 0 ≡ v) → ys ≡ replicate n v
 filled ys n v size each = ext_get_or 0 ys (replicate n v) (size ∙ sym (length-replicate {A = ℕ} n v)) (λ j q. let l : j < n = rw size at q in each j l ∙ sym (get_or-replicate n j v 0 l))
-

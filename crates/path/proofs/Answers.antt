@@ -21,7 +21,7 @@ use Rattle.board.specs.Board.{size_of, board_code}
 use Rattle.std.specs.Prelude.{Result, Ok, Err}
 use Rattle.std.specs.Result.{result_unwrap_or}
 use Rattle.answers.specs.declared.Plain.{Plain}
-use Rattle.answers.specs.declared.Listed.TheVariants as case
+use Rattle.answers.specs.Listed as case
 use Rattle.answers.specs.declared.Refusal.{Refusal}
 use Rattle.answers.specs.Refusals.{number_of, Lists as Answered}
 use Rattle.borders.specs.Fits.{Fits}

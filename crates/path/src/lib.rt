@@ -10,7 +10,7 @@ ghost use Rattle.answers.specs.Refusals.{Lists};
 ghost use Rattle.path.specs.Answer.{joined, path_outcome};
 ghost use Rattle.path.specs.Trace.{Traced, LooksFrom, Follows, Fresh, Back, Walks};
 
-use answers::{Listed, Refusal};
+use answers::Refusal;
 use board::Board;
 use borders::Borders;
 use grid::{Direction, Neighbour};
@@ -129,7 +129,7 @@ pub fn list_joined(b: Borders<'_>, start: usize, target: usize, buffer: &mut [u1
 
 // The path list of two cells of a board: the entries from the target back to the start.
 #[tactic(auto, unfolding(crate::specs::Answer::path_outcome))]
-pub fn between(b: &Board, start: usize, target: usize, buffer: &mut [u16]) -> Result<usize, Refusal>
+pub fn reason_for_path(b: &Board, start: usize, target: usize, buffer: &mut [u16]) -> Result<usize, Refusal>
     ensures value { Lists (path_outcome b.now start target (length buffer.old)) result }
     ensures buffer_after { buffer.new ≡ written (path_outcome b.now start target (length buffer.old)) buffer.old }
 {
@@ -145,15 +145,4 @@ pub fn between(b: &Board, start: usize, target: usize, buffer: &mut [u16]) -> Re
         return Err(Refusal::ShortBuffer);
     }
     list(b.borders(), start, target, buffer)
-}
-
-// For callers that still hand in a record and take a refusal's number.
-pub fn reason_for_path(b: Board, start: usize, target: usize, buffer: &mut [u16]) -> Listed
-    ensures value { result ≡ listed_of (path_outcome b start target (length buffer.old)) }
-    ensures buffer_after { buffer.new ≡ written (path_outcome b start target (length buffer.old)) buffer.old }
-{
-    match between(&b, start, target, buffer) {
-        Ok(length) => Listed::List(length),
-        Err(refusal) => Listed::Refused(u8::from(refusal)),
-    }
 }

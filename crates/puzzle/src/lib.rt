@@ -147,7 +147,7 @@ impl Puzzle {
         if limits::CELLS < self.clues_len {
             return Err(Refusal::Record);
         }
-        if clues::lists_code(self.board.grid, self.given(), self.clues()) != 0 {
+        if clues::check_lists(self.board.grid, self.given(), self.clues()).is_err() {
             return Err(Refusal::Record);
         }
         if !self.ledger_holds() {
@@ -218,7 +218,7 @@ pub fn fault_of(
     ensures value { result ≡ told (fault_of b.entry.grid given.now clues.now b.entry.states.now) }
     ensures buffer_after { buffer.new ≡ writes 0 (fault_of b.entry.grid given.now clues.now b.entry.states.now) buffer.old }
 {
-    if let Some(len) = shape_check::fault(b, buffer) {
+    if let Some(len) = shape_check::shape_fault(b, buffer) {
         return Some(Fault {
             check: Check::Shape,
             len,

@@ -52,7 +52,7 @@ pub fn rooms_of(g: Grid, given: &[u16], ids: &mut [u16], sizes: &mut [u16]) -> u
 {
     if given.is_empty() {
         let n = g.cell_count();
-        lists::fill(ids, n, 0);
+        ids[..n].fill(0);
         sizes[0] = n as u16;
         1
     } else if g.is_small() {

@@ -16,7 +16,7 @@ use Rattle.groups.specs.Lent.{Fits}
 use Rattle.shape.specs.Shape.{shape_fault}
 use Rattle.std.specs.Prelude as std
 use Rattle.answers.specs.declared.Answer.{Answer}
-use Rattle.answers.specs.declared.Answer.TheVariants.{Clear, Fault as IsFault, Refused}
+use Rattle.answers.specs.Answer.{Clear, Fault as IsFault, Refused}
 use Rattle.answers.specs.Answers.{Finds, Outcome, refused, answer_of, written, found}
 use Rattle.inner_walls.proofs.FindLaws.{finds_fault, finds_nothing}
 use Rattle.shape_check.specs.Answer.{shape_outcome}

@@ -192,33 +192,3 @@ pub fn new(n: usize) -> Made
         },
     }
 }
-
-pub fn find(u: UnionFind, x: usize) -> Found
-    ensures { result ≡ find_of u x }
-{
-    let mut found = Found {
-        code: 0,
-        root: 0,
-        union: u,
-    };
-    match found.union.find(x) {
-        Ok(root) => found.root = root,
-        Err(refusal) => found.code = u8::from(refusal),
-    }
-    found
-}
-
-pub fn unite(u: UnionFind, x: usize, y: usize) -> United
-    ensures { result ≡ unite_of u x y }
-{
-    let mut answer = United {
-        code: 0,
-        united: false,
-        union: u,
-    };
-    match answer.union.unite(x, y) {
-        Ok(united) => answer.united = united,
-        Err(refusal) => answer.code = u8::from(refusal),
-    }
-    answer
-}

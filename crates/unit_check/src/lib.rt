@@ -7,9 +7,7 @@ ghost use Rattle.answers.specs.Answers.{Told, Finds};
 ghost use Rattle.unit_check.specs.Units.{unit_stage, Staged, Checked};
 
 use adjacency::{Near, Potentials};
-use answers::Found;
 use borders::Borders;
-use grid::Grid;
 use groups::Groups;
 use limits::CELLS;
 use offsets::chart::Chart;
@@ -78,29 +76,4 @@ pub fn check<'a>(borders: Borders<'a>, units: Groups<'a>, buffer: &mut [u16]) ->
         return check_in::<64, 65, 256, 384>(borders, units, buffer);
     }
     check_in::<CELLS, 1025, 4096, 6144>(borders, units, buffer)
-}
-
-// For callers that still hand in slices. The units of a board: `ids` has each cell's, `starts` where each one's cells begin in `flat`.
-pub fn check_units<'a>(
-    g: Grid,
-    states: &'a [u8],
-    ids: &'a [u16],
-    starts: &'a [u16],
-    flat: &'a [u16],
-    buffer: &mut [u16],
-) -> Found
-    requires { Staged g states.now ids.now starts.now flat.now (length buffer.old) }
-    ensures { Told (unit_stage g states.now ids.now (length starts.now)) buffer.old buffer.new result }
-{
-    let borders = Borders { grid: g, states };
-    let units = Groups {
-        grid: g,
-        ids,
-        starts,
-        flat,
-    };
-    match check(borders, units, buffer) {
-        Some(len) => Found::Fault(len),
-        None => Found::Nothing,
-    }
 }

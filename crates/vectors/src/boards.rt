@@ -68,12 +68,12 @@ impl Question {
     // The board's answer, and its list in the buffer.
     fn ask(self, board: &Board, buffer: &mut [u16]) -> Plain {
         match self {
-            Question::Path { start, target } => path::between(board, start, target, buffer).into(),
-            Question::Unit(unit) => boundary::of_unit(board, unit, buffer).into(),
-            Question::PotentialUnit(unit) => boundary::of_potential_unit(
+            Question::Path { start, target } => path::reason_for_path(board, start, target, buffer).into(),
+            Question::Unit(unit) => boundary::reason_for_unit_and_its_boundary(board, unit, buffer).into(),
+            Question::PotentialUnit(unit) => boundary::reason_for_potential_unit_boundary(
                 board, unit, buffer,
             ).into(),
-            Question::Fault => shape_check::find(board, buffer).into(),
+            Question::Fault => shape_check::find_inconsistency(board, buffer).into(),
         }
     }
 }
@@ -108,7 +108,7 @@ impl<W: Write + Drop> Desk<W> {
     // The groups of so many cells: each cell's group, the cells in turn and the starts.
     fn say_groups(&mut self, cells: usize, is_potential: bool) -> io::Result<()> {
         let mut buffer = [0u16; limits::CELLS];
-        let made = groups::connected_components(&self.board, is_potential, &mut buffer);
+        let made = groups::compute_connected_components(&self.board, is_potential, &mut buffer);
         let Grouping { code, info } = made.into();
         let ids = Spaced(first(&info.ids, cells));
         let turn = Spaced(first(&buffer, cells));
@@ -119,7 +119,7 @@ impl<W: Write + Drop> Desk<W> {
     // The cells that are handed out for a group.
     fn say_group(&mut self, group: usize, is_potential: bool) -> io::Result<()> {
         let mut buffer = [0u16; limits::CELLS];
-        let made = groups::connected_components(&self.board, is_potential, &mut buffer);
+        let made = groups::compute_connected_components(&self.board, is_potential, &mut buffer);
         let Grouping { info, .. } = made.into();
         let part = groups::group(info, &buffer, group);
         let len = part.len();

@@ -1,6 +1,6 @@
--- `path::reason_for_path` meets its contract: the cases of what `between` answers. Assumes nothing.
-use Rattle.path.proofs.Answers.{path_told}
+-- `path::reason_for_path` meets its contract: a law for each question, and what `list` ensures. Assumes nothing.
+use native.Mathlib.Omega.{arith}
 use Rattle.path.proofs.reason_for_path.Goals as goal
 
-pub returns-in-Ok-clause-value : goal.returns-in-Ok-clause-value
-returns-in-Ok-clause-value c = path_told _ _ _ _ _ c.in-Ok.ensures.value
+pub list-requires : goal.list-requires
+list-requires c = rw c.borders.ensures.grid (record { cells = (omega (arith, c.cell_count-cells.ensures), omega (arith, c.cell_count-cells.ensures)); width_in_bounds = omega (arith, c.cell_count-cells.ensures) })

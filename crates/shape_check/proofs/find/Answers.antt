@@ -1,1 +1,0 @@
--- `shape_check::find` meets its contract. Assumes nothing.

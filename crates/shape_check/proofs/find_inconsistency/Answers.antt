@@ -1,0 +1,1 @@
+-- `shape_check::find_inconsistency` meets its contract. Assumes nothing.
