@@ -35,22 +35,25 @@ impl Call {
 
 impl<W: Write + Drop> Desk<W> {
     pub fn on_room(&mut self, call: Call) -> io::Result<()> {
-        let decided = match call {
-            Call::Make { vertices, count } => {
-                city_count::make(vertices, &self.first, &self.second, count)
-            }
-            Call::Stroke => city_count::stroke(self.room, &self.first),
-            Call::Decide { edge, wall } => city_count::decide(self.room, edge, wall),
-            Call::Undo => city_count::undo(self.room),
+        let done = match call {
+            Call::Make { vertices, count } => return self.make_room(vertices, count),
+            Call::Stroke => self.room.stroke(&self.first),
+            Call::Decide { edge, wall } => self.room.decide(edge, wall),
+            Call::Undo => self.room.undo(),
             Call::Ask => return self.ask_room(),
         };
-        self.room = decided.room;
-        self.say(decided.code)
+        self.say_done(done)
+    }
+
+    fn make_room(&mut self, vertices: usize, count: u32) -> io::Result<()> {
+        let made = city_count::make(vertices, &self.first, &self.second, count);
+        self.room = made.room;
+        self.say(made.code)
     }
 
     fn ask_room(&mut self) -> io::Result<()> {
         let mut buffer = [0u16; limits::BORDERS];
-        let asked = city_count::ask(self.room, &mut buffer);
-        self.say_plain(answers::of_answer(asked), &buffer)
+        let asked = self.room.ask(&mut buffer);
+        self.say_plain(asked.into(), &buffer)
     }
 }

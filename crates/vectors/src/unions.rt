@@ -1,6 +1,7 @@
 // Calls on a union: make, find, unite, and its parents.
 use crate::desk::Desk;
 use crate::text::{Spaced, first};
+use answers::Refusal;
 use std::io;
 use std::io::Write;
 
@@ -34,18 +35,12 @@ impl<W: Write + Drop> Desk<W> {
                 self.say(made.code)
             }
             Call::Find { vertex } => {
-                let found = union_find::find(self.union, vertex);
-                self.union = found.union;
-                let code = found.code;
-                let root = found.root;
-                writeln!(self.out, "{code} {root}")
+                let root = self.union.find(vertex);
+                self.say_number(root)
             }
             Call::Unite { one, other } => {
-                let united = union_find::unite(self.union, one, other);
-                self.union = united.union;
-                let code = united.code;
-                let joined = u8::from(united.united);
-                writeln!(self.out, "{code} {joined}")
+                let united = self.union.unite(one, other);
+                self.say_number(united.map(usize::from))
             }
             Call::Parents => {
                 let n = self.union.n;
@@ -53,5 +48,12 @@ impl<W: Write + Drop> Desk<W> {
                 writeln!(self.out, "{n}{parents}")
             }
         }
+    }
+
+    // 0 and a number, or the number of a refusal and 0.
+    fn say_number(&mut self, answer: Result<usize, Refusal>) -> io::Result<()> {
+        let code = answer.map_or_else(u8::from, |_| 0);
+        let number = answer.unwrap_or(0);
+        writeln!(self.out, "{code} {number}")
     }
 }
