@@ -5,12 +5,12 @@ ghost use Rattle.std.specs.Prelude.{◌≡◌, List, ℕ, ◌*◌, ◌≤◌, le
 ghost use Rattle.std.proofs.lemmas.List.Edits.{sets};
 ghost use Rattle.grid.specs.Grid.{Cell};
 ghost use Rattle.path.specs.Path.{look as look_of, look_all, search as search_of, path_of, path_list};
-ghost use Rattle.answers.specs.Answers.{listed_of, written};
+ghost use Rattle.answers.specs.Answers.{written};
 ghost use Rattle.answers.specs.Refusals.{Lists};
 ghost use Rattle.path.specs.Answer.{joined, path_outcome};
 ghost use Rattle.path.specs.Trace.{Traced, LooksFrom, Follows, Fresh, Back, Walks};
 
-use answers::{Listed, Refusal};
+use answers::Refusal;
 use board::Board;
 use borders::Borders;
 use grid::{Direction, Neighbour};
@@ -145,15 +145,4 @@ pub fn between(b: &Board, start: usize, target: usize, buffer: &mut [u16]) -> Re
         return Err(Refusal::ShortBuffer);
     }
     list(b.borders(), start, target, buffer)
-}
-
-// For callers that still hand in a record and take a refusal's number.
-pub fn reason_for_path(b: Board, start: usize, target: usize, buffer: &mut [u16]) -> Listed
-    ensures value { result ≡ listed_of (path_outcome b start target (length buffer.old)) }
-    ensures buffer_after { buffer.new ≡ written (path_outcome b start target (length buffer.old)) buffer.old }
-{
-    match between(&b, start, target, buffer) {
-        Ok(length) => Listed::List(length),
-        Err(refusal) => Listed::Refused(u8::from(refusal)),
-    }
 }
