@@ -245,3 +245,10 @@ marking {g} {states} {pids} {count} {list = list} few a marks long p h =
           omega (arith, few o.0 o.1, o.2);
       own = omega arith;
     }
+
+-- the same of slices that are known to be equal
+pub listed_at : {g : Grid} {states pids : List ℕ} {count : ℕ} {starts list list' : List ℕ} → Adjacency g states pids count starts list → list ≡ list' → Adjacency g states pids count starts list'
+listed_at a e = rw (← e) a
+
+pub marked_at : {marks marks' : List ℕ} → Unmarked marks → marks ≡ marks' → Unmarked marks'
+marked_at u e q = rw (← e) (u q)

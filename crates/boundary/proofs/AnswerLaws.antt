@@ -49,31 +49,3 @@ module _ (b : Board) (p : Bool) (k : ℕ) (ready : 0 ≡ board_code b) {ids₀ s
       let n : r ≡ length xs = omega (arith, v.place) in
       let q = group_listed (length buffer) m in
       (rw (q, n), rw q v.stored)
-
--- AS A NUMBER: no question has the number 0
-not_first : (n : ℕ) (o : Outcome) → o ≢ refused 0 → pick (eqb n 0) o (refused n) ≢ refused 0
-not_first n o h q =
-    ⊎_elim
-    (λ (z : n ≡ 0). h (rw z at q))
-    (λ (z : n ≢ 0). z (let w : refused n ≡ refused 0 = rw (ne_eqb n 0 z) at q in cc))
-    (eq_or_ne n 0)
-
-not_either : (t : Bool) (a b : Outcome) → a ≢ refused 0 → b ≢ refused 0 → pick t a b ≢ refused 0
-not_either true a b h k = h
-not_either false a b h k = k
-
-numbered : (b : Board) (p : Bool) (k room : ℕ) → boundary_outcome b p k room ≢ refused 0
-numbered b p k room =
-    let g = size_of b in
-    not_first (board_code b) _
-    (not_either (ltb k (group_count g b.book.states p)) _ _
-    (not_either (leb (9 * cells g) room) _ _ (λ q. let z : ◌≡◌ {A = ℕ} 0 1 = cc in omega arith) (λ q. let z : ◌≡◌ {A = ℕ} 6 0 = cc in omega arith))
-    (λ q. let z : ◌≡◌ {A = ℕ} 3 0 = cc in omega arith))
-
-list_told : (o : Outcome) (n : ℕ) → o ≢ refused 0 → Lists o (Ok n) → case.List n ≡ listed_of o
-list_told (refused k) n h q = absurd (h (ap refused (ap (λ (p : Plain). p.code) (sym q))))
-list_told clear n h q = ap case.List (ap (λ (p : Plain). p.length) q)
-list_told (listed l) n h q = ap case.List (ap (λ (p : Plain). p.length) q)
-
-pub boundary_told : (b : Board) (p : Bool) (k room n : ℕ) → Lists (boundary_outcome b p k room) (Ok n) → case.List n ≡ listed_of (boundary_outcome b p k room)
-boundary_told b p k room n = list_told (boundary_outcome b p k room) n (numbered b p k room)

@@ -126,37 +126,3 @@ module _ (b : Board) (start target room code : ℕ) (q : code ≡ board_code b) 
         pub answered : 9 * cells (size_of b) ≤ room → path_outcome b start target room ≡ joined (path_of (size_of b) b.book.states start target)
         unfolding path_outcome
         answered h = rw (← q, z, lt-ltb start (cells (size_of b)) s, lt-ltb target (cells (size_of b)) t, le-leb (9 * cells (size_of b)) room h)
-
--- no question has the number 0
-not_first : (n : ℕ) (o : Outcome) → o ≢ refused 0 → pick (eqb n 0) o (refused n) ≢ refused 0
-not_first n o h q =
-    ⊎_elim
-    (λ (z : n ≡ 0). h (rw z at q))
-    (λ (z : n ≢ 0). z (let w : refused n ≡ refused 0 = rw (ne_eqb n 0 z) at q in cc))
-    (eq_or_ne n 0)
-
-not_either : (t : Bool) (a b : Outcome) → a ≢ refused 0 → b ≢ refused 0 → pick t a b ≢ refused 0
-not_either true a b h k = h
-not_either false a b h k = k
-
-not_joined : (o : Option (List ℕ)) → joined o ≢ refused 0
-not_joined none q = absurd (let z : ◌≡◌ {A = ℕ} 10 0 = cc in omega arith)
-not_joined (some p) q = absurd (let z : ◌≡◌ {A = ℕ} 0 1 = cc in omega arith)
-
-numbered_outcome : (b : Board) (start target room : ℕ) → path_outcome b start target room ≢ refused 0
-unfolding path_outcome
-numbered_outcome b start target room =
-    let n = cells (size_of b) in
-    not_first (board_code b) _
-    (not_either (both (ltb start n) (ltb target n)) _ _
-    (not_either (leb (9 * n) room) _ _ (not_joined (path_of (size_of b) b.book.states start target)) (λ q. let z : ◌≡◌ {A = ℕ} 6 0 = cc in omega arith))
-    (λ q. let z : ◌≡◌ {A = ℕ} 3 0 = cc in omega arith))
-
--- as a number
-list_told : (o : Outcome) (n : ℕ) → o ≢ refused 0 → Answered o (Ok n) → case.List n ≡ listed_of o
-list_told (refused k) n h q = absurd (h (ap refused (ap (λ (p : Plain). p.code) (sym q))))
-list_told clear n h q = ap case.List (ap (λ (p : Plain). p.length) q)
-list_told (listed l) n h q = ap case.List (ap (λ (p : Plain). p.length) q)
-
-pub path_told : (b : Board) (start target room n : ℕ) → Answered (path_outcome b start target room) (Ok n) → case.List n ≡ listed_of (path_outcome b start target room)
-path_told b start target room n = list_told (path_outcome b start target room) n (numbered_outcome b start target room)

@@ -5,7 +5,7 @@ ghost use Rattle.std.specs.Prelude.{◌≡◌, List, ℕ, ◌*◌, ◌≤◌, le
 ghost use Rattle.std.proofs.lemmas.List.Edits.{sets};
 ghost use Rattle.grid.specs.Grid.{Cell};
 ghost use Rattle.path.specs.Path.{look as look_of, look_all, search as search_of, path_of, path_list};
-ghost use Rattle.answers.specs.Answers.{listed_of, written};
+ghost use Rattle.answers.specs.Answers.{written};
 ghost use Rattle.answers.specs.Refusals.{Lists};
 ghost use Rattle.path.specs.Answer.{joined, path_outcome};
 ghost use Rattle.path.specs.Trace.{Traced, LooksFrom, Follows, Fresh, Back, Walks};

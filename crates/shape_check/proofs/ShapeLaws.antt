@@ -17,22 +17,11 @@ use Rattle.groups.specs.Lent.{Grouped}
 use Rattle.groups.specs.Info.{blank_places}
 use Rattle.shape.specs.Shape.{inner_wall, unit_fault, fault_in, shape_fault}
 use Rattle.groups.proofs.Theorems.{arrays_lent, made, made_ids, made_ids_fit, made_starts_fit}
-use Rattle.answers.specs.declared.Found.{Found}
-use Rattle.answers.specs.declared.Found.TheVariants.{Nothing, Fault}
 use Rattle.answers.specs.Answers.{Finds, Told, found, length_found}
 use Rattle.answers.specs.Refusals.{Answers}
 use Rattle.inner_walls.specs.Asked.{Asked}
 use Rattle.inner_walls.proofs.FindLaws.{finds_long, first_finds, next_finds}
 use Rattle.unit_check.specs.Units.{unit_stage, Checked}
-
--- what a stage finds, as it is told to callers that take no option
-pub some_told : (o : Option (List ℕ)) {b b' : List ℕ} {r : std.Option ℕ} {n : ℕ} → Finds o b b' r → r ≡ std.Some n → Told o b b' (Fault n)
-some_told none {n = n} t e = absurd (let q : std.None ≡ std.Some n = sym t.answer ∙ e in let z : ◌≡◌ {A = ℕ} 0 1 = cc in omega arith)
-some_told (some L) {n = n} t e = record { answer = (let q : std.Some (length L) ≡ std.Some n = sym t.answer ∙ e in cc); stored = t.stored }
-
-pub none_told : (o : Option (List ℕ)) {b b' : List ℕ} {r : std.Option ℕ} → Finds o b b' r → r ≡ std.None → Told o b b' Nothing
-none_told none t e = record { answer = refl; stored = t.stored }
-none_told (some L) t e = absurd (let q : std.Some (length L) ≡ std.None = sym t.answer ∙ e in let z : ◌≡◌ {A = ℕ} 0 1 = cc in omega arith)
 
 -- a check that nothing refuses answers what it finds
 pub found_answers : (o : Option (List ℕ)) {r : std.Option ℕ} → r ≡ length_found o → Answers (found o) (std.Ok r)

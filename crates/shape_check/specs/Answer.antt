@@ -2,16 +2,10 @@
 use Rattle.std.specs.Prelude.{ℕ, ◌*◌, eqb, leb}
 use Rattle.lists.specs.Choice.{pick}
 use Rattle.answers.specs.Answers.{Outcome, refused, found}
-use Rattle.grid.specs.declared.Grid.{Grid}
 use Rattle.grid.specs.Grid.{cells}
-use Rattle.ledger.specs.declared.Book.{Book}
 use Rattle.board.specs.declared.Board.{Board}
 use Rattle.board.specs.Board.{size_of, board_code}
 use Rattle.shape.specs.Shape.{shape_fault}
-
--- the board of these parts
-abbrev pub board_of : Grid → Book → Board
-board_of g k = record { grid = g; book = k }
 
 -- questions 1 and 2 of the board, then 6: the buffer has room for 9·h·w entries
 abbrev pub shape_outcome : Board → ℕ → Outcome

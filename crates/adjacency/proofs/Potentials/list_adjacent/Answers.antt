@@ -1,10 +1,11 @@
 -- `adjacency::Potentials::list_adjacent` meets its contract: the lists of the first p are made. Assumes nothing.
 use Prim.Native.Nat.{◌<◌}
-use mathlib.Core.Path.{◌≡◌}
+use mathlib.Core.Path.{◌≡◌, refl, ◌∙◌}
 use native.Mathlib.Omega.{arith}
+use borrow.Author.Rules.{rules}
 use lib.ListN.{length}
 use lib.Seq.{get_or-set_same}
-use Rattle.adjacency.proofs.ListingLaws.{first_room, listing_none, on_board_lem, looks, listing_turn}
+use Rattle.adjacency.proofs.ListingLaws.{listed_at, marked_at, first_room, listing_none, on_board_lem, looks, listing_turn}
 use Rattle.adjacency.proofs.Potentials.list_adjacent.Goals as goal
 
 pub bounds-starts-0 : goal.bounds-starts-0
@@ -15,16 +16,20 @@ loop-p-init c =
     let s = c.args.self in
     let t = rw s.one_board at s.groups.turns in
     let r = c.requires.room in
-    listing_none s.borders.states.now t (first_room s.borders.states.now t r) c.requires.unmarked (get_or-set_same c.args.starts.now 0 0 0 (omega (arith, r.starts_long)))
+    record {
+      marks_same = refl;
+      list_same = refl;
+      done = listing_none s.borders.states.now t (first_room s.borders.states.now t r) c.requires.unmarked (get_or-set_same c.args.starts.now 0 0 0 (omega (arith, r.starts_long)));
+    }
 
-pub list_one-len-requires : goal.list_one-len-requires
-list_one-len-requires c =
+pub list_one-requires : goal.list_one-requires
+list_one-requires c =
     let s = c.args.self in
     let t = rw s.one_board at s.groups.turns in
     let r = first_room s.borders.states.now t c.requires.room in
     let h : c.loop-p.p < length s.groups.starts.now = omega (arith, c.len-p-end.ensures) in
     let e = rw s.one_board at c.cells.ensures in
-    let l = c.loop-p.invariant in
+    let l = c.loop-p.invariant.done in
     record { looks = looks s.borders.states.now t r l h e; by_index = on_board_lem s.borders.states.now t r l h e; unmarked = l.clear }
 
 pub loop-p-preserved : goal.loop-p-preserved
@@ -33,10 +38,16 @@ loop-p-preserved c =
     let t = rw s.one_board at s.groups.turns in
     let r = first_room s.borders.states.now t c.requires.room in
     let h : c.loop-p.p < length s.groups.starts.now = omega (arith, c.len-p-end.ensures) in
-    listing_turn s.borders.states.now t r c.loop-p.invariant h (rw s.one_board at c.cells.ensures) c.list_one-len.ensures
+    let i = c.loop-p.invariant in
+    let e = c.list_one.ensures in
+    record {
+      marks_same = e.same.0 ∙ i.marks_same;
+      list_same = e.same.1 ∙ i.list_same;
+      done = listing_turn s.borders.states.now t r i.done h (rw s.one_board at c.cells.ensures) e.listed;
+    }
 
 pub returns : goal.returns
 returns c =
-    let i = c.loop-p.invariant in
+    let i = c.loop-p.invariant.done in
     let e : c.loop-p.p ≡ length c.args.self.groups.starts.now = omega (arith, i.within, c.loop-p-test.false, c.len-p-end.ensures) in
-    record { adjacency = rw e at i.lists; unmarked_2 = i.clear }
+    record { adjacency = listed_at (rw e at i.lists) (search rules); unmarked_2 = marked_at i.clear (search rules) }
