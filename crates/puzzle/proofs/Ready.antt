@@ -1,8 +1,12 @@
 -- Questions 1 and 2 of a puzzle: a law for each answer, and what an accepted puzzle is like. Assumes nothing.
 use Prim.Native.Nat.{ℕ, ◌*◌, ◌≤◌, ◌<◌}
-use mathlib.Core.Path.{◌≡◌, refl, ap, ◌∙◌, fun_ext}
+use mathlib.Core.Path.{◌≡◌, refl, ap, sym, ◌∙◌, fun_ext}
 use mathlib.Core.Logic.{◌≢◌}
-use mathlib.Core.Bool.{Bool, true, false}
+use mathlib.Core.Bool.{Bool, true, false, true≢false}
+use Rattle.std.specs.Prelude.{Result, Ok, Err, is_err}
+use Rattle.answers.specs.declared.Refusal.{Refusal}
+use Rattle.answers.specs.Refusals.{code_of}
+use Rattle.answers.proofs.RefusalLaws.{some_number}
 use mathlib.Core.List.{List}
 use native.Mathlib.Omega.{arith}
 use borrow.Author.Tests.{eqb-true, eq-eqb, ne_eqb, le-leb, lt-leb, leb-true}
@@ -26,6 +30,15 @@ use Rattle.clues.proofs.Fitting.{lists_fit}
 use Rattle.room_checks.specs.RoomChecks.{Finding}
 use Rattle.puzzle.specs.declared.Puzzle.{Puzzle}
 use Rattle.puzzle.specs.Puzzle.{grid_of, book_of, borders_of, given_of, clues_of, together, puzzle_code}
+
+-- a check of the lists, by whether it is an error
+pub refused_lists : (r : Result (Unit {0}) Refusal) → is_err r ≡ true → code_of r ≢ 0
+refused_lists (Ok x) q = absurd (true≢false (sym q))
+refused_lists (Err e) q = λ z. omega (arith, some_number e, z)
+
+pub passed_lists : (r : Result (Unit {0}) Refusal) → is_err r ≡ false → code_of r ≡ 0
+passed_lists (Ok x) q = refl
+passed_lists (Err e) q = absurd (true≢false q)
 
 -- a puzzle that questions 1 and 2 accept
 pub record Ready (p : Puzzle) : Type 0 where

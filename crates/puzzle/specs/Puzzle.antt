@@ -63,6 +63,11 @@ make_code h w given clues = pick (sizes_ok (grid h w)) (lists_code (grid h w) gi
 abbrev pub make_of : ℕ → ℕ → List ℕ → List ℕ → Made
 make_of h w given clues = pick (eqb (make_code h w given clues) 0) (answer 0 (fresh_puzzle (grid h w) given clues)) (answer (make_code h w given clues) zero_puzzle)
 
+-- what a making comes to as a record
+abbrev pub made : std.Result Puzzle Refusal → Made
+made (std.Ok p) = answer 0 p
+made (std.Err refusal) = answer (number_of refusal) zero_puzzle
+
 -- CALLS
 abbrev pub grid_of : Puzzle → Grid
 grid_of p = p.board.grid

@@ -10,7 +10,7 @@ ghost use Rattle.rooms.specs.Lent.{Below, Given, Blank};
 ghost use Rattle.room_checks.specs.RoomChecks.{Finding};
 ghost use Rattle.answers.specs.Refusals.{code_of};
 ghost use Rattle.puzzle.specs.Fault.{fault_of};
-ghost use Rattle.puzzle.specs.Puzzle.{fresh_puzzle, zero_puzzle, answer, make_of, puzzle_code, grid_of, given_of, clues_of, borders_of, book_of, stroke_of, decide_of, undo_of, told, answer_in, writes, ask_of};
+ghost use Rattle.puzzle.specs.Puzzle.{fresh_puzzle, zero_puzzle, answer, made, make_of, puzzle_code, grid_of, given_of, clues_of, borders_of, book_of, stroke_of, decide_of, undo_of, told, answer_in, writes, ask_of};
 
 use answers::Refusal;
 use board::Board;
@@ -89,6 +89,40 @@ impl Puzzle {
         self.given_len = given.len();
         self.clues[..clues.len()].copy_from_slice(clues);
         self.clues_len = clues.len();
+    }
+
+    // The same where questions 1, 3, 7, 8 and 9 accept the size and the lists; a refusal leaves the zeros.
+    fn begin(
+        &mut self,
+        height: usize,
+        width: usize,
+        given: &[u16],
+        clues: &[u16],
+    ) -> Result<(), Refusal>
+        requires { self.old ≡ zero_puzzle }
+        ensures { answer (code_of result) self.new ≡ make_of height width given.now clues.now }
+    {
+        let grid = Grid { height, width };
+        if !grid.is_within_limits() {
+            return Err(Refusal::Size);
+        }
+        clues::check_lists(grid, given, clues)?;
+        self.start(grid, given, clues);
+        Ok(())
+    }
+
+    // A fresh puzzle of a size, given walls and clues.
+    pub fn new(
+        height: usize,
+        width: usize,
+        given: &[u16],
+        clues: &[u16],
+    ) -> Result<Puzzle, Refusal>
+        ensures { made result ≡ make_of height width given.now clues.now }
+    {
+        let mut puzzle = Puzzle::zero();
+        puzzle.begin(height, width, given, clues)?;
+        Ok(puzzle)
     }
 
     // The given walls.
@@ -231,21 +265,14 @@ pub fn fault_of(
     })
 }
 
-// Makes a puzzle of a size, given walls and clues, or refuses them by questions 1, 3, 7, 8 and 9 with a record of zeros.
+// The same as a record, of zeros where it is refused. The record is made where it stands, and not copied.
 pub fn make(height: usize, width: usize, given: &[u16], clues: &[u16]) -> Made
     ensures { result ≡ make_of height width given.now clues.now }
 {
     let mut out = Made {
-        code: 1,
+        code: 0,
         puzzle: Puzzle::zero(),
     };
-    let grid = Grid { height, width };
-    if !grid.is_within_limits() {
-        return out;
-    }
-    out.code = clues::lists_code(grid, given, clues);
-    if out.code == 0 {
-        out.puzzle.start(grid, given, clues);
-    }
+    out.code = answers::code_of(out.puzzle.begin(height, width, given, clues));
     out
 }
