@@ -23,7 +23,7 @@ const NAMES: [&str; 10] = [
 fn show_all(rt: &(impl Files + Print + Eprint)) -> io::Result<()> {
     for name in NAMES {
         rt.println(name)?;
-        program::run(rt, name)?;
+        program::run(rt, name.as_bytes())?;
     }
     Ok(())
 }

@@ -1,3 +1,3 @@
 -- Defined here: what is wrong with a file that is unsound, and at which byte (`Flaws`).
--- Proved in proofs/: only a sound file has no flaw (`FlawLaws.never_sound`).
+-- Proved in proofs/: only a sound file has no flaw (`FlawLaws.sound_exactly`).
 pub mod Flaws

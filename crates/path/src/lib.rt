@@ -129,7 +129,12 @@ pub fn list_joined(b: Borders<'_>, start: usize, target: usize, buffer: &mut [u1
 
 // The path list of two cells of a board: the entries from the target back to the start.
 #[tactic(auto, unfolding(crate::specs::Answer::path_outcome))]
-pub fn reason_for_path(b: &Board, start: usize, target: usize, buffer: &mut [u16]) -> Result<usize, Refusal>
+pub fn reason_for_path(
+    b: &Board,
+    start: usize,
+    target: usize,
+    buffer: &mut [u16],
+) -> Result<usize, Refusal>
     ensures value { Lists (path_outcome b.now start target (length buffer.old)) result }
     ensures buffer_after { buffer.new ≡ written (path_outcome b.now start target (length buffer.old)) buffer.old }
 {

@@ -67,8 +67,11 @@ fn read_full(file: &mut impl Read, buffer: &mut [u8]) -> usize
     filled
 }
 
-// What the program prints for a file; one that is missing is unsound.
-fn print_file(rt: &(impl Files + Print), name: &str) -> io::Result<()> {
+// What the program prints for a file; one that is missing is unsound, as is one whose name is no text.
+fn print_file(rt: &(impl Files + Print), name: &[u8]) -> io::Result<()> {
+    let Ok(name) = std::str::from_utf8(name) else {
+        return refuse(rt, Refusal::UnsoundFile.into());
+    };
     let Ok(mut file) = File::open(rt, name) else {
         return refuse(rt, Refusal::UnsoundFile.into());
     };
@@ -79,7 +82,7 @@ fn print_file(rt: &(impl Files + Print), name: &str) -> io::Result<()> {
 }
 
 // Prints what the program prints for a file. Where a line can't be written it says so on standard error.
-pub fn run(rt: &(impl Files + Print + Eprint), name: &str) -> io::Result<()> {
+pub fn run(rt: &(impl Files + Print + Eprint), name: &[u8]) -> io::Result<()> {
     let printed = print_file(rt, name);
     if printed.is_err() {
         let _ = rt.eprintln("sendai: standard output can't be written: not all lines are out");

@@ -3,5 +3,5 @@
 
 // Where a line can't be written, that has been said by then.
 fn main(rt: HostRuntime) {
-    let _ = program::run(&rt, "sendai.bin");
+    let _ = program::run(&rt, b"sendai.bin");
 }
