@@ -6,7 +6,7 @@ use mathlib.Core.Option.{Option, none, some}
 use native.Mathlib.Omega.{arith}
 use lib.ListN.{length, drop, get_or}
 use borrow.Author.Tests.{le-leb, lt-leb, lt-ltb, le-ltb, eq-eqb, ne_eqb}
-use Rattle.std.specs.Prelude.{Some, None}
+use Rattle.std.specs.Prelude.{Some, None, false}
 use Rattle.std.specs.Prelude as std
 use Rattle.lists.specs.Choice.{pick}
 use Rattle.case_file.specs.Sound.{Case}
@@ -86,6 +86,10 @@ module _ (bs : List ℕ) (fits : length bs ≤ 60003) where
 
       pub in_lists : n ≡ length bs - 3 → lists_of bs ≡ part_of bs
       in_lists e = sym (ap (λ b. pick b (lists_of bs) flaw.Length) (eq-eqb (count_of bs 1) (length bs - 3) (sym told ∙ e))) ∙ past_version
+
+-- a part that is wrong is a flaw
+pub never_sound : (bs : List ℕ) → is_sound (Some (part_of bs)) ≡ false
+never_sound bs = refl
 
 -- a file has no flaw exactly where it is sound
 pub sound_exactly : (d : Option Case) (f : Flaw) → is_sound (of_file (file_of d) f) ≡ sound_of d

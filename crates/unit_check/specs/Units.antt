@@ -3,24 +3,15 @@ use Rattle.std.specs.Prelude.{ℕ, ◌*◌, ◌≤◌, ◌≡◌, true, List, le
 use Rattle.std.proofs.Math.Option.{Option}
 use Rattle.lists.specs.Lists.{range, first}
 use Rattle.grid.specs.declared.Grid.{Grid}
-use Rattle.grid.specs.Grid.{Limits, cells, border_count}
+use Rattle.grid.specs.Grid.{cells}
 use Rattle.groups.specs.Groups.{group_ids, group_count}
-use Rattle.groups.specs.Lent.{InTurn}
 use Rattle.shape.specs.Shape.{unit_fault}
 
 -- the fault of the first unit that has one, of n units (SPEC 4.11)
 abbrev pub unit_stage : Grid → List ℕ → List ℕ → ℕ → Option (List ℕ)
 unit_stage g states ids n = first (unit_fault g states ids (group_ids g states true) (group_count g states true)) (range n)
 
--- the board with its units, and so much room in the buffer
-pub record Staged (g : Grid) (states ids starts flat : List ℕ) (room : ℕ) : Type 0 where
-  pub limits : Limits g
-  pub states_long : border_count g ≤ length states
-  pub ids_long : length ids ≡ cells g
-  pub units : InTurn g ids (length starts) starts flat
-  pub enough : 9 * cells g ≤ room
-
--- the same where the board's borders and its units are known as such
+-- there is a unit for each cell of the board, and so much room in the buffer
 pub record Checked (g g₁ : Grid) (ids : List ℕ) (room : ℕ) : Type 0 where
   pub units_of : g₁ ≡ g
   pub ids_long : length ids ≡ cells g

@@ -3,8 +3,8 @@
 
 ghost use Rattle.std.specs.Prelude.{◌+◌, ◌*◌, ◌≤◌, length};
 ghost use Rattle.grid.specs.Grid.{cells as cells_of};
-ghost use Rattle.answers.specs.Answers.{Told, Finds};
-ghost use Rattle.unit_check.specs.Units.{unit_stage, Staged, Checked};
+ghost use Rattle.answers.specs.Answers.{Finds};
+ghost use Rattle.unit_check.specs.Units.{unit_stage, Checked};
 
 use adjacency::{Near, Potentials};
 use borders::Borders;
