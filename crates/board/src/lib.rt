@@ -1,5 +1,4 @@
-// The board (`BoardManager`): a size around a book. Making, stroke, decide and undo where a board stands, and on a record by value, and whether a record
-// holds together.
+// The board (`BoardManager`): a size around a book, which is made, tested, and changed where it stands.
 #![tactic(auto)]
 
 ghost use Rattle.std.specs.Prelude.{◌≡◌};

@@ -49,9 +49,6 @@ pub record Ready (p : Puzzle) : Type 0 where
   pub holds : book_holds (borders_of p) (is_given (given_of p)) (book_of p) ≡ true
 
 module _ (p : Puzzle) where
-  pub no_size : sizes_ok (grid_of p) ≡ false → 1 ≡ puzzle_code p
-  no_size q = rw q
-
   module _ (ok : sizes_ok (grid_of p) ≡ true) where
     by_question : (t : Bool) → together p ≡ t → pick t 0 2 ≡ puzzle_code p
     by_question t q = rw (ok, q)
