@@ -1,10 +1,8 @@
 -- Std's words for tests of a whole list, which the contracts of `all` and `any` lead to, and ours. Assumes nothing.
-use Rattle.std.proofs.Common.{◌≡◌, refl, sym, ◌∙◌, ℕ, ◌+◌, ◌≤◌, ◌<◌, ◌↔◌, Bool, true, List, All, IsTrue, length, get_or}
-use lib.Seq.{sets, sets-eq, take-length, ext_get_or}
+use Rattle.std.proofs.Common.{◌≡◌, sym, ◌∙◌, ℕ, ◌<◌, ◌↔◌, Bool, List, All, IsTrue, length, get_or}
+use lib.Seq.{ext_get_or}
 use lib.ListN.{replicate, length-replicate, get_or-replicate}
-use borrow.Rule.Slice.PartMut.{put_mid}
-use Rattle.std.proofs.lemmas.Slice.{put_mid-paste}
-use Rattle.lists.specs.Lists.{all, any, In}
+use Rattle.lists.specs.Lists.{all, any}
 use Rattle.lists.proofs.ChoiceLaws.{same_truth}
 use Rattle.lists.proofs.ListLaws.{all_true, true_all, any_true, true_any, in_get_d, get_d_in}
 

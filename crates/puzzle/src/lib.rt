@@ -112,12 +112,7 @@ impl Puzzle {
     }
 
     // A fresh puzzle of a size, given walls and clues.
-    pub fn new(
-        height: usize,
-        width: usize,
-        given: &[u16],
-        clues: &[u16],
-    ) -> Result<Puzzle, Refusal>
+    pub fn new(height: usize, width: usize, given: &[u16], clues: &[u16]) -> Result<Puzzle, Refusal>
         ensures { made result ≡ make_of height width given.now clues.now }
     {
         let mut puzzle = Puzzle::zero();
@@ -149,9 +144,7 @@ impl Puzzle {
         ensures { result ≡ book_holds (borders_of self.now) (is_given (given_of self.now)) (book_of self.now) }
     {
         rooms::put(self.given(), 1, marks);
-        self.board
-            .book
-            .holds(self.board.grid.border_count(), marks)
+        self.board.book.holds(self.board.grid.border_count(), marks)
     }
 
     // Question 2 of the ledger. A small board has a short array, since all of an array is zeroed.
@@ -242,12 +235,7 @@ impl Puzzle {
 
 // The shape check, and then the counts of the clued rooms, on a board whose borders stand so: what an ask finds. The rooms are found
 // only where the shape check is clear and a room has a clue.
-pub fn fault_of(
-    b: Borders<'_>,
-    given: &[u16],
-    clues: &[u16],
-    buffer: &mut [u16],
-) -> Option<Fault>
+pub fn fault_of(b: Borders<'_>, given: &[u16], clues: &[u16], buffer: &mut [u16]) -> Option<Fault>
     requires { Finding b.grid given.now b.states.now clues.now buffer.old }
     ensures value { result ≡ told (fault_of b.entry.grid given.now clues.now b.entry.states.now) }
     ensures buffer_after { buffer.new ≡ writes 0 (fault_of b.entry.grid given.now clues.now b.entry.states.now) buffer.old }

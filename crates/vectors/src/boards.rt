@@ -68,8 +68,12 @@ impl Question {
     // The board's answer, and its list in the buffer.
     fn ask(self, board: &Board, buffer: &mut [u16]) -> Plain {
         match self {
-            Question::Path { start, target } => path::reason_for_path(board, start, target, buffer).into(),
-            Question::Unit(unit) => boundary::reason_for_unit_and_its_boundary(board, unit, buffer).into(),
+            Question::Path { start, target } => path::reason_for_path(
+                board, start, target, buffer,
+            ).into(),
+            Question::Unit(unit) => boundary::reason_for_unit_and_its_boundary(
+                board, unit, buffer,
+            ).into(),
             Question::PotentialUnit(unit) => boundary::reason_for_potential_unit_boundary(
                 board, unit, buffer,
             ).into(),
