@@ -1,8 +1,9 @@
 -- The first border that lands badly, taken one direction or one cell at a time. Assumes nothing.
-use Prim.Native.Nat.{ℕ, ◌+◌, ◌≤◌, ◌<◌}
+use Prim.Native.Nat.{ℕ, suc, ◌+◌, ◌≤◌, ◌<◌}
 use mathlib.Core.Path.{◌≡◌, refl, ap, sym, ◌∙◌}
-use mathlib.Core.List.{List, ◌∷◌}
-use mathlib.Core.Option.{Option}
+use mathlib.Core.List.{List, [], ◌∷◌}
+use mathlib.Core.Option.{Option, none, some}
+use native.Mathlib.Omega.{arith}
 use native.Mathlib.Numerals.{add-one}
 use lib.ListN.{get_or, length, drop, drop_of_length-le}
 use lib.Seq.{drop-cons}
@@ -35,3 +36,18 @@ module _ {A : Type 0} (f : A → Option ℕ) (xs : List A) where
     pub missed_more : r ≡ std.None → Missed (i + 1)
     unfolding first or_else
     missed_more k = record { rest = rw (told_none (f (get_or xs i d)) (sym answer ∙ k)) at next }
+
+  -- the last of them
+  pub missed_last : {i : ℕ} → Missed i → i < length xs → length xs ≤ i + 1 → (d : A) {r : std.Option ℕ} → r ≡ told (f (get_or xs i d)) → r ≡ told (first f xs)
+  unfolding first or_else
+  missed_last {i} m h l d answer = answer ∙ ap told (sym one ∙ m.rest)
+    where
+      alone : (o : Option ℕ) → or_else o none ≡ o
+      alone none = refl
+      alone (some e) = refl
+
+      behind : drop (suc i) xs ≡ []
+      behind = drop_of_length-le xs (let k : length xs ≤ suc i = omega arith in k)
+
+      one : first f (drop i xs) ≡ f (get_or xs i d)
+      one = rw (drop-cons xs i d h, behind) (alone (f (get_or xs i d)))

@@ -77,16 +77,31 @@ impl Chart<'_> {
         kind.is_bad(self.borders.states[border]).then_some(entry)
     }
 
-    // The entry of a cell's first border that lands badly.
+    // The entry of a cell's first border that lands badly. The directions of `Kind::directions` are written out, since a step is compiled for
+    // each: a loop over them took half as long again.
     pub fn cell_failure(self, shift: Shift, kind: Kind, cell: usize) -> Option<u16>
         requires { Turning self.borders.grid shift cell }
         ensures { result ≡ told (fail_cell self.entry.borders.grid shift self.entry.borders.states.now (units_in self.entry.borders.grid self.entry.table.now) (is_inner kind) cell) }
     {
-        for &direction in kind.directions() {
-            if let Some(entry) = self.failure(shift, kind, cell, direction) {
-                return Some(entry);
+        match kind {
+            Kind::Inner => {
+                if let Some(entry) = self.failure(shift, Kind::Inner, cell, Direction::Down) {
+                    return Some(entry);
+                }
+                self.failure(shift, Kind::Inner, cell, Direction::Right)
+            }
+            Kind::Outer => {
+                if let Some(entry) = self.failure(shift, Kind::Outer, cell, Direction::Up) {
+                    return Some(entry);
+                }
+                if let Some(entry) = self.failure(shift, Kind::Outer, cell, Direction::Down) {
+                    return Some(entry);
+                }
+                if let Some(entry) = self.failure(shift, Kind::Outer, cell, Direction::Left) {
+                    return Some(entry);
+                }
+                self.failure(shift, Kind::Outer, cell, Direction::Right)
             }
         }
-        None
     }
 }
