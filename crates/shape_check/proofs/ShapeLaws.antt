@@ -17,7 +17,7 @@ use Rattle.groups.specs.Lent.{Grouped}
 use Rattle.groups.specs.Info.{blank_places}
 use Rattle.shape.specs.Shape.{inner_wall, unit_fault, fault_in, shape_fault}
 use Rattle.groups.proofs.Theorems.{arrays_lent, made, made_ids, made_ids_fit, made_starts_fit}
-use Rattle.answers.specs.Answers.{Finds, Told, found, length_found}
+use Rattle.answers.specs.Answers.{Finds, found, length_found}
 use Rattle.answers.specs.Refusals.{Answers}
 use Rattle.inner_walls.specs.Asked.{Asked}
 use Rattle.inner_walls.proofs.FindLaws.{finds_long, first_finds, next_finds}
