@@ -3,14 +3,15 @@
 #![tactic(auto)]
 
 ghost use Rattle.std.specs.Prelude.{List, ℕ, not, ◌+◌, ◌*◌, ◌≤◌, ◌<◌, eqb, get_or};
-ghost use Rattle.grid.specs.declared.Grid.{Grid};
 ghost use Rattle.shape.specs.Shape.{head_or0};
 ghost use Rattle.offsets.specs.Table.{unit_in, potential_in, units_in, potentials_in};
+ghost use Rattle.offsets.specs.Trial.{Unit};
 ghost use Rattle.words.specs.Words.{Says};
 ghost use Rattle.cell_words.specs.Cells.{Blank, Inside, Stamped, Restamped};
 
+use grid::Grid;
 use marked::Marked;
-use offsets::unit::UnitCells;
+use offsets::table::CellInfo;
 
 pub mod marked;
 
@@ -21,13 +22,14 @@ pub struct Near {
     pub stamps: [Option<u16>; 32],
 }
 
-// Sets the bits of the unit's cells in words that are blank.
-pub fn add_cells(unit: UnitCells<'_>, inside: &mut [u64])
-    requires { Blank unit.chart.borders.grid inside.old }
-    ensures { Inside unit.entry.chart.borders.grid (units_in unit.entry.chart.borders.grid unit.entry.chart.table.now) (unit_in unit.entry.chart.table.now (head_or0 unit.entry.cells.now)) inside.new }
+// Sets the bits of a unit's cells in words that are blank. The size is named for the contract alone: the table has what is read.
+pub fn add_cells(_grid: Grid, table: &[CellInfo], cells: &[u16], inside: &mut [u64])
+    requires unit { Unit _grid table.now cells.now }
+    requires blank { Blank _grid inside.old }
+    ensures { Inside _grid (units_in _grid table.now) (unit_in table.now (head_or0 cells.now)) inside.new }
 {
-    for &cell in unit.cells {
-        let info = unit.chart.table[usize::from(cell)];
+    for &cell in cells {
+        let info = table[usize::from(cell)];
         let y = usize::from(info.row);
         inside[y] = words::with_bit(inside[y], true, 32 + usize::from(info.col));
     }
@@ -36,14 +38,14 @@ pub fn add_cells(unit: UnitCells<'_>, inside: &mut [u64])
 impl Marked<'_> {
     // The word of a row's cells in marked potential units.
     fn row_word(self, y: usize) -> u64
-        requires { y < self.chart.borders.grid.height }
-        ensures { Says self.entry.chart.borders.grid.width (λ x. not (eqb (get_or self.entry.marks.now (potential_in self.entry.chart.table.now (y * self.entry.chart.borders.grid.width + x)) 0) 0)) result }
+        requires { y < self.grid.height }
+        ensures { Says self.entry.grid.width (λ x. not (eqb (get_or self.entry.marks.now (potential_in self.entry.table.now (y * self.entry.grid.width + x)) 0) 0)) result }
     {
-        let width = self.chart.borders.grid.width;
+        let width = self.grid.width;
         let from = y * width;
         let mut word = 0;
         for x in 0..width {
-            let potential = usize::from(self.chart.table[from + x].potential);
+            let potential = usize::from(self.table[from + x].potential);
             word = words::with_bit(word, self.marks[potential] != 0, 32 + x);
         }
         word
@@ -63,9 +65,9 @@ impl Near {
 
     // Makes the word of a row for a potential unit, whose adjacent ones are marked, unless it stands there.
     fn stamp_row(&mut self, marked: Marked<'_>, y: usize)
-        requires stamped { Stamped marked.chart.borders.grid marked.chart.borders.states.now (potentials_in marked.chart.borders.grid marked.chart.table.now) self.old }
-        requires y_lt_height { y < marked.chart.borders.grid.height }
-        ensures { Restamped marked.entry.chart.borders.grid marked.entry.chart.borders.states.now (potentials_in marked.entry.chart.borders.grid marked.entry.chart.table.now) marked.entry.own y (y + 1) self.old self.new }
+        requires stamped { Stamped marked.grid marked.states.now (potentials_in marked.grid marked.table.now) self.old }
+        requires y_lt_height { y < marked.grid.height }
+        ensures { Restamped marked.entry.grid marked.entry.states.now (potentials_in marked.entry.grid marked.entry.table.now) marked.entry.own y (y + 1) self.old self.new }
     {
         if self.stamps[y] == Some(marked.own) {
             return;
@@ -76,9 +78,9 @@ impl Near {
 
     // Makes the words of the rows from one up to another for a potential unit, whose adjacent ones are marked, unless they stand there.
     pub fn stamp_rows(&mut self, marked: Marked<'_>, from: usize, to: usize)
-        requires stamped { Stamped marked.chart.borders.grid marked.chart.borders.states.now (potentials_in marked.chart.borders.grid marked.chart.table.now) self.old }
-        requires from_le_to { (from ≤ to) × (to ≤ marked.chart.borders.grid.height) }
-        ensures { Restamped marked.entry.chart.borders.grid marked.entry.chart.borders.states.now (potentials_in marked.entry.chart.borders.grid marked.entry.chart.table.now) marked.entry.own from to self.old self.new }
+        requires stamped { Stamped marked.grid marked.states.now (potentials_in marked.grid marked.table.now) self.old }
+        requires from_le_to { (from ≤ to) × (to ≤ marked.grid.height) }
+        ensures { Restamped marked.entry.grid marked.entry.states.now (potentials_in marked.entry.grid marked.entry.table.now) marked.entry.own from to self.old self.new }
     {
         for y in from..to {
             self.stamp_row(marked, y);

@@ -1,12 +1,19 @@
 // The marks of the potential units that are adjacent to one.
+ghost use Rattle.grid.specs.Grid.{Limits};
+ghost use Rattle.offsets.specs.Table.{Table};
 ghost use Rattle.cell_words.specs.Marks.{Stamping};
 
-use offsets::chart::Chart;
+use grid::Grid;
+use offsets::table::CellInfo;
 
 #[derive(Clone, Copy)]
 pub struct Marked<'a> {
-    pub chart: Chart<'a>,
+    pub grid: Grid,
+    pub states: &'a [u8],
+    pub table: &'a [CellInfo],
     pub marks: &'a [u8],
     pub own: u16,
-    ghost stamping: { Stamping chart.borders.grid chart.borders.states.now chart.table.now marks.now own },
+    ghost limits: { Limits grid },
+    ghost table_of: { Table grid table.now },
+    ghost stamping: { Stamping grid states.now table.now marks.now own },
 }

@@ -15,7 +15,9 @@ ghost use Rattle.row_trials.specs.Rows.{rows_good, left_at, Found};
 use cell_words::Near;
 use cell_words::marked::Marked;
 use coded::Coded;
+use offsets::chart::Chart;
 use offsets::trial::Trial;
+use offsets::unit::UnitCells;
 
 mod coded;
 
@@ -45,10 +47,13 @@ impl Coded<'_> {
         ensures held { Stamped self.now.trial.unit.chart.borders.grid self.now.trial.unit.chart.borders.states.now (potentials_in self.now.trial.unit.chart.borders.grid self.now.trial.unit.chart.table.now) near.new }
     {
         let unit = self.trial.unit;
+        let table = unit.chart.table;
         let marked = Marked {
-            chart: unit.chart,
+            grid: unit.chart.borders.grid,
+            states: unit.chart.borders.states,
+            table,
             marks: self.trial.marks,
-            own: unit.chart.table[usize::from(unit.cells[0])].potential,
+            own: table[usize::from(unit.cells[0])].potential,
         };
         for t in from..to {
             near.stamp_rows(marked, t, t + self.tall + 1);
@@ -87,13 +92,18 @@ pub fn fits(
     ensures value { result ≡ fits_at trial.entry.unit.chart.borders.grid trial.entry.unit.chart.borders.states.now trial.entry.unit.chart.table.now trial.entry.unit.cells.now }
     ensures held { Stamped trial.entry.unit.chart.borders.grid trial.entry.unit.chart.borders.states.now (potentials_in trial.entry.unit.chart.borders.grid trial.entry.unit.chart.table.now) near.new }
 {
-    let unit = trial.unit;
-    let first = unit.chart.table[usize::from(unit.cells[0])].row;
-    let last = unit.chart.table[usize::from(unit.cells[unit.cells.len() - 1])].row;
-    let count = unit_codes::write_cells(unit, codes);
-    let more = unit_codes::write_borders(unit, borders);
+    let UnitCells { chart, cells, .. } = trial.unit;
+    let Chart {
+        borders: board,
+        table,
+        ..
+    } = chart;
+    let first = table[usize::from(cells[0])].row;
+    let last = table[usize::from(cells[cells.len() - 1])].row;
+    let count = unit_codes::write_cells(board.grid, table, cells, codes);
+    let more = unit_codes::write_borders(trial.unit, borders);
     let mut inside = [0; 32];
-    cell_words::add_cells(unit, &mut inside);
+    cell_words::add_cells(board.grid, table, cells, &mut inside);
     let codes = &codes[..count];
     let coded = Coded {
         trial,

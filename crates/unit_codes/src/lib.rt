@@ -7,9 +7,10 @@ ghost use Rattle.shape.specs.Shape.{head_or0};
 ghost use Rattle.boundary.specs.Appended.{Appended};
 ghost use Rattle.words.specs.Layout.{base_of, side_at, back_of};
 ghost use Rattle.offsets.specs.Landings.{is_inner};
+ghost use Rattle.offsets.specs.Trial.{Unit};
 ghost use Rattle.unit_codes.specs.Codes.{code_at, codes_of, part_codes, cell_codes, border_codes, Spaced};
 
-use grid::Direction;
+use grid::{Direction, Grid};
 use member::Member;
 use offsets::landings::Kind;
 use offsets::table::CellInfo;
@@ -68,17 +69,17 @@ fn border_code(kind: Kind, direction: Direction, cell: CellInfo, first: CellInfo
     64 * rows + (32 + cell.col - back_of(direction) - first.col)
 }
 
-// Writes the codes of the unit's cells, and returns how many.
-pub fn write_cells(unit: UnitCells<'_>, codes: &mut [u16]) -> usize
-    requires { length unit.cells.now ≤ length codes.old }
-    ensures { Appended codes.old 0 (cell_codes unit.entry.chart.borders.grid unit.entry.cells.now) codes.new result }
+// Writes the codes of a unit's cells, and returns how many. The size is named for the contract alone: the table has what is read.
+pub fn write_cells(_grid: Grid, table: &[CellInfo], cells: &[u16], codes: &mut [u16]) -> usize
+    requires unit { Unit _grid table.now cells.now }
+    requires cells_in_bounds { length cells.now ≤ length codes.old }
+    ensures { Appended codes.old 0 (cell_codes _grid cells.now) codes.new result }
 {
-    let table = unit.chart.table;
-    let first = table[usize::from(unit.cells[0])];
-    for (i, &cell) in unit.cells.iter().enumerate() {
+    let first = table[usize::from(cells[0])];
+    for (i, &cell) in cells.iter().enumerate() {
         codes[i] = cell_code(table[usize::from(cell)], first);
     }
-    unit.cells.len()
+    cells.len()
 }
 
 impl Member<'_> {

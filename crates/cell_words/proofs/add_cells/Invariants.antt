@@ -3,4 +3,4 @@ use Rattle.cell_words.proofs.OwnLaws.{AddWalk}
 use Rattle.cell_words.proofs.add_cells.Given as goal
 
 abbrev pub invariant-loop-cell : goal.invariant-loop-cell
-invariant-loop-cell l = AddWalk l.unit.chart.table.now l.cell-items l.initial.inside l.inside l.cell-index
+invariant-loop-cell l = AddWalk l.table l.cells l.initial.inside l.inside l.cell-index

@@ -7,14 +7,17 @@ use Rattle.cell_words.proofs.OwnLaws.{blank}
 use Rattle.row_trials.proofs.CodedLaws.{count_fits, more_fits, last_cell, first_row, last_after, ends, coded}
 use Rattle.row_trials.proofs.fits.Goals as goal
 
-pub bounds-unit-from : goal.bounds-unit-from
-bounds-unit-from c = let u = c.args.trial.unit in omega (arith, first_cell_of u.unit c.from.ensures, u.chart.table_of.long)
+pub bounds-table-from : goal.bounds-table-from
+bounds-table-from c = let u = c.args.trial.unit in omega (arith, first_cell_of u.unit c.from.ensures, u.chart.table_of.long)
 
-pub bounds-unit-from-2 : goal.bounds-unit-from-2
-bounds-unit-from-2 c = let u = c.args.trial.unit in omega (arith, last_cell u.unit c.from.ensures c.from-2.ensures, u.chart.table_of.long)
+pub bounds-table-from-2 : goal.bounds-table-from-2
+bounds-table-from-2 c = let u = c.args.trial.unit in omega (arith, last_cell u.unit c.from.ensures c.from-2.ensures, u.chart.table_of.long)
+
+pub write_cells-count-requires-clause-unit : goal.write_cells-count-requires-clause-unit
+write_cells-count-requires-clause-unit c = c.args.trial.unit.unit
 
 pub add_cells-requires : goal.add_cells-requires
-add_cells-requires c = blank c.args.trial.placed.limits
+add_cells-requires c = record { unit = c.args.trial.unit.unit; blank = blank c.args.trial.placed.limits }
 
 pub slice_bounds-codes-end : goal.slice_bounds-codes-end
 slice_bounds-codes-end c = count_fits _ _ c.requires.asking.codes_long c.write_cells-count.ensures

@@ -6,4 +6,4 @@ use Rattle.unit_codes.proofs.WriteLaws.{told}
 use Rattle.unit_codes.proofs.write_cells.Given as goal
 
 abbrev pub invariant-loop-i : goal.invariant-loop-i
-invariant-loop-i l = let of = told l.table l.first in Rest l.initial.codes 0 (gather of l.unit.cells.now) l.codes l.i (gather of (drop l.i l.unit.cells.now))
+invariant-loop-i l = let of = told l.table l.first in Rest l.initial.codes 0 (gather of l.cells) l.codes l.i (gather of (drop l.i l.cells))

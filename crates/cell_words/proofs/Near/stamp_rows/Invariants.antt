@@ -5,4 +5,4 @@ use Rattle.cell_words.proofs.Near.stamp_rows.Given as goal
 
 abbrev pub invariant-loop-y : goal.invariant-loop-y
 invariant-loop-y l =
-    let h = l.marked.chart in Restamped h.borders.grid h.borders.states.now (potentials_in h.borders.grid h.table.now) l.marked.own l.from l.y l.initial.self l.self
+    let m = l.marked in Restamped m.grid m.states.now (potentials_in m.grid m.table.now) m.own l.from l.y l.initial.self l.self

@@ -5,4 +5,4 @@ use Rattle.cell_words.proofs.NearLaws.{marked_at}
 use Rattle.cell_words.proofs.marked.Marked.row_word.Given as goal
 
 abbrev pub invariant-loop-x : goal.invariant-loop-x
-invariant-loop-x l = SetWalk (λ z. marked_at l.self.chart.table.now l.self.marks.now (l.from + z)) l.width l.word l.x
+invariant-loop-x l = SetWalk (λ z. marked_at l.self.table.now l.self.marks.now (l.from + z)) l.width l.word l.x

@@ -7,8 +7,8 @@ use Rattle.row_trials.proofs.RowLaws.{reads_near, reads_inside, reads_words, row
 use Rattle.row_trials.proofs.RowsLaws.{rows_start, rows_end, rows_found, rows_turn, stamping, near_rows}
 use Rattle.row_trials.proofs.coded.Coded.fits_between.Goals as goal
 
-pub bounds-unit-from : goal.bounds-unit-from
-bounds-unit-from c = let u = c.args.self.now.trial.unit in omega (arith, first_cell_of u.unit c.from.ensures, u.chart.table_of.long)
+pub bounds-table-from : goal.bounds-table-from
+bounds-table-from c = let u = c.args.self.now.trial.unit in omega (arith, first_cell_of u.unit c.from.ensures, u.chart.table_of.long)
 
 pub loop-t-init : goal.loop-t-init
 loop-t-init c = rows_start c.requires.stamped
@@ -16,7 +16,7 @@ loop-t-init c = rows_start c.requires.stamped
 pub invariant_of-marked : goal.invariant_of-marked
 invariant_of-marked c =
     let s = c.args.self.now in
-    record { stamping = stamping s.trial.placed (ap (potential_in s.trial.unit.chart.table.now) (c.from.ensures ∙ head_at s.trial.unit.cells.now)) }
+    record { limits = s.trial.placed.limits; table_of = s.trial.placed.table_of; stamping = stamping s.trial.placed (ap (potential_in s.trial.unit.chart.table.now) (c.from.ensures ∙ head_at s.trial.unit.cells.now)) }
 
 pub row_fits-requires : goal.row_fits-requires
 row_fits-requires c =
