@@ -6,7 +6,8 @@ use Rattle.grid.proofs.Geometry.{cells_le}
 use Rattle.cell_words.proofs.OwnLaws.{get_d_zeros}
 use Rattle.offsets.specs.Trial.{fits_at}
 use Rattle.unit_check.specs.Find.{unit_cells}
-use Rattle.unit_check.proofs.FindLaws.{units_turn, fit_on, fit_there, fits_is, pending_first, pending_next, unfit_none, unfit_some, still_less}
+use Rattle.unit_check.proofs.FindLaws.{fit_on, fit_there, pending_first, pending_next, unfit_none, unfit_some, still_less}
+use Rattle.unit_check.proofs.HeldLaws.{units_held, fits_held}
 use Rattle.unit_check.proofs.RoomLaws.{asking}
 use Rattle.unit_check.proofs.stage.Stage.find_by_words.Goals as goal
 
@@ -41,15 +42,11 @@ fits-requires-clause-stamped g c = let e = c.trial-trial.ensures in rw (e.grid_i
 
 pub returns-then-not-fits : goal.returns-then-not-fits
 returns-then-not-fits g c =
-    let s = c.args.self in
-    let l = s.chart.borders.fits.limits in
-    let w = units_turn s.finding s.units.turns in
     let e = c.trial-trial.ensures in
-    let h = c.loop-next.invariant.pending.some _ c.in-Some.is in
-    let v : c.fits.result ≡ fits_at s.chart.borders.grid s.chart.borders.states.now s.chart.table.now (unit_cells s.chart.borders.grid s.chart.table.now c.in-Some.unit) =
-    rw (e.grid_is, e.states_are, e.table_is, e.cells_are) at c.fits.ensures.value in
     let i = c.loop-next.invariant.pending in
-    unfit_some h (fit_there (i.before _ c.in-Some.is) (λ q. sym (fits_is l s.chart.table_of w h s.chart.borders.states.now) ∙ sym v ∙ c.if-not-fits.true)) (i.marked _ c.in-Some.is)
+    let h = i.some _ c.in-Some.is in
+    let told = rw (e.grid_is, e.states_are, e.table_is, e.cells_are) at c.fits.ensures.value in
+    unfit_some h (fit_there (i.before _ c.in-Some.is) (λ q. fits_held c.args.self h told c.if-not-fits.true)) (i.marked _ c.in-Some.is)
 
 pub unmark-requires-clause-unit_exists : goal.unmark-requires-clause-unit_exists
 unmark-requires-clause-unit_exists g c = c.loop-next.invariant.pending.some _ c.in-Some.is
@@ -60,20 +57,15 @@ unmark-requires-clause-marked g c = c.loop-next.invariant.pending.marked _ c.in-
 pub overflow_add-unit : goal.overflow_add-unit
 overflow_add-unit g c =
     let s = c.args.self in
-    let l = s.chart.borders.fits.limits in
-    let w = units_turn s.finding s.units.turns in
-    omega (arith, c.loop-next.invariant.pending.some _ c.in-Some.is, w.few, cells_le s.chart.borders.grid l)
+    omega (arith, c.loop-next.invariant.pending.some _ c.in-Some.is, (units_held s).few, cells_le s.chart.borders.grid s.chart.borders.fits.limits)
 
 pub find_soon-next-requires-clause-all_fit : goal.find_soon-next-requires-clause-all_fit
 find_soon-next-requires-clause-all_fit g c =
-    let s = c.args.self in
-    let l = s.chart.borders.fits.limits in
-    let w = units_turn s.finding s.units.turns in
     let e = c.trial-trial.ensures in
-    let h = c.loop-next.invariant.pending.some _ c.in-Some.is in
-    let v : c.fits.result ≡ fits_at s.chart.borders.grid s.chart.borders.states.now s.chart.table.now (unit_cells s.chart.borders.grid s.chart.table.now c.in-Some.unit) =
-    rw (e.grid_is, e.states_are, e.table_is, e.cells_are) at c.fits.ensures.value in
-    fit_on (c.loop-next.invariant.pending.before _ c.in-Some.is) h (sym (fits_is l s.chart.table_of w h s.chart.borders.states.now) ∙ sym v ∙ c.if-not-fits.false)
+    let i = c.loop-next.invariant.pending in
+    let h = i.some _ c.in-Some.is in
+    let told = rw (e.grid_is, e.states_are, e.table_is, e.cells_are) at c.fits.ensures.value in
+    fit_on (i.before _ c.in-Some.is) h (fits_held c.args.self h told c.if-not-fits.false)
 
 pub loop-next-smaller : goal.loop-next-smaller
 loop-next-smaller g c = still_less c.in-Some.is (c.loop-next.invariant.pending.some _ c.in-Some.is) c.find_soon-next.ensures.some
