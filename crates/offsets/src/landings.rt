@@ -3,7 +3,7 @@ ghost use Rattle.std.specs.Prelude.{◌≡◌};
 ghost use Rattle.grid.specs.Grid.{Cell};
 ghost use Rattle.offsets.specs.Told.{told};
 ghost use Rattle.offsets.specs.Table.{units_in};
-ghost use Rattle.offsets.specs.Landings.{Turning, is_inner, directions_of, bad_of, kept_of, fail_at, fail_cell};
+ghost use Rattle.offsets.specs.Landings.{Turning, Falling, is_inner, directions_of, bad_of, kept_of, fail_at, fail_cell, first_fail};
 
 use crate::chart::Chart;
 use crate::shift::Shift;
@@ -103,5 +103,18 @@ impl Chart<'_> {
                 self.failure(shift, Kind::Outer, cell, Direction::Right)
             }
         }
+    }
+
+    // The entry of the first border of a kind that lands badly, of cells in turn.
+    pub fn first_failure(self, shift: Shift, kind: Kind, cells: &[u16]) -> Option<u16>
+        requires { Falling self.borders.grid cells.now shift }
+        ensures { result ≡ told (first_fail self.entry.borders.grid shift self.entry.borders.states.now (units_in self.entry.borders.grid self.entry.table.now) (is_inner kind) cells.now) }
+    {
+        for &cell in cells {
+            if let Some(entry) = self.cell_failure(shift, kind, usize::from(cell)) {
+                return Some(entry);
+            }
+        }
+        None
     }
 }

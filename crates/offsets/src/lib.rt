@@ -7,7 +7,7 @@ ghost use Rattle.shape.specs.Shape.{head_or0, is_good};
 ghost use Rattle.offsets.specs.Told.{told};
 ghost use Rattle.offsets.specs.Table.{unit_in, units_in, potentials_in};
 ghost use Rattle.offsets.specs.Reach.{Small, reaches_of};
-ghost use Rattle.offsets.specs.Landings.{Falling, is_inner, first_fail, failure_of};
+ghost use Rattle.offsets.specs.Landings.{Falling, failure_of};
 ghost use Rattle.offsets.specs.Trial.{shift_of, tried_at};
 
 use chart::Chart;
@@ -42,28 +42,15 @@ impl UnitCells<'_> {
         }
     }
 
-    // The entry of the unit's first border of a kind that lands badly.
-    fn first_failure(self, shift: Shift, kind: Kind) -> Option<u16>
-        requires { Falling self.chart.borders.grid self.cells.now shift }
-        ensures { result ≡ told (first_fail self.entry.chart.borders.grid shift self.entry.chart.borders.states.now (units_in self.entry.chart.borders.grid self.entry.chart.table.now) (is_inner kind) self.entry.cells.now) }
-    {
-        for &cell in self.cells {
-            if let Some(entry) = self.chart.cell_failure(shift, kind, usize::from(cell)) {
-                return Some(entry);
-            }
-        }
-        None
-    }
-
     // The entry of its first border that lands badly: inner borders first.
     fn failure(self, shift: Shift) -> Option<u16>
         requires { Falling self.chart.borders.grid self.cells.now shift }
         ensures { result ≡ told (failure_of self.entry.chart.borders.grid shift self.entry.chart.borders.states.now (units_in self.entry.chart.borders.grid self.entry.chart.table.now) self.entry.cells.now) }
     {
-        if let Some(entry) = self.first_failure(shift, Kind::Inner) {
+        if let Some(entry) = self.chart.first_failure(shift, Kind::Inner, self.cells) {
             return Some(entry);
         }
-        self.first_failure(shift, Kind::Outer)
+        self.chart.first_failure(shift, Kind::Outer, self.cells)
     }
 }
 

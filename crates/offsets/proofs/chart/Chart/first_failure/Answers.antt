@@ -1,10 +1,10 @@
--- `offsets::unit::UnitCells::first_failure` meets its contract: the cells before this one have nothing. Assumes nothing.
+-- `offsets::chart::Chart::first_failure` meets its contract: the cells before this one have nothing. Assumes nothing.
 use lib.ListN.{get_or}
 use Rattle.lists.specs.Lists.{In}
 use Rattle.lists.proofs.ListLaws.{get_d_in}
 use Rattle.offsets.specs.Landings.{first_fail}
 use Rattle.offsets.proofs.FailLaws.{missed_none, missed_all, missed_hit, missed_more}
-use Rattle.offsets.proofs.unit.UnitCells.first_failure.Goals as goal
+use Rattle.offsets.proofs.chart.Chart.first_failure.Goals as goal
 
 pub loop-cell-init : goal.loop-cell-init
 loop-cell-init c = missed_none _ _
@@ -12,7 +12,7 @@ loop-cell-init c = missed_none _ _
 pub cell_failure-requires : goal.cell_failure-requires
 cell_failure-requires c =
     let r = c.requires in
-    let m : In (get_or c.args.self.cells.now c.loop-cell.cell-index 0) c.args.self.cells.now = get_d_in 0 _ _ c.loop-cell-test.true in
+    let m : In (get_or c.args.cells.now c.loop-cell.cell-index 0) c.args.cells.now = get_d_in 0 _ _ c.loop-cell-test.true in
     rw c.from.ensures (record { cell = r.on_board _ m; small = r.small; falls = r.falls _ m })
 
 pub returns-in-Some : goal.returns-in-Some
