@@ -18,7 +18,7 @@ append-n-requires c =
     let f = s.finding in
     let h : c.loop-number.number < length s.potentials.starts.now = omega (arith, c.loop-number-test.true, c.len-number-end.ensures) in
     (near_listable s.chart.borders.grid s.chart.borders.states.now s.potentials.ids.now c.args.marks.now c.loop-number.number c.if-marks-number-ne0.true
-    s.chart.borders.fits (rw f.potentials_of at s.potentials.turns).ids_long (rw f.potentials_of at c.cells.ensures)
+    s.chart.borders.fits (rw f.potentials_of at s.potentials.turns).ids_long (rw f.potentials_of at c.cells.ensures.cells_are)
     (left_room _ _ c.loop-number.invariant h c.requires.room)).room
 
 pub loop-number-preserved : goal.loop-number-preserved

@@ -7,7 +7,7 @@ invariant_of-unit c =
     let s = c.args.self in
     let l = s.chart.borders.fits.limits in
     let w = units_turn s.finding s.units.turns in
-    record { unit = rw (its_cells s.finding c.args.unit c.cells-cells.ensures) (its_unit l s.chart.table_of w c.requires.unit_exists) }
+    record { unit = rw (its_cells s.finding c.args.unit c.cells-cells.ensures.cells_are) (its_unit l s.chart.table_of w c.requires.unit_exists) }
 
 pub invariant_of-result : goal.invariant_of-result
 invariant_of-result c =
@@ -15,7 +15,7 @@ invariant_of-result c =
     let l = s.chart.borders.fits.limits in
     let w = units_turn s.finding s.units.turns in
     let p = potentials_turn s.finding s.potentials.turns in
-    record { placed = rw (its_cells s.finding c.args.unit c.cells-cells.ensures) (its_placed l s.chart.table_of w c.requires.unit_exists s.chart.borders.fits.borders c.requires.marked p c.requires.marks_long) }
+    record { placed = rw (its_cells s.finding c.args.unit c.cells-cells.ensures.cells_are) (its_placed l s.chart.table_of w c.requires.unit_exists s.chart.borders.fits.borders c.requires.marked p c.requires.marks_long) }
 
 pub returns-clause-cells_are : goal.returns-clause-cells_are
-returns-clause-cells_are c = its_cells c.args.self.finding c.args.unit c.cells-cells.ensures
+returns-clause-cells_are c = its_cells c.args.self.finding c.args.unit c.cells-cells.ensures.cells_are
