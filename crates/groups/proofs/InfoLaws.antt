@@ -1,9 +1,9 @@
 -- What the code of grouping and hand-out tests, and what that makes of their answers. Assumes nothing.
-use Prim.Native.Nat.{ℕ, zero, suc, ◌+◌, ◌-◌, ◌*◌, ◌≤◌, ◌<◌}
+use Prim.Native.Nat.{ℕ, zero, suc, ◌+◌, ◌-◌, ◌≤◌, ◌<◌}
 use mathlib.Core.Path.{◌≡◌, refl, ap, sym, ◌∙◌}
 use mathlib.Core.Logic.{◌≢◌, ⊎_elim}
 use mathlib.Core.Bool.{Bool, true, false}
-use mathlib.Core.List.{List, []}
+use mathlib.Core.List.{List}
 use native.Mathlib.Omega.{arith}
 use borrow.Author.Tests.{lt-ltb, le-ltb, le-leb, lt-leb, eq-eqb, ne_eqb, ltb-true, leb-true, eqb-true}
 use lib.Dec.{eqb, ltb, leb}
@@ -25,7 +25,7 @@ use Rattle.board.specs.Board.{size_of, board_code}
 use Rattle.board.proofs.Laws.{board_ready}
 use Rattle.groups.specs.declared.GroupInfo.{GroupInfo}
 use Rattle.groups.specs.Lent.{Lent, Grouped, Slot}
-use Rattle.groups.specs.Info.{blank_places, grouping, info_of, grouping_code, grouping_of, end_of, starts_rise, groups_exist, info_together, info_code, group_part, hand_out_of, hand_out_code, hand_out_start, address_of}
+use Rattle.groups.specs.Info.{blank_places, grouping, info_of, grouping_code, grouping_of, end_of, starts_rise, groups_exist, info_together, info_code, group_part, hand_out_of, hand_out_start, address_of}
 
 -- A LOOP THAT TESTS ALL NUMBERS BELOW n
 
@@ -238,20 +238,10 @@ module _ (n count : ℕ) (starts : List ℕ) (rise : starts_rise n count starts 
 abbrev pub Handed : GroupInfo → List ℕ → ℕ → ℕ × ℕ → List ℕ → ℕ × ℕ → Type 0
 Handed i buffer k p xs q = (xs ≡ hand_out_of i buffer k) × (q ≡ address_of p (hand_out_start i (length buffer) k))
 
-refused_part : (i : GroupInfo) (buffer : List ℕ) (k : ℕ) (p : ℕ × ℕ) → hand_out_code i (length buffer) k ≢ 0 → Handed i buffer k p [] p
-refused_part i buffer k p z =
-    let e : p.1 ≡ 0 * 2 + p.1 = omega arith in rw (ne_eqb (hand_out_code i (length buffer) k) 0 z) (refl, ap (λ (x : ℕ). addressed p.0 x) e)
-  where
-    addressed : ℕ → ℕ → ℕ × ℕ
-    addressed x y = (x, y)
-
 module _ (i : GroupInfo) (buffer : List ℕ) (k : ℕ) (p : ℕ × ℕ) {code : ℕ} (told : code ≡ info_code i) where
   module _ (z : code ≡ 0) where
     pub info_holds : Holds i
     info_holds = holds i (sym told ∙ z)
-
-    pub no_group : i.count ≤ k → Handed i buffer k p [] p
-    no_group h = refused_part i buffer k p (rw (← told, z, le-ltb k i.count h) (omega arith))
 
     module _ (h : k < i.count) where
       module _ (l : cells i.grid ≤ length buffer) where

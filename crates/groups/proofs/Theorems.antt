@@ -25,7 +25,7 @@ use Rattle.parts.specs.Parts.{Joined, root}
 use Rattle.parts.proofs.PartLaws.{part_iff, part_order, part_used, part_lt, root_least, part_joined}
 use Rattle.groups.specs.Groups.{edges, group_ids, group_count, cells_in, cells_of}
 use Rattle.groups.specs.Turn.{in_turn, start_of, starts_of}
-use Rattle.groups.specs.Lent.{Lent, Grouped, Slot, Between, InTurn}
+use Rattle.groups.specs.Lent.{Lent, Grouped, Between, InTurn}
 use Rattle.groups.specs.Info.{blank_places, group_part, info_of, grouping_code, grouping_of, buffer_of, end_of, starts_rise, groups_exist, hand_out_of}
 use Rattle.groups.proofs.EdgeLaws.{ids_at, ids_length, count_is}
 use Rattle.lists.proofs.SetsLaws.{front, front_at}
@@ -225,9 +225,6 @@ module _ {g : Grid} (limits : Limits g) where
         let n : length (group_ids g states p) ≡ cells g = ids_length g states p in
         rw (w.ids_are, ← n) (front blank_places (group_ids g states p) (omega (arith, n, arrays_fit)))
 
-    pub front_turns : InTurn g (take (cells g) ids) count starts flat
-    front_turns = rw ids_are (in_turn_lem arrays_lent w)
-
 -- without the places behind the last group's start
 front_starts : {g : Grid} {ids : List ℕ} {count : ℕ} {starts flat : List ℕ} → InTurn g ids count starts flat → InTurn g ids (length (take count starts)) (take count starts) flat
 front_starts {g} {ids} {count} {starts} {flat} w =
@@ -265,16 +262,6 @@ module _ {g : Grid} {st : List ℕ} {p : Bool} {ids₀ starts₀ flat₀ ids sta
 
 -- THE CELLS OF ONE GROUP, in slices that have them in turn
 module _ {g : Grid} {ids starts flat : List ℕ} {count : ℕ} (w : InTurn g ids count starts flat) {k : ℕ} (h : k < count) where
-  pub turn_slot : Slot g starts flat count k
-  turn_slot =
-      record {
-        exists = h;
-        starts_long = w.starts_long;
-        order = omega (arith, (w.between k h).some);
-        within = (w.between k h).within;
-        flat_long = w.flat_long;
-      }
-
   pub turn_some : 0 < length (cells_of g ids k)
   turn_some =
       rw (← (w.between k h).are)
