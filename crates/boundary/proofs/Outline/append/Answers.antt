@@ -1,10 +1,6 @@
 -- `boundary::Outline::append` meets its contract: at each turn the lists of the cells that are left are still to append. Assumes nothing.
-use Rattle.boundary.proofs.AppendLaws.{leaves_all}
 use Rattle.boundary.proofs.ListingLaws.{listable, cell_ready, cell_written, cells_written}
 use Rattle.boundary.proofs.Outline.append.Goals as goal
-
-pub loop-cell-init : goal.loop-cell-init
-loop-cell-init c = leaves_all _ _
 
 pub append_cell-requires : goal.append_cell-requires
 append_cell-requires c =

@@ -4,11 +4,8 @@ use native.Mathlib.Omega.{arith}
 use borrow.Author.Rules.{rules}
 use lib.ListN.{length}
 use Rattle.grid.specs.declared.Direction.TheVariants.{Up}
-use Rattle.boundary.proofs.AppendLaws.{leaves_all, turn_fits, turn_written, turns_written}
+use Rattle.boundary.proofs.AppendLaws.{turn_fits, turn_written, turns_written}
 use Rattle.boundary.proofs.Outline.append_around.Goals as goal
-
-pub loop-direction-init : goal.loop-direction-init
-loop-direction-init c = leaves_all _ _
 
 pub append_entry-requires : goal.append_entry-requires
 append_entry-requires c =
