@@ -1,16 +1,12 @@
 -- What the code's tests make of the answer and the buffer. Assumes nothing.
 use Prim.Native.Nat.{ℕ, ◌*◌, ◌≤◌, ◌<◌}
-use mathlib.Core.Path.{◌≡◌, ap, sym}
-use mathlib.Core.Logic.{◌≢◌, ⊎_elim}
+use mathlib.Core.Path.{◌≡◌}
 use mathlib.Core.Bool.{Bool, true, false}
 use mathlib.Core.List.{List}
 use native.Mathlib.Omega.{arith}
-use borrow.Author.Tests.{lt-ltb, le-leb, ne_eqb}
-use lib.Dec.{eqb, ltb, leb}
+use borrow.Author.Tests.{lt-ltb, le-leb}
 use lib.ListN.{length, take}
 use Rattle.std.specs.Prelude.{Ok}
-use Rattle.lists.specs.Choice.{pick}
-use Rattle.lists.proofs.Cases.{eq_or_ne}
 use Rattle.grid.specs.declared.Grid.{Grid}
 use Rattle.grid.specs.Grid.{cells}
 use Rattle.board.specs.declared.Board.{Board}
@@ -18,12 +14,10 @@ use Rattle.board.specs.Board.{size_of, board_code}
 use Rattle.groups.specs.Groups.{group_ids, group_count}
 use Rattle.groups.specs.Lent.{Lent, Grouped}
 use Rattle.groups.proofs.Theorems.{made_ids}
-use Rattle.answers.specs.declared.Plain.{Plain}
-use Rattle.answers.specs.Listed as case
 use Rattle.boundary.specs.Listing.{boundary}
 use Rattle.boundary.specs.Appended.{Appended}
 use Rattle.boundary.specs.Answer.{boundary_outcome}
-use Rattle.answers.specs.Answers.{Outcome, refused, clear, listed, listed_of, written}
+use Rattle.answers.specs.Answers.{listed, written}
 use Rattle.answers.specs.Refusals.{Lists}
 use Rattle.boundary.proofs.BoundaryLaws.{unit_most, potential_most, cells_most}
 

@@ -1,29 +1,31 @@
 -- What the code of grouping and hand-out tests, and what that makes of their answers. Assumes nothing.
-use Prim.Native.Nat.{ℕ, zero, suc, ◌+◌, ◌-◌, ◌*◌, ◌≤◌, ◌<◌}
+use Prim.Native.Nat.{ℕ, zero, suc, ◌+◌, ◌-◌, ◌≤◌, ◌<◌}
 use mathlib.Core.Path.{◌≡◌, refl, ap, sym, ◌∙◌}
-use mathlib.Core.Logic.{◌≢◌}
+use mathlib.Core.Logic.{◌≢◌, ⊎_elim}
 use mathlib.Core.Bool.{Bool, true, false}
-use mathlib.Core.List.{List, []}
+use mathlib.Core.List.{List}
 use native.Mathlib.Omega.{arith}
-use borrow.Author.Tests.{lt-ltb, le-ltb, le-leb, eq-eqb, ne_eqb, ltb-true, leb-true, eqb-true}
+use borrow.Author.Tests.{lt-ltb, le-ltb, le-leb, lt-leb, eq-eqb, ne_eqb, ltb-true, leb-true, eqb-true}
 use lib.Dec.{eqb, ltb, leb}
 use lib.ListN.{get_or, length, take}
 use lib.Seq.{length-take-le}
 use Rattle.std.proofs.lemmas.List.{get_or-take}
 use Rattle.limits.specs.Limits.{most_cells}
-use Rattle.lists.specs.Choice.{pick}
+use Rattle.lists.specs.Choice.{both, pick}
 use Rattle.lists.specs.Lists.{count_from, range, all}
+use Rattle.lists.proofs.Cases.{le_or_lt}
 use Rattle.lists.proofs.ChoiceLaws.{both_true, same_truth}
-use Rattle.lists.proofs.ListLaws.{all_step, all_end, all_true, true_all, range_in, in_range, in_get_d, get_d_in}
+use Rattle.lists.proofs.ListLaws.{all_step, all_end, all_true, all_not, true_all, range_in, in_range, in_get_d, get_d_in}
 use Rattle.grid.specs.declared.Grid.{Grid}
 use Rattle.grid.specs.Grid.{cells, sizes_ok, Limits}
-use Rattle.grid.proofs.Geometry.{limits, limits_ok}
+use Rattle.grid.proofs.Geometry.{limits, limits_ok, cells_le, cells_some}
+use Rattle.borders.proofs.Congruence.{all_same}
 use Rattle.board.specs.declared.Board.{Board}
 use Rattle.board.specs.Board.{size_of, board_code}
 use Rattle.board.proofs.Laws.{board_ready}
 use Rattle.groups.specs.declared.GroupInfo.{GroupInfo}
 use Rattle.groups.specs.Lent.{Lent, Grouped, Slot}
-use Rattle.groups.specs.Info.{blank_places, grouping, info_of, grouping_code, grouping_of, end_of, starts_rise, groups_exist, info_together, info_code, group_part, hand_out_of, hand_out_code, hand_out_start, address_of}
+use Rattle.groups.specs.Info.{blank_places, grouping, info_of, grouping_code, grouping_of, end_of, starts_rise, groups_exist, info_together, info_code, group_part, hand_out_of, hand_out_start, address_of}
 
 -- A LOOP THAT TESTS ALL NUMBERS BELOW n
 
@@ -60,31 +62,72 @@ module _ (n count : ℕ) (starts : List ℕ) where
   unfolding starts_rise
   by_rises q e = rw (eq-eqb (get_or starts 0 0) 0 q, e)
 
+-- starts without the places behind the last group's
+module _ (n count : ℕ) (starts : List ℕ) (long : count ≤ length starts) where
+  pub front_long : length (take count starts) ≡ count
+  front_long = length-take-le count starts long
+
+  pub front_start : (k : ℕ) → k < count → get_or (take count starts) k 0 ≡ get_or starts k 0
+  front_start k h = get_or-take count starts k 0 h
+
+  pub front_end : (k : ℕ) → end_of n count (take count starts) k ≡ end_of n count starts k
+  front_end k =
+      ⊎_elim
+      (λ (l : count ≤ k + 1). sym (end_last n count (take count starts) k l) ∙ end_last n count starts k l)
+      (λ (l : k + 1 < count). sym (end_next n count (take count starts) k l) ∙ front_start (k + 1) l ∙ end_next n count starts k l)
+      (le_or_lt count (k + 1))
+
+  -- so a group has its part there too
+  pub front_slot : {g : Grid} {flat : List ℕ} {k : ℕ} → n ≡ cells g → Slot g starts flat count k → Slot g (take count starts) flat (length (take count starts)) k
+  front_slot {k = k} e w =
+      rw front_long
+      (record {
+        exists = w.exists;
+        starts_long = omega (arith, front_long);
+        order = rw (front_start k w.exists, ← e, front_end k, e) w.order;
+        within = rw (← e, front_end k, e) w.within;
+        flat_long = w.flat_long;
+      })
+
+  pub front_part : (flat : List ℕ) (k : ℕ) → k < count → group_part n (length (take count starts)) (take count starts) flat k ≡ group_part n count starts flat k
+  front_part flat k h = rw (front_long, front_start k h, front_end k) refl
+
+  pub front_rises : 0 < count → starts_rise n (length (take count starts)) (take count starts) ≡ starts_rise n count starts
+  unfolding starts_rise
+  front_rises some =
+      rw (front_long, front_start 0 some)
+      (ap (both (eqb (get_or starts 0 0) 0))
+      (all_same (rises n count (take count starts)) (rises n count starts) (range count)
+      (λ k m. rw (front_start k (in_range count k m), front_end k) refl)))
+
 -- the test of one cell's group
 abbrev pub exists : ℕ → List ℕ → ℕ → Bool
 exists count ids c = ltb (get_or ids c 0) count
 
--- a test of the first n elements of a list is one of their places
-all_front : (p : ℕ → Bool) (n : ℕ) (xs : List ℕ) → n ≤ length xs → all p (take n xs) ≡ all (λ c. p (get_or xs c 0)) (range n)
-all_front p n xs h =
-    same_truth (all p (take n xs)) (all (λ c. p (get_or xs c 0)) (range n))
+-- a test of a list's elements is one of its places
+all_places : (p : ℕ → Bool) (xs : List ℕ) → all p xs ≡ all (λ c. p (get_or xs c 0)) (range (length xs))
+all_places p xs =
+    same_truth (all p xs) (all (λ c. p (get_or xs c 0)) (range (length xs)))
     (λ q.
-    true_all (λ c. p (get_or xs c 0)) (range n)
-    (λ c m.
-    let l : c < n = in_range n c m in
-    let e : get_or (take n xs) c 0 ≡ get_or xs c 0 = get_or-take n xs c 0 l in
-    rw e at (all_true p (take n xs) q (get_or (take n xs) c 0) (get_d_in 0 (take n xs) c (rw (length-take-le n xs h) l)))))
+    true_all (λ c. p (get_or xs c 0)) (range (length xs))
+    (λ c m. all_true p xs q (get_or xs c 0) (get_d_in 0 xs c (in_range (length xs) c m))))
     (λ q.
-    true_all p (take n xs)
+    true_all p xs
     (λ x m.
-    let o = in_get_d 0 x (take n xs) m in
-    let l : o.0 < n = rw (length-take-le n xs h) at o.1 in
-    let e : x ≡ get_or xs o.0 0 = sym o.2 ∙ get_or-take n xs o.0 0 l in
-    rw e (all_true (λ c. p (get_or xs c 0)) (range n) q o.0 (range_in n o.0 l))))
+    let o = in_get_d 0 x xs m in
+    rw (← o.2) (all_true (λ c. p (get_or xs c 0)) (range (length xs)) q o.0 (range_in (length xs) o.0 o.1))))
 
-pub by_exists : (n count : ℕ) (ids : List ℕ) {t : Bool} → n ≤ length ids → t ≡ all (λ x. ltb x count) (take n ids) → t ≡ groups_exist n count ids
+-- the front that has a group for each of n cells
+pub front_exist : (n count : ℕ) (ids : List ℕ) → n ≤ length ids → groups_exist (length (take n ids)) count (take n ids) ≡ groups_exist n count ids
 unfolding groups_exist
-by_exists n count ids h e = e ∙ all_front (λ x. ltb x count) n ids h
+front_exist n count ids h =
+    rw (length-take-le n ids h)
+    (all_same (exists count (take n ids)) (exists count ids) (range n)
+    (λ c m. rw (get_or-take n ids c 0 (in_range n c m)) refl))
+
+pub by_exists : (count : ℕ) (ids : List ℕ) {t : Bool} → t ≡ all (λ x. ltb x count) ids → t ≡ groups_exist (length ids) count ids
+unfolding groups_exist
+by_exists count ids e = e ∙ all_places (λ x. ltb x count) ids
 
 -- GROUPING
 
@@ -136,6 +179,37 @@ module _ (i : GroupInfo) where
   pub holds_code : Holds i → info_code i ≡ 0
   holds_code w = rw (limits_ok i.grid w.limits, le-leb i.count (cells i.grid) w.few, w.rise, w.exist)
 
+never : (t : Bool) → both t false ≡ false
+never true = refl
+never false = refl
+
+-- what the code tests, once the sizes are right: is there a group, are there no more than cells, and then the starts and the ids
+module _ (i : GroupInfo) (right : sizes_ok i.grid ≡ true) where
+  none_exists : i.count ≡ 0 → groups_exist (cells i.grid) i.count i.ids ≡ false
+  unfolding groups_exist
+  none_exists z =
+      all_not (exists i.count i.ids) (range (cells i.grid)) 0 (range_in (cells i.grid) 0 (cells_some i.grid (limits i.grid right)))
+      (le-ltb (get_or i.ids 0 0) i.count (omega (arith, z)))
+
+  pub without_groups : i.count ≡ 0 → 2 ≡ info_code i
+  without_groups z = rw (right, none_exists z, never (starts_rise (cells i.grid) i.count i.starts), never (leb i.count (cells i.grid))) refl
+
+  module _ {n : ℕ} (all : n ≡ cells i.grid) where
+    pub too_many : n < i.count → 2 ≡ info_code i
+    too_many h = rw (right, lt-leb i.count (cells i.grid) (rw all at h)) refl
+
+    module _ (starts_long : most_cells ≤ length i.starts) (ids_long : most_cells ≤ length i.ids) (some : i.count ≢ 0) (few : i.count ≤ n)
+        {s : Bool} (told : s ≡ starts_rise n (length (take i.count i.starts)) (take i.count i.starts)) where
+      pub by_exist : {e : Bool} → e ≡ groups_exist (length (take n i.ids)) i.count (take n i.ids) → info_code i ≡ pick (both s e) 0 2
+      by_exist b =
+          let fit : cells i.grid ≤ most_cells = cells_le i.grid (limits i.grid right) in
+          let rises = (rw all at told) ∙ front_rises (cells i.grid) i.count i.starts (omega (arith, fit, few, all)) (omega arith) in
+          let exist = (rw all at b) ∙ front_exist (cells i.grid) i.count i.ids (omega (arith, fit)) in
+          rw (right, le-leb i.count (cells i.grid) (rw all at few), rises, exist) refl
+
+      pub by_rise : s ≡ false → info_code i ≡ 2
+      by_rise f = rw f at (by_exist refl)
+
 -- starts that rise: each group has a cell, and ends at the last cell or before it
 module _ (n count : ℕ) (starts : List ℕ) (rise : starts_rise n count starts ≡ true) where
   pub from_zero : get_or starts 0 0 ≡ 0
@@ -164,20 +238,10 @@ module _ (n count : ℕ) (starts : List ℕ) (rise : starts_rise n count starts 
 abbrev pub Handed : GroupInfo → List ℕ → ℕ → ℕ × ℕ → List ℕ → ℕ × ℕ → Type 0
 Handed i buffer k p xs q = (xs ≡ hand_out_of i buffer k) × (q ≡ address_of p (hand_out_start i (length buffer) k))
 
-refused_part : (i : GroupInfo) (buffer : List ℕ) (k : ℕ) (p : ℕ × ℕ) → hand_out_code i (length buffer) k ≢ 0 → Handed i buffer k p [] p
-refused_part i buffer k p z =
-    let e : p.1 ≡ 0 * 2 + p.1 = omega arith in rw (ne_eqb (hand_out_code i (length buffer) k) 0 z) (refl, ap (λ (x : ℕ). addressed p.0 x) e)
-  where
-    addressed : ℕ → ℕ → ℕ × ℕ
-    addressed x y = (x, y)
-
 module _ (i : GroupInfo) (buffer : List ℕ) (k : ℕ) (p : ℕ × ℕ) {code : ℕ} (told : code ≡ info_code i) where
   module _ (z : code ≡ 0) where
     pub info_holds : Holds i
     info_holds = holds i (sym told ∙ z)
-
-    pub no_group : i.count ≤ k → Handed i buffer k p [] p
-    no_group h = refused_part i buffer k p (rw (← told, z, le-ltb k i.count h) (omega arith))
 
     module _ (h : k < i.count) where
       module _ (l : cells i.grid ≤ length buffer) where
@@ -193,3 +257,17 @@ module _ (i : GroupInfo) (buffer : List ℕ) (k : ℕ) (p : ℕ × ℕ) {code : 
 
         pub handed_out : {xs : List ℕ} {q : ℕ × ℕ} → xs ≡ group_part (cells i.grid) i.count i.starts buffer k → q ≡ address_of p (get_or i.starts k 0) → Handed i buffer k p xs q
         handed_out e f = rw (← told, z, lt-ltb k i.count h, le-leb (cells i.grid) (length buffer) l) (e, f)
+
+        -- by the starts in use alone
+        module _ (long : most_cells ≤ length i.starts) where
+          starts_fit : i.count ≤ length i.starts
+          starts_fit = omega (arith, cells_le i.grid info_holds.limits, info_holds.few)
+
+          pub front_handed : Slot i.grid (take i.count i.starts) buffer (length (take i.count i.starts)) k
+          front_handed = front_slot (cells i.grid) i.count i.starts starts_fit refl (handed_slot starts_fit)
+
+          pub front_handed_out : {xs : List ℕ} {q : ℕ × ℕ} → xs ≡ group_part (cells i.grid) (length (take i.count i.starts)) (take i.count i.starts) buffer k
+              → q ≡ address_of p (get_or (take i.count i.starts) k 0) → Handed i buffer k p xs q
+          front_handed_out e f =
+              handed_out (e ∙ front_part (cells i.grid) i.count i.starts starts_fit buffer k h)
+              (f ∙ ap (address_of p) (front_start (cells i.grid) i.count i.starts starts_fit k h))

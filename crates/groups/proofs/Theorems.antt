@@ -25,14 +25,14 @@ use Rattle.parts.specs.Parts.{Joined, root}
 use Rattle.parts.proofs.PartLaws.{part_iff, part_order, part_used, part_lt, root_least, part_joined}
 use Rattle.groups.specs.Groups.{edges, group_ids, group_count, cells_in, cells_of}
 use Rattle.groups.specs.Turn.{in_turn, start_of, starts_of}
-use Rattle.groups.specs.Lent.{Lent, Grouped, Slot, Between, InTurn}
+use Rattle.groups.specs.Lent.{Lent, Grouped, Between, InTurn}
 use Rattle.groups.specs.Info.{blank_places, group_part, info_of, grouping_code, grouping_of, buffer_of, end_of, starts_rise, groups_exist, hand_out_of}
 use Rattle.groups.proofs.EdgeLaws.{ids_at, ids_length, count_is}
 use Rattle.lists.proofs.SetsLaws.{front, front_at}
 use Rattle.groups.proofs.TurnLaws.{kept, rank, sorted, start, place, kept_at, kept_of, sorted_at, start_all, start_more, start_zero, place_at, place_of, rank_more}
 use Rattle.groups.proofs.Counting.{at}
 use Rattle.groups.proofs.Lending.{count_small}
-use Rattle.groups.proofs.InfoLaws.{end_next, end_last, rises, exists, Holds, holds_code, handed_out, end_within, start_before_end, from_zero, sizes_fit}
+use Rattle.groups.proofs.InfoLaws.{end_next, end_last, front_long, front_start, front_end, rises, exists, Holds, holds_code, handed_out, end_within, start_before_end, from_zero, sizes_fit}
 
 module _ (g : Grid) (st : List ℕ) (p : Bool) where
   abbrev ids : List ℕ
@@ -225,20 +225,12 @@ module _ {g : Grid} (limits : Limits g) where
         let n : length (group_ids g states p) ≡ cells g = ids_length g states p in
         rw (w.ids_are, ← n) (front blank_places (group_ids g states p) (omega (arith, n, arrays_fit)))
 
-    pub front_turns : InTurn g (take (cells g) ids) count starts flat
-    front_turns = rw ids_are (in_turn_lem arrays_lent w)
-
 -- without the places behind the last group's start
 front_starts : {g : Grid} {ids : List ℕ} {count : ℕ} {starts flat : List ℕ} → InTurn g ids count starts flat → InTurn g ids (length (take count starts)) (take count starts) flat
 front_starts {g} {ids} {count} {starts} {flat} w =
-    let n : length (take count starts) ≡ count = length-take-le count starts w.starts_long in
-    let same : (k : ℕ) → k < count → get_or (take count starts) k 0 ≡ get_or starts k 0 = λ k h. get_or-take count starts k 0 h in
-    let end : (k : ℕ) → k < count → end_of (cells g) count (take count starts) k ≡ end_of (cells g) count starts k =
-    λ k h.
-    ⊎_elim
-    (λ (l : count ≤ k + 1). sym (end_last (cells g) count (take count starts) k l) ∙ end_last (cells g) count starts k l)
-    (λ (l : k + 1 < count). sym (end_next (cells g) count (take count starts) k l) ∙ same (k + 1) l ∙ end_next (cells g) count starts k l)
-    (le_or_lt count (k + 1)) in
+    let n = front_long (cells g) count starts w.starts_long in
+    let same = front_start (cells g) count starts w.starts_long in
+    let end = front_end (cells g) count starts w.starts_long in
     rw n
     (record {
       few = w.few;
@@ -248,7 +240,7 @@ front_starts {g} {ids} {count} {starts} {flat} w =
       small = w.small;
       between = λ k h.
           let b = w.between k h in
-          record { some = rw (same k h, end k h) b.some; within = rw (end k h) b.within; are = rw (same k h, end k h) b.are };
+          record { some = rw (same k h, end k) b.some; within = rw (end k) b.within; are = rw (same k h, end k) b.are };
     })
 
 -- WHAT A GROUPING LEFT in slices that it was lent is a `Groups`: the cells' groups, the groups' starts, and the cells in turn
@@ -270,16 +262,6 @@ module _ {g : Grid} {st : List ℕ} {p : Bool} {ids₀ starts₀ flat₀ ids sta
 
 -- THE CELLS OF ONE GROUP, in slices that have them in turn
 module _ {g : Grid} {ids starts flat : List ℕ} {count : ℕ} (w : InTurn g ids count starts flat) {k : ℕ} (h : k < count) where
-  pub turn_slot : Slot g starts flat count k
-  turn_slot =
-      record {
-        exists = h;
-        starts_long = w.starts_long;
-        order = omega (arith, (w.between k h).some);
-        within = (w.between k h).within;
-        flat_long = w.flat_long;
-      }
-
   pub turn_some : 0 < length (cells_of g ids k)
   turn_some =
       rw (← (w.between k h).are)

@@ -1,6 +1,7 @@
 // The groups of a board in turn, as those read them who hold the slices in which they were written.
-ghost use Rattle.std.specs.Prelude.{◌≡◌, ◌<◌, length};
+ghost use Rattle.std.specs.Prelude.{◌≡◌, ◌<◌, get_or, length};
 ghost use Rattle.groups.specs.Groups.{cells_of};
+ghost use Rattle.groups.specs.Info.{address_of};
 ghost use Rattle.groups.specs.Lent.{InTurn};
 
 use grid::Grid;
@@ -26,8 +27,9 @@ impl<'a> Groups<'a> {
     // The cells of a group, in row order.
     pub fn cells(self, group: usize) -> &'a [u16]
         requires { group < length self.starts.now }
-        ensures { result.now ≡ cells_of self.entry.grid self.entry.ids.now group }
+        ensures cells_are { result.now ≡ cells_of self.entry.grid self.entry.ids.now group }
+        ensures address_is { result.ref_ptr ≡ address_of self.entry.flat.ref_ptr (get_or self.entry.starts.now group 0) }
     {
-        crate::cells_of(self.grid, self.starts, self.flat, self.starts.len(), group)
+        crate::cells_of(self.grid, self.starts, self.flat, group)
     }
 }

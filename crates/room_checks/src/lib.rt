@@ -44,7 +44,7 @@ fn count_in<const N: usize>(
     let count = rooms::rooms_of(b.grid, given, &mut ids, &mut sizes);
     let mut starts = [0u16; N];
     let mut flat = [0u16; N];
-    groups::in_turn(&ids, n, &mut sizes[..count], &mut starts, &mut flat);
+    groups::put_in_turn(&ids[..n], &mut sizes[..count], &mut starts, &mut flat);
     let mut marks = [0u8; limits::BORDERS];
     rooms::put(given, 1, &mut marks);
     let groups = Groups {

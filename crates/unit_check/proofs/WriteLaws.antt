@@ -5,33 +5,35 @@ use mathlib.Core.Logic.{◌≢◌}
 use mathlib.Core.Bool.{Bool, true, false, not}
 use mathlib.Core.List.{List, [], ◌∷◌, ◌++◌}
 use native.Mathlib.Omega.{arith}
-use native.Mathlib.Nat.{add-zero}
 use borrow.Author.Tests.{ne_eqb}
 use lib.Dec.{eqb}
-use lib.ListN.{get_or, length, set, length-append}
+use lib.ListN.{get_or, length, length-append}
 use Rattle.lists.specs.Choice.{pick, when}
 use Rattle.lists.specs.Lists.{range, keep, gather}
 use Rattle.lists.proofs.ListLaws.{in_range}
 use Rattle.borders.proofs.Congruence.{gather_same}
 use Rattle.grid.specs.declared.Grid.{Grid}
 use Rattle.grid.specs.Grid.{cells, Cell}
-use Rattle.groups.specs.Groups.{cells_of}
 use Rattle.borders.specs.Fits.{Fits}
-use Rattle.boundary.specs.Appended.{Appended}
+use Rattle.groups.specs.Lent.{InTurn}
+use Rattle.boundary.specs.declared.Entries.{Entries}
+use Rattle.boundary.specs.Writes.{Writes}
 use Rattle.boundary.specs.Boundary.{unit_boundary, potential_boundary}
-use Rattle.boundary.specs.Listing.{Listable}
-use Rattle.boundary.proofs.AppendLaws.{appended_long, appended_then}
+use Rattle.boundary.proofs.AppendLaws.{writes_long, writes_then}
 use Rattle.shape.specs.declared.Try.{Try}
 use Rattle.shape.specs.declared.Try.TheVariants.{Passed, Good, Failed}
 use Rattle.shape.specs.Shape.{head_or0, adjacent, UnitInfo, unit_of, entry_of, failures, boundaries}
 use Rattle.shape.proofs.Lengths.{failures_most, boundaries_most}
 use Rattle.groups.proofs.GroupLaws.{in_cells}
 use Rattle.offsets.specs.declared.table.CellInfo.{CellInfo}
-use Rattle.offsets.specs.Table.{unit_in, potential_in, units_in, potentials_in}
+use Rattle.offsets.specs.Table.{unit_in, potential_in, units_in, potentials_in, Table}
 use Rattle.offsets.specs.Trial.{unit_at, tried_at, Placed}
 use Rattle.offsets.proofs.TableLaws.{potential_at}
 use Rattle.offsets.proofs.TrialLaws.{head_in}
+use Rattle.unit_check.specs.Stage.{Finding}
+use Rattle.unit_check.specs.Find.{unit_cells, MarkedFor}
 use Rattle.unit_check.specs.Write.{failures_at, list_at, marked_boundary, near_boundaries}
+use Rattle.unit_check.proofs.FindLaws.{units_turn, potentials_turn, its_placed, number as numbered}
 use Rattle.unit_check.proofs.RestLaws.{Left, left_all, left_room, left_on, left_end}
 
 -- A LANDING
@@ -41,15 +43,15 @@ module _ {t : Try} {e : ℕ} (told : t ≡ Failed e) where
   unfolding entry_of
   note_room h = let q : length (entry_of t) ≡ 1 = rw told in omega arith
 
-  pub noted : (xs : List ℕ) (len : ℕ) → Appended xs len (entry_of t) (set xs len e) (len + 1)
+  pub noted : e ∷ [] ≡ entry_of t
   unfolding entry_of
-  noted xs len = rw told record { place = refl; stored = refl }
+  noted = rw told
 
-pub not_noted : (t : Try) (xs : List ℕ) (len : ℕ) → ((x : ℕ) → t ≡ Failed x → ⊥) → Appended xs len (entry_of t) xs len
+pub not_noted : (t : Try) → ((x : ℕ) → t ≡ Failed x → ⊥) → entry_of t ≡ []
 unfolding entry_of
-not_noted Passed xs len k = record { place = sym (add-zero len); stored = refl }
-not_noted Good xs len k = record { place = sym (add-zero len); stored = refl }
-not_noted (Failed e) xs len k = absurd (k e refl)
+not_noted Passed k = refl
+not_noted Good k = refl
+not_noted (Failed e) k = absurd (k e refl)
 
 -- ALL LANDINGS
 
@@ -58,43 +60,35 @@ module _ (g : Grid) (states : List ℕ) (table : List CellInfo) (cs : List ℕ) 
   entry_at t = entry_of (tried_at g states table cs t)
 
   -- the landings before `to` are written
-  abbrev pub Landing : List ℕ → List ℕ → ℕ → ℕ → Type 0
-  Landing b₀ b at to = Left entry_at (cells g) b₀ 0 b at to
+  abbrev pub Landing : Entries → Entries → ℕ → Type 0
+  Landing before now to = Left entry_at (cells g) before now to
 
-  pub landing_first : (b : List ℕ) → Landing b b 0 0
-  landing_first b = left_all entry_at (cells g) b 0
+  pub landing_first : (p : Entries) → Landing p p 0
+  landing_first p = left_all entry_at (cells g) p
 
-  module _ {b₀ b : List ℕ} {at to : ℕ} (w : Landing b₀ b at to) where
+  module _ {before now : Entries} {to : ℕ} (w : Landing before now to) where
     module _ (h : to < cells g) {r : Try} (told : r ≡ tried_at g states table cs to) where
-      pub landing_room : cells g ≤ length b₀ → at + length (entry_of r) ≤ length b
+      pub landing_room : before.len + cells g ≤ length before.buffer.now → now.len + length (entry_of r) ≤ length now.buffer.now
       unfolding failures
       landing_room l = rw told (left_room entry_at (cells g) w h (omega (arith, failures_most g states (units_in g table) (potentials_in g table) 0 (unit_at g table cs))))
 
-      pub landing_on : {b' : List ℕ} {at' : ℕ} → Appended b at (entry_of r) b' at' → Landing b₀ b' at' (to + 1)
+      pub landing_on : {after : Entries} → Writes (entry_of r) now after → Landing before after (to + 1)
       landing_on a = left_on entry_at (cells g) w h (rw told at a)
 
-    pub landing_end : cells g ≤ to → Appended b₀ 0 (failures_at g states table cs) b at
+    pub landing_end : cells g ≤ to → Writes (failures_at g states table cs) before now
     unfolding failures
     landing_end h = left_end entry_at (cells g) w h
 
 -- THE MARKED POTENTIAL UNITS
 
 module _ (g : Grid) (states pids marks : List ℕ) (unit : ℕ) where
-  pub not_marked : get_or marks unit 0 ≡ 0 → {b : List ℕ} {at : ℕ} → Appended b at (marked_boundary g states pids marks unit) b at
+  pub not_marked : get_or marks unit 0 ≡ 0 → marked_boundary g states pids marks unit ≡ []
   unfolding marked_boundary
-  not_marked z {at = at} = rw z record { place = sym (add-zero at); stored = refl }
+  not_marked z = rw z refl
 
-  module _ (z : get_or marks unit 0 ≢ 0) where
-    its_list : marked_boundary g states pids marks unit ≡ potential_boundary g states pids unit
-    unfolding marked_boundary
-    its_list = rw (ne_eqb (get_or marks unit 0) 0 z)
-
-    pub near_listable : Fits g states → cells g ≤ length pids → {cs : List ℕ} → cs ≡ cells_of g pids unit → {b : List ℕ} {at : ℕ}
-        → at + length (marked_boundary g states pids marks unit) ≤ length b → Listable g states pids cs true unit b at
-    near_listable f n q l = record { lent = record { limits = f.limits; states_long = f.borders; ids_long = n }; cells_are = q; room = rw its_list at l }
-
-    pub near_appended : {b b' : List ℕ} {at at' : ℕ} → Appended b at (potential_boundary g states pids unit) b' at' → Appended b at (marked_boundary g states pids marks unit) b' at'
-    near_appended a = rw its_list a
+  pub its_list : get_or marks unit 0 ≢ 0 → marked_boundary g states pids marks unit ≡ potential_boundary g states pids unit
+  unfolding marked_boundary
+  its_list z = rw (ne_eqb (get_or marks unit 0) 0 z)
 
 -- lists gathered of those that are kept
 gather_when : (f : ℕ → List ℕ) (t : Bool) (x : ℕ) (xs : List ℕ) → gather f (when t x ++ xs) ≡ pick t (f x) [] ++ gather f xs
@@ -160,27 +154,51 @@ module _ {g : Grid} {states ids pids : List ℕ} {n : ℕ} {table : List CellInf
       let d : List ℕ = boundaries g states (units_in g table) (potentials_in g table) n u in
       omega (arith, ap length list_is, length-append a d, length-append a (b ++ c), length-append b c, failures_most g states (units_in g table) (potentials_in g table) 0 u, boundaries_most g states (units_in g table) (potentials_in g table) n u)
 
-  module _ {b₀ b₁ : List ℕ} (long : length b₀ ≡ room) {at : ℕ} (landed : Appended b₀ 0 (failures_at g states table cs) b₁ at) where
-    module _ {k : ℕ} (k-is : unit_in table (head_or0 cs) ≡ k) where
-      number : k ≡ u.number
-      unfolding unit_of
-      number = sym k-is
+  module _ {p₀ p₁ : Entries} (empty : p₀.len ≡ 0) (long : length p₀.buffer.now ≡ room) (landed : Writes (failures_at g states table cs) p₀ p₁)
+      {k : ℕ} (k_is : unit_in table (head_or0 cs) ≡ k) where
+    number : k ≡ u.number
+    unfolding unit_of
+    number = sym k_is
 
-      pub unit_listable : Listable g states ids cs false k b₁ at
-      unit_listable =
-          rw number
-          (record {
-            lent = record { limits = p.limits; states_long = p.states_long; ids_long = w.ids_long };
-            cells_are = (unfold unit_of in rw (← w.units) p.cells_are);
-            room = omega (arith, total, landed.place, appended_long landed, w.enough);
-          })
+    unit_room : p₁.len + length (unit_boundary g states ids k) ≤ length p₁.buffer.now
+    unit_room = rw number (omega (arith, total, landed.appended.place, writes_long landed, w.enough))
 
-      module _ {b₂ : List ℕ} {at₂ : ℕ} (bounded : Appended b₁ at (unit_boundary g states ids k) b₂ at₂) where
-        its : Appended b₁ at (unit_boundary g states ids u.number) b₂ at₂
-        its = rw number at bounded
+    module _ {p₂ : Entries} (bounded : Writes (unit_boundary g states ids k) p₁ p₂) where
+      its : Writes (unit_boundary g states ids u.number) p₁ p₂
+      its = rw number at bounded
 
-        pub near_fits : at₂ + length (near_boundaries g states pids marks n) ≤ length b₂
-        near_fits = omega (arith, total, its.place, landed.place, appended_long its, appended_long landed, w.enough)
+      near_room : p₂.len + length (near_boundaries g states pids marks n) ≤ length p₂.buffer.now
+      near_room = omega (arith, total, its.appended.place, landed.appended.place, writes_long its, writes_long landed, w.enough)
 
-        pub all_written : {b₃ : List ℕ} {r : ℕ} → Appended b₂ at₂ (near_boundaries g states pids marks n) b₃ r → Appended b₀ 0 (list_at g states table n cs) b₃ r
-        all_written v = rw list_is (appended_then landed (appended_then its v))
+      all_written : {p₃ : Entries} → Writes (near_boundaries g states pids marks n) p₂ p₃ → Writes (list_at g states table n cs) p₀ p₃
+      all_written v = rw list_is (writes_then landed (writes_then its v))
+
+-- THE LIST OF A UNIT OF A STAGE, once its failed landings are written
+
+module _ {g g₁ g₂ : Grid} {states : List ℕ} {table : List CellInfo} {ids pids : List ℕ} {count : ℕ} {nstarts near : List ℕ} (f : Finding g states table g₁ ids g₂ pids count nstarts near)
+    (on : Fits g states) (t : Table g table) {n : ℕ} {starts flat pstarts pflat : List ℕ} (units : InTurn g₁ ids n starts flat) (potentials : InTurn g₂ pids count pstarts pflat) {k : ℕ}
+    (exists : k < n) {marks : List ℕ} (long : count ≤ length marks) (marked : MarkedFor g states table k marks) {p₀ p₁ : Entries} (empty : p₀.len ≡ 0)
+    (enough : 9 * cells g ≤ length p₀.buffer.now) (landed : Writes (failures_at g states table (unit_cells g table k)) p₀ p₁) where
+  writing : Writing g states ids pids count table marks (unit_cells g table k) (length p₀.buffer.now)
+  writing =
+      record {
+        placed = its_placed on.limits t (units_turn f units) exists on.borders marked (potentials_turn f potentials) long;
+        units = f.units;
+        potentials = f.potentials;
+        ids_long = (rw f.units_of at units).ids_long;
+        marks_long = long;
+        enough = enough;
+      }
+
+  its_number : unit_in table (head_or0 (unit_cells g table k)) ≡ k
+  its_number = numbered on.limits t (units_turn f units) exists
+
+  pub unit_fits : p₁.len + length (unit_boundary g states ids k) ≤ length p₁.buffer.now
+  unit_fits = unit_room writing empty refl landed its_number
+
+  module _ {p₂ : Entries} (bounded : Writes (unit_boundary g states ids k) p₁ p₂) where
+    pub near_fits : p₂.len + length (near_boundaries g states pids marks count) ≤ length p₂.buffer.now
+    near_fits = near_room writing empty refl landed its_number bounded
+
+    pub unit_written : {p₃ : Entries} → Writes (near_boundaries g states pids marks count) p₂ p₃ → Writes (list_at g states table count (unit_cells g table k)) p₀ p₃
+    unit_written = all_written writing empty refl landed its_number bounded

@@ -2,47 +2,43 @@
 ghost use Rattle.std.specs.Prelude.{◌+◌, ◌*◌, ◌<◌, ◌≤◌, length};
 ghost use Rattle.grid.specs.Grid.{cells as cells_of};
 ghost use Rattle.boundary.specs.Appended.{Appended};
+ghost use Rattle.boundary.specs.Writes.{Writes};
 ghost use Rattle.shape.specs.Shape.{entry_of};
 ghost use Rattle.unit_check.specs.Find.{unit_cells, MarkedFor};
 ghost use Rattle.unit_check.specs.Write.{failures_at, near_boundaries, list_at};
 
 use crate::stage::Stage;
-use boundary::Outline;
+use boundary::{Entries, Outline};
 use offsets::trial::Trial;
 use shape::Try;
 
 // Writes the entry of a failed landing.
-fn note(t: Try, buffer: &mut [u16], at: usize) -> usize
-    requires { at + length (entry_of t) ≤ length buffer.old }
-    ensures { Appended buffer.old at (entry_of t) buffer.new result }
+fn note(t: Try, list: &mut Entries<'_>)
+    requires { list.old.len + length (entry_of t) ≤ length list.old.buffer.now }
+    ensures { Writes (entry_of t) list.old list.new }
 {
     if let Try::Failed(entry) = t {
-        buffer[at] = entry;
-        return at + 1;
+        list.push(entry);
     }
-    at
 }
 
-// The failed landings of all offsets, at the buffer's front.
-fn write_landings(trial: Trial<'_>, buffer: &mut [u16]) -> usize
-    requires { cells_of trial.unit.chart.borders.grid ≤ length buffer.old }
-    ensures { Appended buffer.old 0 (failures_at trial.entry.unit.chart.borders.grid trial.entry.unit.chart.borders.states.now trial.entry.unit.chart.table.now trial.entry.unit.cells.now) buffer.new result }
+// Writes the failed landings of all offsets.
+fn write_landings(trial: Trial<'_>, list: &mut Entries<'_>)
+    requires { list.old.len + cells_of trial.unit.chart.borders.grid ≤ length list.old.buffer.now }
+    ensures { Writes (failures_at trial.entry.unit.chart.borders.grid trial.entry.unit.chart.borders.states.now trial.entry.unit.chart.table.now trial.entry.unit.cells.now) list.old list.new }
 {
-    let mut at = 0;
     for to in 0..trial.unit.chart.borders.grid.cell_count() {
-        at = note(trial.at(to), buffer, at);
+        note(trial.at(to), list);
     }
-    at
 }
 
 impl<'a> Stage<'a> {
     // Appends the boundary lists of all marked potential units, in rising number.
-    fn append_near(self, marks: &[u8], buffer: &mut [u16], at: usize) -> usize
+    fn append_near(self, marks: &[u8], list: &mut Entries<'_>)
         requires marks_long { length self.potentials.starts.now ≤ length marks.now }
-        requires room { at + length (near_boundaries self.chart.borders.grid self.chart.borders.states.now self.potentials.ids.now marks.now (length self.potentials.starts.now)) ≤ length buffer.old }
-        ensures { Appended buffer.old at (near_boundaries self.entry.chart.borders.grid self.entry.chart.borders.states.now self.entry.potentials.ids.now marks.now (length self.entry.potentials.starts.now)) buffer.new result }
+        requires room { list.old.len + length (near_boundaries self.chart.borders.grid self.chart.borders.states.now self.potentials.ids.now marks.now (length self.potentials.starts.now)) ≤ length list.old.buffer.now }
+        ensures { Writes (near_boundaries self.entry.chart.borders.grid self.entry.chart.borders.states.now self.entry.potentials.ids.now marks.now (length self.entry.potentials.starts.now)) list.old list.new }
     {
-        let mut n = at;
         for number in 0..self.potentials.len() {
             if marks[number] != 0 {
                 let outline = Outline {
@@ -52,10 +48,9 @@ impl<'a> Stage<'a> {
                     number,
                     cells: self.potentials.cells(number),
                 };
-                n = outline.append(buffer, n);
+                outline.append(list);
             }
         }
-        n
     }
 
     // The whole list of a unit, whose adjacent potential units are marked; returns its length.
@@ -66,7 +61,8 @@ impl<'a> Stage<'a> {
         requires enough { 9 * cells_of self.chart.borders.grid ≤ length buffer.old }
         ensures { Appended buffer.old 0 (list_at self.entry.chart.borders.grid self.entry.chart.borders.states.now self.entry.chart.table.now (length self.entry.potentials.starts.now) (unit_cells self.entry.chart.borders.grid self.entry.chart.table.now unit)) buffer.new result }
     {
-        let n = write_landings(self.trial(unit, marks), buffer);
+        let mut list = Entries { buffer, len: 0 };
+        write_landings(self.trial(unit, marks), &mut list);
         let outline = Outline {
             borders: self.chart.borders,
             ids: self.units.ids,
@@ -74,7 +70,8 @@ impl<'a> Stage<'a> {
             number: unit,
             cells: self.units.cells(unit),
         };
-        let at = outline.append(buffer, n);
-        self.append_near(marks, buffer, at)
+        outline.append(&mut list);
+        self.append_near(marks, &mut list);
+        list.len
     }
 }

@@ -1,6 +1,9 @@
 -- `boundary::list` meets its contract: the groups that it makes, and a group's list. Assumes nothing.
 use Prim.Native.Nat.{◌*◌, ◌≤◌}
-use mathlib.Core.Path.{sym}
+use mathlib.Core.Path.{◌≡◌, sym}
+use Rattle.answers.specs.Answers.{written}
+use Rattle.boundary.specs.Answer.{boundary_outcome}
+use Rattle.std.proofs.Common.{rules}
 use native.Mathlib.Omega.{arith}
 use lib.ListN.{length, take}
 use lib.Seq.{length-take-le}
@@ -43,5 +46,6 @@ returns c =
     let l = rw e.grid at (arrays_lent c.borders-borders.result.fits.limits) in
     let w = rw (e.grid, e.states) at c.group_cells-count.ensures in
     let room : 9 * cells (size_of a.b.now) ≤ length a.buffer.now = rw (← e.grid) (omega (arith, c.cell_count-n.ensures)) in
-    let v = group_written a.b.now a.is_potential a.number c.in_ok-check.ensures l w c.if-count-number.false room (rw (c.cell_count-n.ensures, e.grid, e.states) at c.append.ensures) in
-    record { value = v.0; buffer_after = v.1 }
+    let v = group_written a.b.now a.is_potential a.number c.in_ok-check.ensures l w c.if-count-number.false room (rw (c.cell_count-n.ensures, e.grid, e.states) at c.append.ensures.appended) in
+    let stored : c.append.new.list.buffer.now ≡ written (boundary_outcome a.b.now a.is_potential a.number (length a.buffer.now)) a.buffer.now = v.1 in
+    record { value = v.0; buffer_after = search rules }

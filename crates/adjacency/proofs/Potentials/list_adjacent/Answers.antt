@@ -28,7 +28,7 @@ list_one-requires c =
     let t = rw s.one_board at s.groups.turns in
     let r = first_room s.borders.states.now t c.requires.room in
     let h : c.loop-p.p < length s.groups.starts.now = omega (arith, c.len-p-end.ensures) in
-    let e = rw s.one_board at c.cells.ensures in
+    let e = rw s.one_board at c.cells.ensures.cells_are in
     let l = c.loop-p.invariant.done in
     record { looks = looks s.borders.states.now t r l h e; by_index = on_board_lem s.borders.states.now t r l h e; unmarked = l.clear }
 
@@ -43,7 +43,7 @@ loop-p-preserved c =
     record {
       marks_same = e.same.0 ∙ i.marks_same;
       list_same = e.same.1 ∙ i.list_same;
-      done = listing_turn s.borders.states.now t r i.done h (rw s.one_board at c.cells.ensures) e.listed;
+      done = listing_turn s.borders.states.now t r i.done h (rw s.one_board at c.cells.ensures.cells_are) e.listed;
     }
 
 pub returns : goal.returns

@@ -4,23 +4,20 @@ use native.Mathlib.Omega.{arith}
 use borrow.Author.Rules.{rules}
 use lib.ListN.{length}
 use Rattle.grid.specs.declared.Direction.TheVariants.{Up}
-use Rattle.boundary.proofs.AppendLaws.{rest_all, turn_room, turn_on, turns_end}
+use Rattle.boundary.proofs.AppendLaws.{turn_fits, turn_written, turns_written}
 use Rattle.boundary.proofs.Outline.append_around.Goals as goal
 
-pub loop-direction-init : goal.loop-direction-init
-loop-direction-init c = rest_all _ _ _
-
-pub append_entry-n-requires : goal.append_entry-n-requires
-append_entry-n-requires c =
+pub append_entry-requires : goal.append_entry-requires
+append_entry-requires c =
     let four : length c.args.order ≡ 4 = search rules in
-    record { cell = c.requires.cell; room = turn_room _ _ Up c.loop-direction.direction-index c.loop-direction.invariant (omega arith) c.requires.room }
+    record { cell = c.requires.cell; room = turn_fits _ _ Up c.loop-direction.direction-index c.loop-direction.invariant (omega arith) c.requires.room }
 
 pub loop-direction-preserved : goal.loop-direction-preserved
 loop-direction-preserved c =
     let four : length c.args.order ≡ 4 = search rules in
-    turn_on _ _ Up c.loop-direction.direction-index c.loop-direction.invariant (omega arith) c.append_entry-n.ensures
+    turn_written _ _ Up c.loop-direction.direction-index c.loop-direction.invariant (omega arith) c.append_entry.ensures
 
 pub returns : goal.returns
 returns c =
     let four : length c.args.order ≡ 4 = search rules in
-    turns_end _ _ Up c.loop-direction.direction-index c.loop-direction.invariant (omega arith)
+    turns_written _ _ Up c.loop-direction.direction-index c.loop-direction.invariant (omega arith)

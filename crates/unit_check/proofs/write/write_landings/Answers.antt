@@ -6,14 +6,11 @@ use Rattle.unit_check.proofs.write.write_landings.Goals as goal
 pub loop-to-init : goal.loop-to-init
 loop-to-init c = landing_first _ _ _ _ _
 
-pub note-at-requires : goal.note-at-requires
-note-at-requires c = landing_room _ _ _ _ c.loop-to.invariant (omega (arith, c.loop-to-test.true, c.cell_count-to-end.ensures)) c.at.ensures c.requires
+pub note-requires : goal.note-requires
+note-requires c = landing_room _ _ _ _ c.loop-to.invariant (omega (arith, c.loop-to-test.true, c.cell_count-to-end.ensures)) c.at.ensures c.requires
 
 pub loop-to-preserved : goal.loop-to-preserved
-loop-to-preserved c = landing_on _ _ _ _ c.loop-to.invariant (omega (arith, c.loop-to-test.true, c.cell_count-to-end.ensures)) c.at.ensures c.note-at.ensures
-
-pub shape_of-buffer : goal.shape_of-buffer
-shape_of-buffer c = c.loop-to.invariant.long
+loop-to-preserved c = landing_on _ _ _ _ c.loop-to.invariant (omega (arith, c.loop-to-test.true, c.cell_count-to-end.ensures)) c.at.ensures c.note.ensures
 
 pub returns : goal.returns
 returns c = landing_end _ _ _ _ c.loop-to.invariant (omega (arith, c.loop-to-test.false, c.cell_count-to-end.ensures))

@@ -7,4 +7,4 @@ use Rattle.unit_check.proofs.stage.Stage.append_near.Given as goal
 abbrev pub invariant-loop-number : goal.invariant-loop-number
 invariant-loop-number l =
     let b = l.self.chart.borders in
-    Left (marked_boundary b.grid b.states.now l.self.potentials.ids.now l.marks) (length l.self.potentials.starts.now) l.initial.buffer l.at l.buffer l.n l.number
+    Left (marked_boundary b.grid b.states.now l.self.potentials.ids.now l.marks) (length l.self.potentials.starts.now) l.initial.list l.list l.number

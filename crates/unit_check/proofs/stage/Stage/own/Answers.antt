@@ -17,11 +17,11 @@ bounds-self-from c =
     let l = s.chart.borders.fits.limits in
     let w = units_turn s.finding s.units.turns in
     let e : c.from.result ≡ head_or0 (unit_cells s.chart.borders.grid s.chart.table.now c.args.unit) =
-    c.from.ensures ∙ ap (λ (cs : List ℕ). get_or cs 0 0) (its_cells s.finding c.args.unit c.cells.ensures) ∙ head_at (unit_cells s.chart.borders.grid s.chart.table.now c.args.unit) in
+    c.from.ensures ∙ ap (λ (cs : List ℕ). get_or cs 0 0) (its_cells s.finding c.args.unit c.cells.ensures.cells_are) ∙ head_at (unit_cells s.chart.borders.grid s.chart.table.now c.args.unit) in
     omega (arith, e, head_cell l s.chart.table_of w c.requires, s.chart.table_of.long)
 
 pub returns : goal.returns
 returns c =
     let s = c.args.self in
     c.from-2.ensures
-    ∙ ap (potential_in s.chart.table.now) (c.from.ensures ∙ ap (λ (cs : List ℕ). get_or cs 0 0) (its_cells s.finding c.args.unit c.cells.ensures) ∙ head_at (unit_cells s.chart.borders.grid s.chart.table.now c.args.unit))
+    ∙ ap (potential_in s.chart.table.now) (c.from.ensures ∙ ap (λ (cs : List ℕ). get_or cs 0 0) (its_cells s.finding c.args.unit c.cells.ensures.cells_are) ∙ head_at (unit_cells s.chart.borders.grid s.chart.table.now c.args.unit))

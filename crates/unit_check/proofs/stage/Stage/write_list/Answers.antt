@@ -1,70 +1,27 @@
 -- `unit_check::stage::Stage::write_list` meets its contract: three pieces, one behind the other. Assumes nothing.
 use mathlib.Core.Path.{refl}
-use lib.ListN.{length}
-use Rattle.unit_check.specs.Find.{unit_cells}
-use Rattle.unit_check.proofs.FindLaws.{units_turn, potentials_turn, its_cells, its_placed, number}
-use Rattle.unit_check.proofs.WriteLaws.{Writing, unit_listable, near_fits, all_written}
+use Rattle.std.proofs.Common.{rules}
+use Rattle.unit_check.proofs.WriteLaws.{unit_fits, near_fits, unit_written}
 use Rattle.unit_check.proofs.stage.Stage.write_list.Goals as goal
 
-pub append-at-requires : goal.append-at-requires
-append-at-requires c =
+pub append-requires : goal.append-requires
+append-requires c =
     let s = c.args.self in
-    let l = s.chart.borders.fits.limits in
-    let w = units_turn s.finding s.units.turns in
-    let p = potentials_turn s.finding s.potentials.turns in
-    let f = s.finding in
-    let k : Writing s.chart.borders.grid s.chart.borders.states.now s.units.ids.now s.potentials.ids.now (length s.potentials.starts.now) s.chart.table.now c.args.marks.now (unit_cells s.chart.borders.grid s.chart.table.now c.args.unit) (length c.args.buffer.now) =
-    record {
-      placed = its_placed l s.chart.table_of w c.requires.unit_exists s.chart.borders.fits.borders c.requires.marked p c.requires.marks_long;
-      units = f.units;
-      potentials = f.potentials;
-      ids_long = (rw f.units_of at s.units.turns).ids_long;
-      marks_long = c.requires.marks_long;
-      enough = c.requires.enough;
-    } in
+    let r = c.requires in
     let e = c.trial.ensures in
-    let a = rw (e.grid_is, e.states_are, e.table_is, e.cells_are) at c.write_landings-n.ensures in
-    let m = number l s.chart.table_of w c.requires.unit_exists in
-    (unit_listable k refl a m).room
+    unit_fits s.finding s.chart.borders.fits s.chart.table_of s.units.turns s.potentials.turns r.unit_exists r.marks_long r.marked refl r.enough (rw (e.grid_is, e.states_are, e.table_is, e.cells_are) at c.write_landings.ensures)
 
 pub append_near-requires-clause-room : goal.append_near-requires-clause-room
 append_near-requires-clause-room c =
     let s = c.args.self in
-    let l = s.chart.borders.fits.limits in
-    let w = units_turn s.finding s.units.turns in
-    let p = potentials_turn s.finding s.potentials.turns in
-    let f = s.finding in
-    let k : Writing s.chart.borders.grid s.chart.borders.states.now s.units.ids.now s.potentials.ids.now (length s.potentials.starts.now) s.chart.table.now c.args.marks.now (unit_cells s.chart.borders.grid s.chart.table.now c.args.unit) (length c.args.buffer.now) =
-    record {
-      placed = its_placed l s.chart.table_of w c.requires.unit_exists s.chart.borders.fits.borders c.requires.marked p c.requires.marks_long;
-      units = f.units;
-      potentials = f.potentials;
-      ids_long = (rw f.units_of at s.units.turns).ids_long;
-      marks_long = c.requires.marks_long;
-      enough = c.requires.enough;
-    } in
+    let r = c.requires in
     let e = c.trial.ensures in
-    let a = rw (e.grid_is, e.states_are, e.table_is, e.cells_are) at c.write_landings-n.ensures in
-    let m = number l s.chart.table_of w c.requires.unit_exists in
-    near_fits k refl a m c.append-at.ensures
+    near_fits s.finding s.chart.borders.fits s.chart.table_of s.units.turns s.potentials.turns r.unit_exists r.marks_long r.marked refl r.enough (rw (e.grid_is, e.states_are, e.table_is, e.cells_are) at c.write_landings.ensures) c.append.ensures
 
 pub returns : goal.returns
 returns c =
     let s = c.args.self in
-    let l = s.chart.borders.fits.limits in
-    let w = units_turn s.finding s.units.turns in
-    let p = potentials_turn s.finding s.potentials.turns in
-    let f = s.finding in
-    let k : Writing s.chart.borders.grid s.chart.borders.states.now s.units.ids.now s.potentials.ids.now (length s.potentials.starts.now) s.chart.table.now c.args.marks.now (unit_cells s.chart.borders.grid s.chart.table.now c.args.unit) (length c.args.buffer.now) =
-    record {
-      placed = its_placed l s.chart.table_of w c.requires.unit_exists s.chart.borders.fits.borders c.requires.marked p c.requires.marks_long;
-      units = f.units;
-      potentials = f.potentials;
-      ids_long = (rw f.units_of at s.units.turns).ids_long;
-      marks_long = c.requires.marks_long;
-      enough = c.requires.enough;
-    } in
+    let r = c.requires in
     let e = c.trial.ensures in
-    let a = rw (e.grid_is, e.states_are, e.table_is, e.cells_are) at c.write_landings-n.ensures in
-    let m = number l s.chart.table_of w c.requires.unit_exists in
-    all_written k refl a m c.append-at.ensures c.append_near.ensures
+    let w = unit_written s.finding s.chart.borders.fits s.chart.table_of s.units.turns s.potentials.turns r.unit_exists r.marks_long r.marked refl r.enough (rw (e.grid_is, e.states_are, e.table_is, e.cells_are) at c.write_landings.ensures) c.append.ensures c.append_near.ensures in
+    record { place = w.appended.place; stored = search rules }
