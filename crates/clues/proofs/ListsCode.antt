@@ -1,11 +1,10 @@
 -- Questions 3, 7, 8 and 9 as the code puts them: a law for each answer; the sizes are those of the rooms. Assumes nothing.
 use Prim.Native.Nat.{ℕ, zero, suc, ◌≤◌, ◌<◌}
 use mathlib.Core.Path.{◌≡◌, refl, ap, ap₂, sym, ◌∙◌}
-use mathlib.Core.Logic.{◌≢◌}
 use mathlib.Core.Bool.{Bool, true, false}
 use mathlib.Core.List.{List, [], ◌∷◌}
 use native.Mathlib.Omega.{arith}
-use borrow.Author.Tests.{eq-eqb, ne_eqb, ltb-true}
+use borrow.Author.Tests.{eq-eqb, ltb-true}
 use lib.Dec.{eqb, ltb, leb}
 use lib.ListN.{length, get_or}
 use Rattle.limits.specs.Limits.{no_clue}
@@ -38,9 +37,6 @@ module _ (g : Grid) (given clues : List ℕ) where
     pub by_rooms : rises given ≡ true → rooms_code g given clues ≡ lists_code g given clues
     unfolding lists_code
     by_rooms b = rw (a, b)
-
-  not_one_each : length clues ≢ room_count g given → 8 ≡ rooms_code g given clues
-  not_one_each c = rw (ne_eqb (length clues) (room_count g given) c)
 
   by_clues : length clues ≡ room_count g given → (t : Bool) → clues_fit g given clues ≡ t → pick t 0 9 ≡ rooms_code g given clues
   by_clues c t d = rw (eq-eqb (length clues) (room_count g given) c, d)
@@ -78,9 +74,6 @@ module _ (g : Grid) (given ids sizes ids' sizes' : List ℕ) (lent : Places g id
 -- the answers of questions 8 and 9, once the rooms are counted
 module _ (g : Grid) (given clues : List ℕ) (w : Given g given) {ids sizes ids' sizes' : List ℕ} {count : ℕ} (l : Places g ids sizes)
     (o : Roomed g given ids sizes ids' sizes' count) where
-  pub other_count : length clues ≢ count → 8 ≡ rooms_code g given clues
-  other_count z = not_one_each g given clues (λ e. z (e ∙ sym o.count_is))
-
   module _ (e : length clues ≡ count) where
     counted : Roomed g given ids sizes ids' sizes' (length clues)
     counted = rw e o

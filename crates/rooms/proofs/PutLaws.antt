@@ -21,9 +21,9 @@ use Rattle.grid.proofs.Geometry.{border_count_le}
 use Rattle.parts.specs.Parts.{parts, roots, begun_in}
 use Rattle.groups.specs.Groups.{passes, edges_over, group_ids, group_count}
 use Rattle.groups.specs.Turn.{in_turn, starts_of, Keys, Sized}
-use Rattle.groups.specs.Lent.{Fits, Lent, Grouped, Counted, InTurn}
+use Rattle.groups.specs.Lent.{Lent, Grouped, Counted, InTurn}
 use Rattle.groups.proofs.Lending.{sizes_fit, turn_asks, grouped}
-use Rattle.groups.proofs.Theorems.{made, made_ids, made_ids_fit, made_starts_fit}
+use Rattle.groups.proofs.Theorems.{made, made_ids}
 use Rattle.rooms.specs.Rooms.{is_given, room_ids, room_count}
 use Rattle.rooms.specs.Lent.{unmarked, puts, Below, Given, Blank, Places, Roomed}
 
@@ -110,9 +110,6 @@ module _ (g : Grid) (given : List ℕ) (w : Given g given) where
     pub marks_in : (v e : ℕ) → get_or (puts given v xs) e 0 ≡ pick (is_given given e) v 0
     marks_in v e = puts_at given v xs walls_in e ∙ ap (pick (is_given given e) v) (b.zeros e)
 
-    pub marks_fit : (v : ℕ) → Fits g (puts given v xs)
-    marks_fit v = record { limits = w.limits; borders = omega (arith, puts_length given v xs, b.long) }
-
     -- the rooms (SPEC 1.7) are the potential units of a board with the given walls alone
     abbrev passing : ℕ → Bool
     passing e = passes true (get_or (puts given 2 xs) e 0)
@@ -139,9 +136,6 @@ module _ (g : Grid) (given : List ℕ) (w : Given g given) where
     pub roomed : {ids sizes ids' sizes' : List ℕ} {count : ℕ} → Counted g (puts given 2 xs) true ids sizes ids' sizes' count → Roomed g given ids sizes ids' sizes' count
     roomed o = record { count_is = o.count_is ∙ count_same; ids_are = o.ids_are ∙ cc ids_same; sizes_are = o.sizes_are ∙ cc (ids_same, count_same) }
 
-  pub walls_fit : Below (length unmarked) given
-  walls_fit = walls_in (unmarked_blank g w.limits)
-
   pub marks_at : (v e : ℕ) → get_or (puts given v unmarked) e 0 ≡ pick (is_given given e) v 0
   marks_at = marks_in (unmarked_blank g w.limits)
 
@@ -167,12 +161,6 @@ module _ (g : Grid) (given : List ℕ) (w : Given g given) where
 
       in_order : Grouped g (puts given 2 unmarked) true ids starts flat ids' starts' flat' count
       in_order = grouped w.limits l.ids_long l.sizes_long counted a b
-
-      pub room_ids_fit : cells g ≤ length ids'
-      room_ids_fit = made_ids_fit lent in_order
-
-      pub room_starts_fit : count ≤ length starts'
-      room_starts_fit = made_starts_fit lent in_order
 
       pub room_ids_are : take (cells g) ids' ≡ room_ids g given
       room_ids_are = made_ids lent in_order ∙ ids_same (unmarked_blank g w.limits)
