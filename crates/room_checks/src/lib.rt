@@ -56,7 +56,7 @@ impl CluedBoard<'_> {
         let count = rooms::rooms_of(grid, self.given, &mut ids, &mut sizes);
         let mut starts = [0u16; N];
         let mut flat = [0u16; N];
-        groups::in_turn(&ids, n, &mut sizes[..count], &mut starts, &mut flat);
+        groups::put_in_turn(&ids[..n], &mut sizes[..count], &mut starts, &mut flat);
         let mut marks = [0u8; limits::BORDERS];
         rooms::put(self.given, 1, &mut marks);
         let groups = Groups {

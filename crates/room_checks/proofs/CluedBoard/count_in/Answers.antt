@@ -8,20 +8,16 @@ use Rattle.room_checks.specs.RoomChecks.{counted_of, leaves}
 use Rattle.room_checks.proofs.Housed.{rooms_same}
 use Rattle.room_checks.proofs.CluedBoard.count_in.Goals as goal
 
-pub whole_as_front-in_turn : goal.whole_as_front-in_turn
-whole_as_front-in_turn g c =
+pub whole_as_front-put_in_turn : goal.whole_as_front-put_in_turn
+whole_as_front-put_in_turn g c =
     let few = rooms_few c.args.self.borders.grid c.args.self.given.now in
     (omega (arith, c.rooms_of-count.ensures.count_is, few, c.requires.room.0), omega (arith, c.requires.room.1))
 
-pub in_turn-requires-clause-keys : goal.in_turn-requires-clause-keys
-in_turn-requires-clause-keys g c =
-    rw c.cell_count-n.ensures
-    (room_asks c.args.self.borders.grid c.args.self.given.now c.args.self.walls (places _ _ c.requires.room.0) c.rooms_of-count.ensures c.requires.room.0 c.requires.room.0).0
-
-pub in_turn-requires-clause-sized : goal.in_turn-requires-clause-sized
-in_turn-requires-clause-sized g c =
-    rw c.cell_count-n.ensures
-    (room_asks c.args.self.borders.grid c.args.self.given.now c.args.self.walls (places _ _ c.requires.room.0) c.rooms_of-count.ensures c.requires.room.0 c.requires.room.0).1.0
+pub put_in_turn-requires : goal.put_in_turn-requires
+put_in_turn-requires g c =
+    let l = places c.args.self.borders.grid g.row.N c.requires.room.0 in
+    let a = room_asks c.args.self.borders.grid c.args.self.given.now c.args.self.walls l c.rooms_of-count.ensures l.ids_long l.sizes_long in
+    rw c.cell_count-n.ensures (record { keys = a.0; sized = a.1; sizes_in_bounds = a.2 })
 
 pub put-requires : goal.put-requires
 put-requires g c e m =
@@ -33,8 +29,8 @@ invariant_of-groups g c =
     record {
       turns = rw c.cell_count-n.ensures
           (room_turns c.args.self.borders.grid c.args.self.given.now c.args.self.walls l c.rooms_of-count.ensures _ _ l.ids_long l.sizes_long
-          (rw c.cell_count-n.ensures at c.in_turn.ensures.starts_after)
-          (rw c.cell_count-n.ensures at c.in_turn.ensures.flat_after));
+          (rw c.cell_count-n.ensures at c.put_in_turn.ensures.starts_after)
+          (rw c.cell_count-n.ensures at c.put_in_turn.ensures.flat_after));
     }
 
 pub returns : goal.returns
@@ -45,7 +41,7 @@ returns g c =
     let n = c.cell_count-n.ensures in
     let e = c.new.ensures in
     let ids = e.groups.1 ∙ ap (λ m. take m c.rooms_of-count.new.ids) n
-    ∙ room_ids_are b.grid c.args.self.given.now c.args.self.walls l c.rooms_of-count.ensures _ _ l.ids_long l.sizes_long (rw n at c.in_turn.ensures.starts_after) (rw n at c.in_turn.ensures.flat_after) in
+    ∙ room_ids_are b.grid c.args.self.given.now c.args.self.walls l c.rooms_of-count.ensures _ _ l.ids_long l.sizes_long (rw n at c.put_in_turn.ensures.starts_after) (rw n at c.put_in_turn.ensures.flat_after) in
     let marks = e.borders.1 ∙ c.put.ensures in
     let same = rooms_same b.grid c.args.self.given.now c.args.self.walls marks b.states.now c.args.self.clues.now ids in
     let k = rw (e.groups.0, e.borders.0) at c.count.ensures in
