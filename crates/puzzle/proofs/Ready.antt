@@ -1,5 +1,5 @@
 -- Questions 1 and 2 of a puzzle: a law for each answer, and what an accepted puzzle is like. Assumes nothing.
-use Prim.Native.Nat.{ℕ, ◌*◌, ◌≤◌, ◌<◌}
+use Prim.Native.Nat.{ℕ, ◌≤◌, ◌<◌}
 use mathlib.Core.Path.{◌≡◌, refl, ap, sym, ◌∙◌, fun_ext}
 use mathlib.Core.Logic.{◌≢◌}
 use mathlib.Core.Bool.{Bool, true, false, true≢false}
@@ -16,18 +16,17 @@ use Rattle.limits.specs.Limits.{most_borders, most_cells}
 use Rattle.lists.specs.Choice.{pick}
 use Rattle.lists.proofs.ChoiceLaws.{both_true}
 use Rattle.grid.specs.declared.Grid.{Grid}
-use Rattle.grid.specs.Grid.{sizes_ok, Limits, cells, border_count}
+use Rattle.grid.specs.Grid.{sizes_ok, Limits, border_count}
 use Rattle.grid.proofs.Geometry.{limits, border_count_le}
 use Rattle.ledger.specs.declared.Book.{Book}
 use Rattle.ledger.specs.Books.{book_holds}
 use Rattle.ledger.specs.Marks.{given_in}
 use Rattle.ledger.specs.Moves.{GivenMarks, Held}
-use Rattle.rooms.specs.Rooms.{is_given}
+use Rattle.rooms.specs.Rooms.{is_given, room_count}
 use Rattle.rooms.specs.Lent.{puts, Given, Blank}
 use Rattle.rooms.proofs.PutLaws.{puts_length, marks_in}
 use Rattle.clues.specs.Clues.{lists_code}
 use Rattle.clues.proofs.Fitting.{lists_fit}
-use Rattle.room_checks.specs.RoomChecks.{Finding}
 use Rattle.puzzle.specs.declared.Puzzle.{Puzzle}
 use Rattle.puzzle.specs.Puzzle.{grid_of, book_of, borders_of, given_of, clues_of, together, puzzle_code}
 
@@ -123,13 +122,9 @@ lists_given g given clues l z = record { limits = l; below = (lists_fit g given 
 pub held : (p : Puzzle) → Ready p → Held (borders_of p) (book_of p)
 held p r = record { few = border_count_le (grid_of p) r.limits; given = is_given (given_of p); holds = r.holds }
 
--- what an ask hands on
-pub ready_finding : (p : Puzzle) → Ready p → border_count (grid_of p) ≤ length (book_of p).states → (buf : List ℕ) → 9 * cells (grid_of p) ≤ length buf
-    → Finding (grid_of p) (given_of p) (book_of p).states (clues_of p) buf
-ready_finding p r states buf h =
-    record {
-      walls = lists_given (grid_of p) (given_of p) (clues_of p) r.limits r.lists;
-      states_long = states;
-      one_each = (lists_fit (grid_of p) (given_of p) (clues_of p) r.lists).one_each;
-      buffer_long = h;
-    }
+-- its given walls, and a clue for each of its rooms
+pub ready_walls : (p : Puzzle) → Ready p → Given (grid_of p) (given_of p)
+ready_walls p r = lists_given (grid_of p) (given_of p) (clues_of p) r.limits r.lists
+
+pub ready_clues : (p : Puzzle) → Ready p → length (clues_of p) ≡ room_count (grid_of p) (given_of p)
+ready_clues p r = (lists_fit (grid_of p) (given_of p) (clues_of p) r.lists).one_each

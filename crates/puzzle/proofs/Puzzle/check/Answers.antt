@@ -1,5 +1,5 @@
 -- `puzzle::Puzzle::check` meets its contract: a law of `Ready` for each answer. Assumes nothing.
-use mathlib.Core.Path.{◌≡◌, sym, ap, ◌∙◌}
+use mathlib.Core.Path.{◌≡◌, sym, ◌∙◌}
 use mathlib.Core.Bool.{true, false}
 use Rattle.grid.proofs.Geometry.{limits}
 use Rattle.clues.specs.Clues.{lists_code}
