@@ -197,7 +197,7 @@ impl Puzzle {
     }
 
     // The board as it stands, with its given walls and clues.
-    pub fn clued_board(&self) -> CluedBoard<'_>
+    pub fn clued_board(&self) -> CluedBoard<'_, '_>
         requires { puzzle_code self.now ≡ 0 }
         ensures borders { (result.borders.grid ≡ grid_of self.now) × (result.borders.states.now ≡ (book_of self.now).states) }
         ensures lists { (result.given.now ≡ given_of self.now) × (result.clues.now ≡ clues_of self.now) }
@@ -249,7 +249,7 @@ impl Puzzle {
 
 // The shape check, and then the counts of the clued rooms, on a board as it stands: what an ask finds. The rooms are found only where
 // the shape check is clear and a room has a clue.
-pub fn fault_of(board: CluedBoard<'_>, buffer: &mut [u16]) -> Option<Fault>
+pub fn fault_of(board: CluedBoard<'_, '_>, buffer: &mut [u16]) -> Option<Fault>
     requires { 9 * cells board.borders.grid ≤ length buffer.old }
     ensures value { result ≡ told (fault_of board.entry.borders.grid board.entry.given.now board.entry.clues.now board.entry.borders.states.now) }
     ensures buffer_after { buffer.new ≡ writes 0 (fault_of board.entry.borders.grid board.entry.given.now board.entry.clues.now board.entry.borders.states.now) buffer.old }

@@ -19,10 +19,11 @@ pub struct RoomFault {
     pub len: usize,
 }
 
-// A board as it stands, with its given walls and a clue for each of its rooms.
+// A board as it stands, with its given walls and a clue for each of its rooms. The borders have a lifetime of their own: a search writes them
+// between its asks.
 #[derive(Clone, Copy)]
-pub struct CluedBoard<'a> {
-    pub borders: Borders<'a>,
+pub struct CluedBoard<'b, 'a> {
+    pub borders: Borders<'b>,
     pub given: &'a [u16],
     pub clues: &'a [u16],
     ghost walls: { Given borders.grid given.now },
@@ -36,7 +37,7 @@ fn none_clued(clues: &[u16]) -> bool
     clues.iter().all(|&clue| clue == limits::NO_CLUE)
 }
 
-impl CluedBoard<'_> {
+impl CluedBoard<'_, '_> {
     ghost use Rattle.std.specs.Prelude.{◌*◌, ◌≤◌};
     ghost use Rattle.limits.specs.Limits.{most_cells};
     ghost use Rattle.grid.specs.Grid.{cells};
