@@ -1,7 +1,6 @@
 -- Two questions in their order, a decide by its entry, and an ask that is not refused. Assumes nothing.
 use Prim.Native.Nat.{ℕ, zero, suc, ◌*◌, ◌≤◌}
 use mathlib.Core.Path.{◌≡◌, refl}
-use mathlib.Core.Logic.{◌≢◌}
 use mathlib.Core.Bool.{Bool}
 use mathlib.Core.List.{List, [], ◌∷◌}
 use mathlib.Core.Option.{Option}
@@ -19,9 +18,6 @@ use Rattle.puzzle.specs.Puzzle.{grid_of, book_of, borders_of, puzzle_code, answe
 use Rattle.puzzle.proofs.Ready.{ready}
 
 -- the first of two numbers that refuses a call
-pub first_refuses : {code m : ℕ} (next : ℕ) → code ≡ m → code ≢ 0 → code ≡ first_code m next
-first_refuses {code} next q z = rw (← q, ne_eqb code 0 z)
-
 pub second_says : {code m r next : ℕ} → code ≡ m → code ≡ 0 → r ≡ next → r ≡ first_code m next
 second_says q z e = rw (← q, z, e)
 

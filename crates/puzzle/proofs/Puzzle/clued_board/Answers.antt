@@ -13,6 +13,6 @@ invariant_of-result c =
     let p = c.args.self.now in
     let r = ready p c.requires in
     record {
-      walls = rw (c.borders.ensures.grid, c.given.ensures) (ready_walls p r);
-      one_each = rw (c.borders.ensures.grid, c.given.ensures, c.clues.ensures) (ready_clues p r);
+      walls = ready_walls p r c.borders.ensures.grid c.given.ensures;
+      one_each = ready_clues p r c.borders.ensures.grid c.given.ensures c.clues.ensures;
     }
