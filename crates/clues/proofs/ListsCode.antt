@@ -1,11 +1,10 @@
 -- Questions 3, 7, 8 and 9 as the code puts them: a law for each answer; the sizes are those of the rooms. Assumes nothing.
 use Prim.Native.Nat.{ℕ, zero, suc, ◌≤◌, ◌<◌}
 use mathlib.Core.Path.{◌≡◌, refl, ap, ap₂, sym, ◌∙◌}
-use mathlib.Core.Logic.{◌≢◌}
 use mathlib.Core.Bool.{Bool, true, false}
 use mathlib.Core.List.{List, [], ◌∷◌}
 use native.Mathlib.Omega.{arith}
-use borrow.Author.Tests.{eq-eqb, ne_eqb, ltb-true}
+use borrow.Author.Tests.{eq-eqb, ltb-true}
 use lib.Dec.{eqb, ltb, leb}
 use lib.ListN.{length, get_or}
 use Rattle.limits.specs.Limits.{no_clue}
@@ -24,33 +23,30 @@ use Rattle.rooms.proofs.PutLaws.{sizes_there}
 use Rattle.rooms.proofs.RoomLaws.{rooms_few}
 use Rattle.clues.specs.Clues.{rises, fits_room, clues_fit, rooms_code, lists_code, clue_fits, all_fit}
 
--- A LAW FOR EACH ANSWER
-module _ (g : Grid) (given clues : List ℕ) where
-  pub not_there : all (λ e. ltb e (border_count g)) given ≡ false → 3 ≡ lists_code g given clues
-  unfolding lists_code
-  not_there a = rw a
+-- A LAW FOR EACH ANSWER, where the code tells whether each wall is below n
+module _ (g : Grid) (given clues : List ℕ) {n : ℕ} (q : n ≡ border_count g) {t : Bool} (k : t ≡ all (λ e. ltb e n) given) where
+  tested : all (λ e. ltb e (border_count g)) given ≡ t
+  tested = sym (k ∙ ap (λ x. all (λ e. ltb e x) given) q)
 
-  module _ (a : all (λ e. ltb e (border_count g)) given ≡ true) where
+  pub not_there : t ≡ false → 3 ≡ lists_code g given clues
+  unfolding lists_code
+  not_there a = rw (tested, a)
+
+  module _ (a : t ≡ true) where
     pub not_rising : rises given ≡ false → 7 ≡ lists_code g given clues
     unfolding lists_code
-    not_rising b = rw (a, b)
+    not_rising b = rw (tested, a, b)
 
     pub by_rooms : rises given ≡ true → rooms_code g given clues ≡ lists_code g given clues
     unfolding lists_code
-    by_rooms b = rw (a, b)
+    by_rooms b = rw (tested, a, b)
 
-  not_one_each : length clues ≢ room_count g given → 8 ≡ rooms_code g given clues
-  not_one_each c = rw (ne_eqb (length clues) (room_count g given) c)
+    pub walls_given : Limits g → Given g given
+    walls_given l = record { limits = l; below = λ e m. ltb-true e (border_count g) (all_true (λ x. ltb x (border_count g)) given (tested ∙ a) e m) }
 
+module _ (g : Grid) (given clues : List ℕ) where
   by_clues : length clues ≡ room_count g given → (t : Bool) → clues_fit g given clues ≡ t → pick t 0 9 ≡ rooms_code g given clues
   by_clues c t d = rw (eq-eqb (length clues) (room_count g given) c, d)
-
--- the test with the code's number of borders
-pub tested : {n m : ℕ} (l : List ℕ) {t u : Bool} → n ≡ m → t ≡ all (λ e. ltb e n) l → t ≡ u → all (λ e. ltb e m) l ≡ u
-tested l q k e = sym (sym e ∙ k ∙ ap (λ x. all (λ e. ltb e x) l) q)
-
-pub walls_given : (g : Grid) (given : List ℕ) → Limits g → all (λ e. ltb e (border_count g)) given ≡ true → Given g given
-walls_given g given l a = record { limits = l; below = λ e m. ltb-true e (border_count g) (all_true (λ x. ltb x (border_count g)) given a e m) }
 
 -- the element at a place does not depend on what stands for none
 pub other_default : (xs : List ℕ) (i a b : ℕ) → i < length xs → get_or xs i a ≡ get_or xs i b
@@ -78,9 +74,6 @@ module _ (g : Grid) (given ids sizes ids' sizes' : List ℕ) (lent : Places g id
 -- the answers of questions 8 and 9, once the rooms are counted
 module _ (g : Grid) (given clues : List ℕ) (w : Given g given) {ids sizes ids' sizes' : List ℕ} {count : ℕ} (l : Places g ids sizes)
     (o : Roomed g given ids sizes ids' sizes' count) where
-  pub other_count : length clues ≢ count → 8 ≡ rooms_code g given clues
-  other_count z = not_one_each g given clues (λ e. z (e ∙ sym o.count_is))
-
   module _ (e : length clues ≡ count) where
     counted : Roomed g given ids sizes ids' sizes' (length clues)
     counted = rw e o

@@ -12,7 +12,7 @@ ghost use Rattle.clues.specs.Clues.{rises, all_fit, rooms_code, lists_code};
 use answers::Refusal;
 use grid::Grid;
 
-// Question 3: each given wall is below n.
+// Question 3: each given wall is below n, which is how many borders there are.
 fn exist(given: &[u16], n: usize) -> bool
     ensures { result ≡ all (λ e. ltb e n) given.now }
 {

@@ -1,11 +1,11 @@
--- Questions 12 and 6: a law for each answer. Assumes nothing.
+-- Questions 12 and 6: what the division tells, and what their acceptance does. Assumes nothing.
 use Prim.Native.Nat.{ℕ, ◌*◌, ◌/◌, ◌≤◌, ◌<◌}
 use mathlib.Core.Path.{◌≡◌, refl}
 use mathlib.Core.Logic.{◌≢◌, ⊎_elim}
 use mathlib.Core.Bool.{Bool, true, false}
 use mathlib.Core.List.{List}
 use native.Mathlib.Omega.{arith}
-use native.Mathlib.Nat.{le-div_iff_mul-le, mul-zero}
+use native.Mathlib.Nat.{le-div_iff_mul-le}
 use borrow.Author.Tests.{le-leb, lt-leb, leb-true}
 use lib.Dec.{leb}
 use lib.ListN.{length}
@@ -14,30 +14,15 @@ use Rattle.lists.specs.Lists.{count}
 use Rattle.lists.proofs.Cases.{le_or_lt}
 use Rattle.enumerate.specs.Boards.{places_code}
 
-module _ (states : List ℕ) (cap places : ℕ) where
-  pub many_undecided : 24 < count 0 states → 12 ≡ places_code states cap places
-  many_undecided h = rw (lt-leb (count 0 states) 24 h)
-
-  module _ (few : count 0 states ≤ 24) where
-    enough : cap * length states ≤ places → 0 ≡ places_code states cap places
-    enough h = rw (le-leb (count 0 states) 24 few, le-leb (cap * length states) places h)
-
-    pub no_borders : length states ≡ 0 → 0 ≡ places_code states cap places
-    no_borders q = enough (rw (q, mul-zero cap) (omega arith))
-
-    module _ (some : length states ≢ 0) where
-      pub short_places : places / length states < cap → 6 ≡ places_code states cap places
-      short_places h =
-          rw (
-            le-leb (count 0 states) 24 few,
-            lt-leb (cap * length states) places (⊎_elim
-                (λ (l : cap * length states ≤ places). absurd (omega (arith, h, (le-div_iff_mul-le {k = length states} {x = cap} {y = places} (omega arith)).1 l)))
-                (λ (l : places < cap * length states). l)
-                (le_or_lt (cap * length states) places)),
-          )
-
-      pub long_places : cap ≤ places / length states → 0 ≡ places_code states cap places
-      long_places h = enough ((le-div_iff_mul-le {k = length states} {x = cap} {y = places} (omega arith)).0 h)
+pub short_places : (states : List ℕ) (cap places : ℕ) → count 0 states ≤ 24 → length states ≢ 0 → places / length states < cap → 6 ≡ places_code states cap places
+short_places states cap places few some h =
+    rw (
+      le-leb (count 0 states) 24 few,
+      lt-leb (cap * length states) places (⊎_elim
+          (λ (l : cap * length states ≤ places). absurd (omega (arith, h, (le-div_iff_mul-le {k = length states} {x = cap} {y = places} (omega arith)).1 l)))
+          (λ (l : places < cap * length states). l)
+          (le_or_lt (cap * length states) places)),
+    )
 
 -- where neither refuses, there are places enough
 pub enough_places : (states : List ℕ) (cap places : ℕ) → places_code states cap places ≡ 0 → cap * length states ≤ places

@@ -10,13 +10,14 @@ use borrow.Author.Tests.{eqb-true, ne_eqb}
 use lib.Dec.{eqb, ltb}
 use lib.ListN.{length, take, get_or, length-replicate}
 use lib.Seq.{sets, length-take-le, get_or-take}
-use Rattle.limits.specs.Limits.{most_borders, most_entries}
+use Rattle.limits.specs.Limits.{most_entries}
 use Rattle.lists.specs.Choice.{either}
 use Rattle.lists.specs.Lists.{In, gather}
 use Rattle.lists.proofs.Cases.{not_both}
 use Rattle.lists.proofs.ListLaws.{in_keep}
 use Rattle.grid.specs.declared.Grid.{Grid}
-use Rattle.grid.proofs.Geometry.{cells_le, border_count_le}
+use Rattle.grid.specs.Grid.{Limits, border_count}
+use Rattle.grid.proofs.Geometry.{cells_le}
 use Rattle.borders.specs.Border.{StatesOk}
 use Rattle.ledger.specs.Books.{names_in, state_at}
 use Rattle.ledger.proofs.Question.{Kept, holds_question}
@@ -28,11 +29,11 @@ use Rattle.clues.proofs.Fitting.{lists_fit}
 use Rattle.puzzle.specs.declared.Puzzle.{Puzzle}
 use Rattle.puzzle.specs.Puzzle.{grid_of, book_of, borders_of, given_of, clues_of, puzzle_code}
 use Rattle.puzzle.proofs.Basics.{states_length, states_at, states_are}
-use Rattle.puzzle.proofs.Ready.{Ready, lists_given}
-use Rattle.puzzle.proofs.Answers.{first_refuses, second_says}
+use Rattle.puzzle.proofs.Ready.{Ready, ready}
+use Rattle.puzzle.proofs.Answers.{second_says}
 use Rattle.enumerate.specs.Boards.{Boards}
 use Rattle.enumerate.specs.Boards.{Listed, Refused}
-use Rattle.enumerate.specs.declared.Tally.{Tally}
+use Rattle.enumerate.specs.declared.search.Tally.{Tally}
 use Rattle.enumerate.specs.Boards.{extensions, is_right, rights, states_in, rights_of, places_code, boards_code, listing, answered, boards_of}
 use Rattle.enumerate.specs.Search.{Written, written, Searching, searched, no_entries, Started}
 use Rattle.enumerate.proofs.Extensions.{in_extensions, over_long}
@@ -54,10 +55,10 @@ unfolding rights
 right_long g given clues s b m = over_long s b (in_extensions s b (in_keep (is_right g given clues) (extensions s) b m).0)
 
 module _ (g : Grid) (given clues s : List ℕ) (cap : ℕ) (boards : List ℕ) where
-  pub at_start : Started g given clues s cap boards → Searching g given clues s no_entries (nothing cap boards)
-  at_start a =
+  pub at_start : Limits g → Started g s cap boards → Searching g s no_entries (nothing cap boards)
+  at_start l a =
       record {
-        finding = record { walls = a.walls; states_long = omega (arith, a.each); one_each = a.one_each; buffer_long = omega (arith, entries_long, cells_le g a.walls.limits) };
+        list_long = omega (arith, entries_long, cells_le g l);
         each = a.each;
         ok = a.ok;
         fits = record { few = omega arith; long = a.long; met = λ q. absurd (not_both false q refl) };
@@ -67,11 +68,11 @@ module _ (g : Grid) (given clues s : List ℕ) (cap : ℕ) (boards : List ℕ) w
       ≡ written (record { cap = cap; count = length (take cap (rights g given clues s)); more = ltb cap (length (rights g given clues s)) }) (sets boards 0 (gather (λ b. b) (take cap (rights g given clues s))))
   whole = all_from (length s) cap cap 0 (sym (zero-add cap)) boards (rights g given clues s) (right_long g given clues s) ∙ rw (zero-add (length (take cap (rights g given clues s))), zero-mul (length s))
 
-  pub at_end : (x : Tally) (boards' : List ℕ) → written x boards' ≡ searched g given clues s (nothing cap boards)
-      → (Listed x.count x.more ≡ (listing (rights g given clues s) cap boards).answer) × (boards' ≡ (listing (rights g given clues s) cap boards).buffer)
-  at_end x boards' q =
+  pub at_end : (x : Tally) (boards' left : List ℕ) → left ≡ boards' → written x boards' ≡ searched g given clues s (nothing cap boards)
+      → (Listed x.count x.more ≡ (listing (rights g given clues s) cap boards).answer) × (left ≡ (listing (rights g given clues s) cap boards).buffer)
+  at_end x boards' left k q =
       let e = q ∙ whole in
-      (ap (λ (w : Written). Listed w.tally.count w.tally.more) e, ap (λ (w : Written). w.boards) e)
+      (ap (λ (w : Written). Listed w.tally.count w.tally.more) e, k ∙ ap (λ (w : Written). w.boards) e)
 
 -- AN ACCEPTED PUZZLE
 each_border : (p : Puzzle) → length (states_in p) ≡ borders_of p
@@ -97,30 +98,31 @@ module _ (p : Puzzle) (r : Ready p) where
       wall true q k = eqb-true (get_or (book_of p).states e 0) 2 k
       wall false q k = absurd (true≢false (sym q))
 
-  module _ (states_long : borders_of p ≤ length (book_of p).states) {n : ℕ} (m : n ≡ borders_of p) where
-    pub cut_fits : n ≤ length (book_of p).states
-    cut_fits = omega arith
+-- the states of the board that it hands out, cut off behind the last border
+module _ (p : Puzzle) (z : 0 ≡ puzzle_code p) (b : Borders) (q : (b.grid ≡ grid_of p) × (b.states.now ≡ (book_of p).states)) {n : ℕ} (k : n ≡ border_count b.grid) where
+  m : n ≡ borders_of p
+  m = k ∙ ap border_count q.0
 
-    pub cut_long : n ≡ length (take n (book_of p).states)
-    cut_long = sym (length-take-le n (book_of p).states cut_fits)
+  states_long : borders_of p ≤ length (book_of p).states
+  states_long = let f : Fits (grid_of p) (book_of p).states = rw (← q.0, ← q.1) b.fits in f.borders
 
-    pub cut_is : take n (book_of p).states ≡ states_in p
-    cut_is = states_are (borders_of p) (state_at (book_of p).states) (take n (book_of p).states) (sym cut_long ∙ m) (λ e l. get_or-take n (book_of p).states e 0 (omega arith))
+  pub cut_fits : n ≤ length (book_of p).states
+  cut_fits = omega (arith, m, states_long)
 
-    pub cut_started : (cap : ℕ) (buf : List ℕ) → cap * length (states_in p) ≤ length buf → Started (grid_of p) (given_of p) (clues_of p) (take n (book_of p).states) cap buf
-    cut_started cap buf long =
-        rw cut_is
-        (record {
-          walls = lists_given (grid_of p) (given_of p) (clues_of p) r.limits r.lists;
-          one_each = (lists_fit (grid_of p) (given_of p) (clues_of p) r.lists).one_each;
-          each = each_border p;
-          ok = states_good;
-          long = rw (each_border p) at long;
-        })
+  pub cut_long : n ≡ length (take n (book_of p).states)
+  cut_long = sym (length-take-le n (book_of p).states cut_fits)
 
--- what a puzzle's borders tell of its states
-pub told_long : (p : Puzzle) (b : Borders) → b.grid ≡ grid_of p → b.states.now ≡ (book_of p).states → borders_of p ≤ length (book_of p).states
-told_long p b q k = let f : Fits (grid_of p) (book_of p).states = rw (← q, ← k) b.fits in f.borders
+  pub cut_is : take n (book_of p).states ≡ states_in p
+  cut_is = states_are (borders_of p) (state_at (book_of p).states) (take n (book_of p).states) (sym cut_long ∙ m) (λ e l. get_or-take n (book_of p).states e 0 (omega (arith, m)))
+
+  pub cut_started : (cap : ℕ) (buf : List ℕ) → cap * length (states_in p) ≤ length buf → Started b.grid (take n (book_of p).states) cap buf
+  cut_started cap buf long =
+      rw (q.0, cut_is)
+      (record {
+        each = each_border p;
+        ok = states_good p (ready p (sym z));
+        long = rw (each_border p) at long;
+      })
 
 -- THE CALL
 refused_by : (code n : ℕ) (boards : List (List ℕ)) (cap : ℕ) (buf : List ℕ) → code ≡ n → n ≢ 0 → (Refused n ≡ (answered code boards cap buf).answer) × (buf ≡ (answered code boards cap buf).buffer)

@@ -21,7 +21,8 @@ use Rattle.puzzle.specs.Fault.{Found, fault_of}
 use Rattle.puzzle.specs.Puzzle.{told}
 use Rattle.demand_3.proofs.FaultLaws.{fault_listed, fault_again}
 use Rattle.enumerate.specs.Boards.{extensions, is_nothing, is_right, rights}
-use Rattle.enumerate.specs.Search.{first_undecided, Written, add, add_all, Searching, Trying, searched}
+use Rattle.enumerate.specs.declared.search.Search.{Search}
+use Rattle.enumerate.specs.Search.{first_undecided, Written, written_in, add, add_all, Searching, Trying, searched, Kept}
 use Rattle.enumerate.proofs.Undecided.{first_zero, one_less, none_undecided}
 use Rattle.enumerate.proofs.Extensions.{Over, in_extensions, over_stands, over_full, full_alone, split_first}
 use Rattle.enumerate.proofs.Writing.{all_append, fits_all, no_more}
@@ -64,7 +65,7 @@ told_fault : (f : Option Found) → is_some (told f) ≡ true → (x : Found) ×
 told_fault none q = absurd (true≢false (sym q))
 told_fault (some x) q = (x, refl)
 
-module _ {g : Grid} {given clues s list : List ℕ} {w : Written} (a : Searching g given clues s list w) where
+module _ {g : Grid} (given clues : List ℕ) {s list : List ℕ} {w : Written} (a : Searching g s list w) where
   pub cap_met : w.tally.more ≡ true → w ≡ searched g given clues s w
   cap_met q = sym (no_more w (rights g given clues s) (omega (arith, a.fits.met q)) q)
 
@@ -78,24 +79,17 @@ module _ {g : Grid} {given clues s list : List ℕ} {w : Written} (a : Searching
   unfolding add_all
   board_kept q p = sym (ap (add_all w) (alone g given clues s (told_clear (fault_of g given clues s) q) (none_undecided s p)))
 
+-- TRYING ITS VALUES: what the calls are given
+module _ {g : Grid} {s list : List ℕ} {w : Written} (a : Searching g s list w) where
   -- the same board with another list, of the same length
-  pub other_list : (list' : List ℕ) → length list' ≡ length list → Searching g given clues s list' w
-  other_list list' q =
-      let f = a.finding in
-      record {
-        finding = record { walls = f.walls; states_long = f.states_long; one_each = f.one_each; buffer_long = omega (arith, f.buffer_long) };
-        each = a.each;
-        ok = a.ok;
-        fits = a.fits;
-      }
+  pub other_list : (list' : List ℕ) → length list' ≡ length list → Searching g s list' w
+  other_list list' q = record { list_long = omega (arith, q, a.list_long); each = a.each; ok = a.ok; fits = a.fits }
 
-  -- TRYING ITS VALUES
-  -- what the calls are given: the border decided, and what is written by then
-  pub decided : (e k : ℕ) → k ≤ 2 → Searching g given clues (set s e k) list w
+  -- the border decided
+  pub decided : (e k : ℕ) → k ≤ 2 → Searching g (set s e k) list w
   decided e k l =
-      let f = a.finding in
       record {
-        finding = record { walls = f.walls; states_long = rw (length-set s e k) f.states_long; one_each = f.one_each; buffer_long = f.buffer_long };
+        list_long = a.list_long;
         each = length-set s e k ∙ a.each;
         ok = λ i h.
             ⊎_elim
@@ -105,14 +99,17 @@ module _ {g : Grid} {given clues s list : List ℕ} {w : Written} (a : Searching
         fits = a.fits;
       }
 
-  written_on : (w' : Written) (t : List ℕ) → w' ≡ searched g given clues t w → Searching g given clues s list w'
-  written_on w' t q = record { finding = a.finding; each = a.each; ok = a.ok; fits = rw q (fits_all (border_count g) w (rights g given clues t) a.fits) }
+  -- what is written by then
+  written_on : (given clues : List ℕ) (w' : Written) (t : List ℕ) → w' ≡ searched g given clues t w → Searching g s list w'
+  written_on given clues w' t q =
+      record { list_long = a.list_long; each = a.each; ok = a.ok; fits = rw q (fits_all (border_count g) w (rights g given clues t) a.fits) }
 
--- what the second call is given
-pub second : {g : Grid} {given clues s list : List ℕ} {w : Written} → Searching g given clues s list w → (e : ℕ) (s₁ list₁ : List ℕ) (w₁ : Written) → s₁ ≡ set s e 1
-    → length list₁ ≡ length list → w₁ ≡ searched g given clues (set s e 1) w → Searching g given clues (set s₁ e 2) list₁ w₁
-second {g} {given} {clues} {s} {list} {w} a e s₁ list₁ w₁ q l p =
-    rw q (decided (other_list (written_on (decided a e 1 (omega arith)) w₁ (set s e 1) p) list₁ l) e 2 (omega arith))
+-- the second call, by a search that a step went by
+pub second : (x y : Search) {s : List ℕ} → Searching x.rules.grid s x.list.now (written_in x) → (e : ℕ) (s₁ : List ℕ) → s₁ ≡ set s e 1 → Kept x y
+    → written_in y ≡ searched x.rules.grid x.rules.given.now x.rules.clues.now (set s e 1) (written_in x) → Searching y.rules.grid (set s₁ e 2) y.list.now (written_in y)
+second x y {s} a e s₁ q k p =
+    rw (k.rules, q)
+    (decided (other_list (written_on (decided a e 1 (omega arith)) x.rules.given.now x.rules.clues.now (written_in y) (set s e 1) p) y.list.now k.list_long) e 2 (omega arith))
 
 -- after both values the border is undecided again, and all is written
 module _ {s : List ℕ} {e : ℕ} (t : Trying e s) where
@@ -129,7 +126,13 @@ module _ {s : List ℕ} {e : ℕ} (t : Trying e s) where
   pub undone : (s₁ s₂ : List ℕ) → s₁ ≡ set s e 1 → s₂ ≡ set s₁ e 2 → set s₂ e 0 ≡ s
   undone s₁ s₂ q₁ q₂ = rw (q₂, q₁, set-set s e 1 2, set-set s e 2 0) (ap (set s e) (sym undecided) ∙ set-get_or s e 0)
 
-  pub both_tried : (g : Grid) (given clues : List ℕ) (w w₁ w₂ : Written) (s₁ : List ℕ) → s₁ ≡ set s e 1 → w₁ ≡ searched g given clues (set s e 1) w
-      → w₂ ≡ searched g given clues (set s₁ e 2) w₁ → w₂ ≡ searched g given clues s w
-  both_tried g given clues w w₁ w₂ s₁ q p₁ p₂ =
-      p₂ ∙ (rw (q, set-set s e 1 2, p₁) (sym (all_append w (rights g given clues (set s e 1)) (rights g given clues (set s e 2))))) ∙ ap (add_all w) (sym (divided g given clues s e t))
+  pub both_tried : (x y : Search) (s₁ : List ℕ) (w : Written) → s₁ ≡ set s e 1 → Kept x y
+      → written_in y ≡ searched x.rules.grid x.rules.given.now x.rules.clues.now (set s e 1) (written_in x)
+      → w ≡ searched y.rules.grid y.rules.given.now y.rules.clues.now (set s₁ e 2) (written_in y)
+      → w ≡ searched x.rules.grid x.rules.given.now x.rules.clues.now s (written_in x)
+  both_tried x y s₁ w q k p₁ p₂ =
+      let r = x.rules in
+      let right : List ℕ → List (List ℕ) = rights r.grid r.given.now r.clues.now in
+      let next : w ≡ searched r.grid r.given.now r.clues.now (set s₁ e 2) (written_in y) = rw k.rules at p₂ in
+      next ∙ (rw (q, set-set s e 1 2, p₁) (sym (all_append (written_in x) (right (set s e 1)) (right (set s e 2)))))
+      ∙ ap (add_all (written_in x)) (sym (divided r.grid r.given.now r.clues.now s e t))

@@ -4,12 +4,10 @@ use Rattle.std.proofs.lemmas.List.Edits.{sets}
 use Rattle.limits.specs.Limits.{most_entries}
 use Rattle.lists.specs.Choice.{pick}
 use Rattle.grid.specs.declared.Grid.{Grid}
-use Rattle.grid.specs.Grid.{border_count}
+use Rattle.grid.specs.Grid.{cells, border_count}
 use Rattle.borders.specs.Border.{StatesOk}
-use Rattle.rooms.specs.Rooms.{room_count}
-use Rattle.rooms.specs.Lent.{Given}
-use Rattle.room_checks.specs.RoomChecks.{Finding}
-use Rattle.enumerate.specs.declared.Tally.{Tally}
+use Rattle.enumerate.specs.declared.search.Tally.{Tally}
+use Rattle.enumerate.specs.declared.search.Search.{Search}
 use Rattle.enumerate.specs.Boards.{rights}
 
 -- the first undecided border, or how many borders there are
@@ -24,6 +22,9 @@ pub record Written : Type 0 where
 
 abbrev pub written : Tally → List ℕ → Written
 written t boards = record { tally = t; boards = boards }
+
+abbrev pub written_in : Search → Written
+written_in s = written s.tally s.boards.now
 
 -- a board more: behind those that are written; or, where the cap is met, there is one more
 unfoldable pub add : Written → List ℕ → Written
@@ -45,8 +46,8 @@ pub record Fits (n : ℕ) (w : Written) : Type 0 where
   pub met : w.tally.more ≡ true → w.tally.count ≡ w.tally.cap
 
 -- a board's borders as they stand, a buffer for the lists of its asks, and places for the boards
-pub record Searching (g : Grid) (given clues states list : List ℕ) (w : Written) : Type 0 where
-  pub finding : Finding g given states clues list
+pub record Searching (g : Grid) (states list : List ℕ) (w : Written) : Type 0 where
+  pub list_long : 9 * cells g ≤ length list
   pub each : length states ≡ border_count g
   pub ok : StatesOk g states
   pub fits : Fits (border_count g) w
@@ -60,14 +61,19 @@ pub record Trying (border : ℕ) (states : List ℕ) : Type 0 where
 abbrev pub searched : Grid → List ℕ → List ℕ → List ℕ → Written → Written
 searched g given clues states w = add_all w (rights g given clues states)
 
+-- a step goes by the same rules, and writes to the same slices; the lists of its asks have as many places as before
+pub record Kept (before after : Search) : Type 0 where
+  pub rules : after.rules ≡ before.rules
+  pub list : after.list.ghost_name ≡ before.list.ghost_name
+  pub list_long : length after.list.now ≡ length before.list.now
+  pub boards : after.boards.ghost_name ≡ before.boards.ghost_name
+
 -- the array of the asks' lists, with nothing written
 unfoldable pub no_entries : List ℕ
 no_entries = replicate most_entries 0
 
 -- a board's borders as they stand, and places for as many boards as the cap
-pub record Started (g : Grid) (given clues states : List ℕ) (cap : ℕ) (boards : List ℕ) : Type 0 where
-  pub walls : Given g given
-  pub one_each : length clues ≡ room_count g given
+pub record Started (g : Grid) (states : List ℕ) (cap : ℕ) (boards : List ℕ) : Type 0 where
   pub each : length states ≡ border_count g
   pub ok : StatesOk g states
   pub long : cap * border_count g ≤ length boards

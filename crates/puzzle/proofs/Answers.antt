@@ -1,30 +1,23 @@
 -- Two questions in their order, a decide by its entry, and an ask that is not refused. Assumes nothing.
-use Prim.Native.Nat.{ℕ, zero, suc, ◌*◌, ◌≤◌, ◌<◌}
+use Prim.Native.Nat.{ℕ, zero, suc, ◌*◌, ◌≤◌}
 use mathlib.Core.Path.{◌≡◌, refl}
-use mathlib.Core.Logic.{◌≢◌}
 use mathlib.Core.Bool.{Bool}
 use mathlib.Core.List.{List, [], ◌∷◌}
 use mathlib.Core.Option.{Option}
 use native.Mathlib.Omega.{arith}
-use borrow.Author.Tests.{ne_eqb, le-leb, lt-leb}
+use borrow.Author.Tests.{ne_eqb, le-leb}
 use lib.ListN.{length}
 use Rattle.grid.specs.Grid.{cells}
 use Rattle.grid.proofs.Geometry.{border_count_le}
-use Rattle.ledger.specs.declared.Book.{Book}
 use Rattle.ledger.specs.Ledger.{decisions, first_code}
 use Rattle.ledger.specs.Marks.{Entry}
 use Rattle.ledger.proofs.Codes.{as_decide}
 use Rattle.puzzle.specs.declared.Puzzle.{Puzzle}
-use Rattle.puzzle.specs.Answer.{Answer}
-use Rattle.puzzle.specs.Answer.{Refused}
 use Rattle.puzzle.specs.Fault.{Found}
-use Rattle.puzzle.specs.Puzzle.{answer, grid_of, book_of, borders_of, puzzle_code, onto, answered, stroke_of, decide_of, ask_code, Asked, says, writes, fault_in, ask_of}
+use Rattle.puzzle.specs.Puzzle.{grid_of, book_of, borders_of, puzzle_code, answered, stroke_of, decide_of, ask_code, Asked, says, writes, fault_in, ask_of}
 use Rattle.puzzle.proofs.Ready.{ready}
 
 -- the first of two numbers that refuses a call
-pub first_refuses : {code m : ℕ} (next : ℕ) → code ≡ m → code ≢ 0 → code ≡ first_code m next
-first_refuses {code} next q z = rw (← q, ne_eqb code 0 z)
-
 pub second_says : {code m r next : ℕ} → code ≡ m → code ≡ 0 → r ≡ next → r ≡ first_code m next
 second_says q z e = rw (← q, z, e)
 

@@ -4,12 +4,11 @@ use mathlib.Core.Path.{◌≡◌, refl, ap, sym, ◌∙◌}
 use mathlib.Core.Bool.{Bool, true, false}
 use mathlib.Core.List.{List, ◌++◌}
 use native.Mathlib.Omega.{arith}
-use borrow.Author.Tests.{ne_eqb, eqb-true}
+use borrow.Author.Tests.{eqb-true}
 use lib.Dec.{eqb}
 use lib.ListN.{length, drop, length-replicate}
 use lib.Seq.{sets}
 use Rattle.lists.specs.Choice.{pick}
-use mathlib.Core.Logic.{◌≢◌}
 use Rattle.lists.proofs.SetsLaws.{front, front_written}
 use Rattle.grid.specs.declared.Grid.{Grid}
 use Rattle.grid.specs.Grid.{grid, sizes_ok, Limits, border_count}
@@ -19,7 +18,6 @@ use Rattle.ledger.specs.Books.{zeros, book}
 use Rattle.ledger.proofs.BookLaws.{zeros_length}
 use Rattle.board.specs.declared.Board.{Board}
 use Rattle.puzzle.specs.declared.Puzzle.{Puzzle}
-use Rattle.puzzle.specs.declared.Made.{Made}
 use Rattle.rooms.specs.Rooms.{is_given}
 use Rattle.puzzle.specs.Puzzle.{no_clues, fresh_board, fresh_puzzle, zero_puzzle, answer, make_code, make_of, given_of, clues_of, states_of, fresh_state}
 use Rattle.rooms.specs.Lent.{unmarked, puts, Below}

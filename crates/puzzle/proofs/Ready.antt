@@ -1,5 +1,5 @@
 -- Questions 1 and 2 of a puzzle: a law for each answer, and what an accepted puzzle is like. Assumes nothing.
-use Prim.Native.Nat.{ℕ, ◌*◌, ◌≤◌, ◌<◌}
+use Prim.Native.Nat.{ℕ, ◌≤◌, ◌<◌}
 use mathlib.Core.Path.{◌≡◌, refl, ap, sym, ◌∙◌, fun_ext}
 use mathlib.Core.Logic.{◌≢◌}
 use mathlib.Core.Bool.{Bool, true, false, true≢false}
@@ -16,29 +16,39 @@ use Rattle.limits.specs.Limits.{most_borders, most_cells}
 use Rattle.lists.specs.Choice.{pick}
 use Rattle.lists.proofs.ChoiceLaws.{both_true}
 use Rattle.grid.specs.declared.Grid.{Grid}
-use Rattle.grid.specs.Grid.{sizes_ok, Limits, cells, border_count}
+use Rattle.grid.specs.Grid.{sizes_ok, Limits, border_count}
 use Rattle.grid.proofs.Geometry.{limits, border_count_le}
 use Rattle.ledger.specs.declared.Book.{Book}
 use Rattle.ledger.specs.Books.{book_holds}
 use Rattle.ledger.specs.Marks.{given_in}
 use Rattle.ledger.specs.Moves.{GivenMarks, Held}
-use Rattle.rooms.specs.Rooms.{is_given}
+use Rattle.rooms.specs.Rooms.{is_given, room_count}
 use Rattle.rooms.specs.Lent.{puts, Given, Blank}
 use Rattle.rooms.proofs.PutLaws.{puts_length, marks_in}
 use Rattle.clues.specs.Clues.{lists_code}
 use Rattle.clues.proofs.Fitting.{lists_fit}
-use Rattle.room_checks.specs.RoomChecks.{Finding}
 use Rattle.puzzle.specs.declared.Puzzle.{Puzzle}
 use Rattle.puzzle.specs.Puzzle.{grid_of, book_of, borders_of, given_of, clues_of, together, puzzle_code}
 
--- a check of the lists, by whether it is an error
-pub refused_lists : (r : Result (Unit {0}) Refusal) → is_err r ≡ true → code_of r ≢ 0
-refused_lists (Ok x) q = absurd (true≢false (sym q))
-refused_lists (Err e) q = λ z. omega (arith, some_number e, z)
+-- a check of the lists as they are handed out, by whether it is an error
+refused : (r : Result (Unit {0}) Refusal) → is_err r ≡ true → code_of r ≢ 0
+refused (Ok x) q = absurd (true≢false (sym q))
+refused (Err e) q = λ z. omega (arith, some_number e, z)
 
-pub passed_lists : (r : Result (Unit {0}) Refusal) → is_err r ≡ false → code_of r ≡ 0
-passed_lists (Ok x) q = refl
-passed_lists (Err e) q = absurd (true≢false q)
+passed : (r : Result (Unit {0}) Refusal) → is_err r ≡ false → code_of r ≡ 0
+passed (Ok x) q = refl
+passed (Err e) q = absurd (true≢false q)
+
+module _ (p : Puzzle) {walls counts : List ℕ} (w : walls ≡ given_of p) (k : counts ≡ clues_of p) (r : Result (Unit {0}) Refusal)
+    (e : code_of r ≡ lists_code (grid_of p) walls counts) {t : Bool} (q : t ≡ is_err r) where
+  code : code_of r ≡ lists_code (grid_of p) (given_of p) (clues_of p)
+  code = rw (← w, ← k) e
+
+  pub refused_lists : t ≡ true → lists_code (grid_of p) (given_of p) (clues_of p) ≢ 0
+  refused_lists o z = refused r (sym q ∙ o) (code ∙ z)
+
+  pub passed_lists : t ≡ false → lists_code (grid_of p) (given_of p) (clues_of p) ≡ 0
+  passed_lists o = sym code ∙ passed r (sym q ∙ o)
 
 -- a puzzle that questions 1 and 2 accept
 pub record Ready (p : Puzzle) : Type 0 where
@@ -123,13 +133,10 @@ lists_given g given clues l z = record { limits = l; below = (lists_fit g given 
 pub held : (p : Puzzle) → Ready p → Held (borders_of p) (book_of p)
 held p r = record { few = border_count_le (grid_of p) r.limits; given = is_given (given_of p); holds = r.holds }
 
--- what an ask hands on
-pub ready_finding : (p : Puzzle) → Ready p → border_count (grid_of p) ≤ length (book_of p).states → (buf : List ℕ) → 9 * cells (grid_of p) ≤ length buf
-    → Finding (grid_of p) (given_of p) (book_of p).states (clues_of p) buf
-ready_finding p r states buf h =
-    record {
-      walls = lists_given (grid_of p) (given_of p) (clues_of p) r.limits r.lists;
-      states_long = states;
-      one_each = (lists_fit (grid_of p) (given_of p) (clues_of p) r.lists).one_each;
-      buffer_long = h;
-    }
+-- its given walls, and a clue for each of its rooms, as they are handed out
+module _ (p : Puzzle) (r : Ready p) {g : Grid} {walls : List ℕ} (q : g ≡ grid_of p) (w : walls ≡ given_of p) where
+  pub ready_walls : Given g walls
+  ready_walls = rw (q, w) (lists_given (grid_of p) (given_of p) (clues_of p) r.limits r.lists)
+
+  pub ready_clues : {counts : List ℕ} → counts ≡ clues_of p → length counts ≡ room_count g walls
+  ready_clues k = rw (q, w, k) (lists_fit (grid_of p) (given_of p) (clues_of p) r.lists).one_each

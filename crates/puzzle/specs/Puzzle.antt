@@ -13,7 +13,7 @@ use Rattle.grid.specs.Grid.{grid, sizes_ok, cells, border_count}
 use Rattle.limits.specs.Limits.{most_borders, most_cells}
 use Rattle.ledger.specs.declared.Book.{Book}
 use Rattle.ledger.specs.Ledger.{Decision, single, stroke_code, undo_code, first_code}
-use Rattle.ledger.specs.Books.{zeros, book, fresh_book, state_at, book_holds, placed, taken}
+use Rattle.ledger.specs.Books.{zeros, fresh_book, state_at, book_holds, placed, taken}
 use Rattle.board.specs.declared.Board.{Board}
 use Rattle.puzzle.specs.declared.Puzzle.{Puzzle}
 use Rattle.puzzle.specs.declared.Made.{Made}

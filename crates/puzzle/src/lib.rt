@@ -1,13 +1,13 @@
 // The puzzle: a board with given walls and a clue for each room, which joins the shape check to a count for each clued room.
 #![tactic(auto)]
 
-ghost use Rattle.std.specs.Prelude.{◌≡◌, ◌≤◌, length};
+ghost use Rattle.std.specs.Prelude.{◌≡◌, ◌*◌, ◌≤◌, length};
 ghost use Rattle.limits.specs.Limits.{most_borders, most_cells};
 ghost use Rattle.ledger.specs.Ledger.{decisions};
 ghost use Rattle.ledger.specs.Books.{book_holds};
+ghost use Rattle.grid.specs.Grid.{cells};
 ghost use Rattle.rooms.specs.Rooms.{is_given};
 ghost use Rattle.rooms.specs.Lent.{Below, Given, Blank};
-ghost use Rattle.room_checks.specs.RoomChecks.{Finding};
 ghost use Rattle.answers.specs.Refusals.{code_of};
 ghost use Rattle.puzzle.specs.Fault.{fault_of};
 ghost use Rattle.puzzle.specs.Puzzle.{fresh_puzzle, zero_puzzle, answer, made, make_of, puzzle_code, grid_of, given_of, clues_of, borders_of, book_of, stroke_of, decide_of, undo_of, told, answer_in, writes, ask_of};
@@ -17,6 +17,7 @@ use board::Board;
 use borders::Borders;
 use grid::Grid;
 use ledger::Book;
+use room_checks::CluedBoard;
 
 // The board has the given walls as Wall; its ledger names none of them. The first `given_len` places of `given` are the given walls,
 // the first `clues_len` of `clues` the clues.
@@ -195,6 +196,19 @@ impl Puzzle {
         }
     }
 
+    // The board as it stands, with its given walls and clues.
+    pub fn clued_board(&self) -> CluedBoard<'_, '_>
+        requires { puzzle_code self.now ≡ 0 }
+        ensures borders { (result.borders.grid ≡ grid_of self.now) × (result.borders.states.now ≡ (book_of self.now).states) }
+        ensures lists { (result.given.now ≡ given_of self.now) × (result.clues.now ≡ clues_of self.now) }
+    {
+        CluedBoard {
+            borders: self.borders(),
+            given: self.given(),
+            clues: self.clues(),
+        }
+    }
+
     // Decides the borders of a stroke, all or none: a refusal leaves the puzzle as it was.
     pub fn stroke(&mut self, entries: &[u16]) -> Result<(), Refusal>
         ensures { answer (code_of result) self.new ≡ stroke_of self.old (decisions entries.now) }
@@ -228,25 +242,25 @@ impl Puzzle {
         if buffer.len() < 9 * self.board.grid.cell_count() {
             return Err(Refusal::ShortBuffer);
         }
-        let found = fault_of(self.borders(), self.given(), self.clues(), buffer);
+        let found = fault_of(self.clued_board(), buffer);
         Ok(found)
     }
 }
 
-// The shape check, and then the counts of the clued rooms, on a board whose borders stand so: what an ask finds. The rooms are found
-// only where the shape check is clear and a room has a clue.
-pub fn fault_of(b: Borders<'_>, given: &[u16], clues: &[u16], buffer: &mut [u16]) -> Option<Fault>
-    requires { Finding b.grid given.now b.states.now clues.now buffer.old }
-    ensures value { result ≡ told (fault_of b.entry.grid given.now clues.now b.entry.states.now) }
-    ensures buffer_after { buffer.new ≡ writes 0 (fault_of b.entry.grid given.now clues.now b.entry.states.now) buffer.old }
+// The shape check, and then the counts of the clued rooms, on a board as it stands: what an ask finds. The rooms are found only where
+// the shape check is clear and a room has a clue.
+pub fn fault_of(board: CluedBoard<'_, '_>, buffer: &mut [u16]) -> Option<Fault>
+    requires { 9 * cells board.borders.grid ≤ length buffer.old }
+    ensures value { result ≡ told (fault_of board.entry.borders.grid board.entry.given.now board.entry.clues.now board.entry.borders.states.now) }
+    ensures buffer_after { buffer.new ≡ writes 0 (fault_of board.entry.borders.grid board.entry.given.now board.entry.clues.now board.entry.borders.states.now) buffer.old }
 {
-    if let Some(len) = shape_check::shape_fault(b, buffer) {
+    if let Some(len) = shape_check::shape_fault(board.borders, buffer) {
         return Some(Fault {
             check: Check::Shape,
             len,
         });
     }
-    let fault = room_checks::count_rooms(b, given, clues, buffer)?;
+    let fault = board.count_rooms(buffer)?;
     Some(Fault {
         check: Check::Room(fault.room),
         len: fault.len,

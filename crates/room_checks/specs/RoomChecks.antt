@@ -1,5 +1,5 @@
 -- The counts of the clued rooms, in their order: what is found first, answered and left in the buffer; what the functions ask and promise. Assumes nothing.
-use Rattle.std.specs.Prelude.{ℕ, ◌*◌, ◌≤◌, ◌<◌, ◌≡◌, Bool, List, eqb, length, get_or}
+use Rattle.std.specs.Prelude.{ℕ, ◌<◌, ◌≡◌, Bool, List, eqb, length, get_or}
 use Rattle.std.specs.Prelude as std
 use Rattle.std.specs.Prelude.{Some, None}
 use Rattle.std.proofs.Math.Option.{Option, none, some}
@@ -8,11 +8,9 @@ use Rattle.limits.specs.Limits.{no_clue}
 use Rattle.lists.specs.Choice.{pick}
 use Rattle.lists.specs.Lists.{range, all, first}
 use Rattle.grid.specs.declared.Grid.{Grid}
-use Rattle.grid.specs.Grid.{cells, border_count}
 use Rattle.borders.specs.Border.{state_of}
-use Rattle.rooms.specs.Rooms.{is_given, room_count, room_cells}
+use Rattle.rooms.specs.Rooms.{is_given, room_cells}
 use Rattle.rooms.specs.RoomGraph.{room_entries, room_list}
-use Rattle.rooms.specs.Lent.{Given}
 use Rattle.room_checks.specs.declared.in_turn.Failing.{Failing}
 use Rattle.room_checks.specs.declared.RoomFault.{RoomFault}
 
@@ -65,10 +63,3 @@ Among n (Some f) = f.room < n
 pub record Checks (g : Grid) (given : ℕ → Bool) (cs : ℕ → List ℕ) (clues : List ℕ) (s : ℕ → ℕ) (r : std.Option Failing) : Type 0 where
   pub told : found_at g given cs s r ≡ rooms_fault g given cs clues s
   pub among : Among (length clues) r
-
--- given walls, states, a clue for each room, and a buffer that is long enough for an ask
-pub record Finding (g : Grid) (given states clues buffer : List ℕ) : Type 0 where
-  pub walls : Given g given
-  pub states_long : border_count g ≤ length states
-  pub one_each : length clues ≡ room_count g given
-  pub buffer_long : 9 * cells g ≤ length buffer

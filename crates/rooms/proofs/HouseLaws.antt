@@ -24,7 +24,7 @@ use Rattle.rooms.specs.RoomGraph.{is_in, in_room, place, border_of}
 use Rattle.rooms.specs.Lent.{nowhere, numbered, marked_in, Below, Housed, edge_of}
 use Rattle.rooms.proofs.Places.{once}
 use Rattle.rooms.proofs.RoomLaws.{is_in_lem}
-use Rattle.rooms.proofs.NumberLaws.{numbered_length, nowhere_length, vertex_marked, vertex_is}
+use Rattle.rooms.proofs.NumberLaws.{vertex_marked, vertex_is}
 use Rattle.rooms.proofs.EdgeLaws.{edge_told, none_told}
 use Rattle.rooms.proofs.EdgesLaws.{way_of, spot_at}
 
@@ -67,9 +67,6 @@ module _ (g : Grid) (marks states cs : List ℕ) (w : Housed g marks states cs) 
 
   abbrev verts : List ℕ
   verts = numbered cs 1 nowhere
-
-  pub vertex_long : length (numbered cs 1 nowhere) ≡ most_cells
-  vertex_long = numbered_length cs 1 nowhere ∙ nowhere_length
 
   room_same : (c : ℕ) (d : Direction) → in_room g (marked_in marks) (marked_in verts) c d ≡ in_room g (marked_in marks) (is_in cs) c d
   unfolding in_room

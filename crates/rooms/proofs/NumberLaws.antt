@@ -28,11 +28,6 @@ pub number_end : (cs : List ℕ) (i k : ℕ) (xs : List ℕ) → length cs ≤ i
 unfolding numbered
 number_end cs i k xs h = rw (drop_of_length-le cs {i = i} h)
 
-pub numbered_length : (cs : List ℕ) (k : ℕ) (xs : List ℕ) → length (numbered cs k xs) ≡ length xs
-unfolding numbered
-numbered_length [] k xs = refl
-numbered_length (c ∷ cs) k xs = numbered_length cs (suc k) (set xs c k) ∙ simp length-set
-
 -- where no cell stands twice, each has its place
 pub numbered_at : (cs : List ℕ) (k : ℕ) (xs : List ℕ) → ((c : ℕ) → count c cs ≤ 1) → ((c : ℕ) → In c cs → c < length xs) → (c : ℕ)
     → get_or (numbered cs k xs) c 0 ≡ pick (is_in cs c) (k + place cs c) (get_or xs c 0)

@@ -9,7 +9,7 @@ use native.Mathlib.Numerals.{add-one}
 use borrow.Author.Tests.{eq-eqb, ne_eqb}
 use lib.Dec.{eqb}
 use lib.ListN.{length, get_or, take, drop, set, replicate, length-set, drop_of_length-le, length-replicate, get_or-replicate, get_or-eq_default}
-use lib.Seq.{get_or-set_same, get_or-set_other, drop-cons, sets}
+use lib.Seq.{get_or-set_same, get_or-set_other, drop-cons, sets, length-take-le}
 use Rattle.limits.specs.Limits.{most_borders}
 use Rattle.lists.specs.Choice.{either, pick}
 use Rattle.lists.specs.Lists.{In, any}
@@ -21,9 +21,9 @@ use Rattle.grid.proofs.Geometry.{border_count_le}
 use Rattle.parts.specs.Parts.{parts, roots, begun_in}
 use Rattle.groups.specs.Groups.{passes, edges_over, group_ids, group_count}
 use Rattle.groups.specs.Turn.{in_turn, starts_of, Keys, Sized}
-use Rattle.groups.specs.Lent.{Fits, Lent, Grouped, Counted, InTurn}
-use Rattle.groups.proofs.Lending.{sizes_fit, turn_asks, grouped}
-use Rattle.groups.proofs.Theorems.{made, made_ids, made_ids_fit, made_starts_fit}
+use Rattle.groups.specs.Lent.{Lent, Grouped, Counted, InTurn}
+use Rattle.groups.proofs.Lending.{sizes_fit, turn_asks, grouped, keys_front, sized_front, starts_front, turn_front}
+use Rattle.groups.proofs.Theorems.{made, made_ids}
 use Rattle.rooms.specs.Rooms.{is_given, room_ids, room_count}
 use Rattle.rooms.specs.Lent.{unmarked, puts, Below, Given, Blank, Places, Roomed}
 
@@ -110,9 +110,6 @@ module _ (g : Grid) (given : List ℕ) (w : Given g given) where
     pub marks_in : (v e : ℕ) → get_or (puts given v xs) e 0 ≡ pick (is_given given e) v 0
     marks_in v e = puts_at given v xs walls_in e ∙ ap (pick (is_given given e) v) (b.zeros e)
 
-    pub marks_fit : (v : ℕ) → Fits g (puts given v xs)
-    marks_fit v = record { limits = w.limits; borders = omega (arith, puts_length given v xs, b.long) }
-
     -- the rooms (SPEC 1.7) are the potential units of a board with the given walls alone
     abbrev passing : ℕ → Bool
     passing e = passes true (get_or (puts given 2 xs) e 0)
@@ -139,9 +136,6 @@ module _ (g : Grid) (given : List ℕ) (w : Given g given) where
     pub roomed : {ids sizes ids' sizes' : List ℕ} {count : ℕ} → Counted g (puts given 2 xs) true ids sizes ids' sizes' count → Roomed g given ids sizes ids' sizes' count
     roomed o = record { count_is = o.count_is ∙ count_same; ids_are = o.ids_are ∙ cc ids_same; sizes_are = o.sizes_are ∙ cc (ids_same, count_same) }
 
-  pub walls_fit : Below (length unmarked) given
-  walls_fit = walls_in (unmarked_blank g w.limits)
-
   pub marks_at : (v e : ℕ) → get_or (puts given v unmarked) e 0 ≡ pick (is_given given e) v 0
   marks_at = marks_in (unmarked_blank g w.limits)
 
@@ -155,24 +149,28 @@ module _ (g : Grid) (given : List ℕ) (w : Given g given) where
     pub sizes_there : count ≤ length sizes'
     sizes_there = sizes_fit w.limits l.ids_long l.sizes_long counted
 
+    abbrev each : List ℕ
+    each = take (cells g) ids'
+
+    abbrev sized : List ℕ
+    sized = take count sizes'
+
     pub room_asks : {m k : ℕ} → cells g ≤ m → cells g ≤ k
-        → Keys (cells g) ids' (length (take count sizes')) × (Sized (cells g) ids' (length (take count sizes')) (take count sizes') × ((length (take count sizes') ≤ m) × (cells g ≤ k)))
-    room_asks h k = turn_asks w.limits l.ids_long l.sizes_long counted h k
+        → Keys (length each) each (length sized) × Sized (length each) each (length sized) sized × ((length sized ≤ m) × (length each ≤ k))
+    room_asks h k =
+        let t = turn_asks w.limits l.ids_long l.sizes_long counted h k in
+        (keys_front (cells g) ids' t.0.long t.0, sized_front (cells g) ids' t.0.long t.1.0, (t.1.1.0, omega (arith, length-take-le (cells g) ids' t.0.long, t.1.1.1)))
 
     -- the places of the cells in turn, in slices that end with the last cell and the last room's start
     module _ (starts flat : List ℕ) {starts' flat' : List ℕ} (h : cells g ≤ length starts) (k : cells g ≤ length flat)
-        (a : starts' ≡ sets starts 0 (starts_of (cells g) ids' (length (take count sizes')))) (b : flat' ≡ sets flat 0 (in_turn (cells g) ids' (length (take count sizes')))) where
+        (a : starts' ≡ sets starts 0 (starts_of (length each) each (length sized))) (b : flat' ≡ sets flat 0 (in_turn (length each) each (length sized))) where
       lent : Lent (cells g) ids starts flat
       lent = record { ids_long = l.ids_long; starts_long = h; flat_long = k }
 
       in_order : Grouped g (puts given 2 unmarked) true ids starts flat ids' starts' flat' count
-      in_order = grouped w.limits l.ids_long l.sizes_long counted a b
-
-      pub room_ids_fit : cells g ≤ length ids'
-      room_ids_fit = made_ids_fit lent in_order
-
-      pub room_starts_fit : count ≤ length starts'
-      room_starts_fit = made_starts_fit lent in_order
+      in_order =
+          let long = (turn_asks w.limits l.ids_long l.sizes_long counted h k).0.long in
+          grouped w.limits l.ids_long l.sizes_long counted (rw (starts_front (cells g) ids' long) at a) (rw (turn_front (cells g) ids' long) at b)
 
       pub room_ids_are : take (cells g) ids' ≡ room_ids g given
       room_ids_are = made_ids lent in_order ∙ ids_same (unmarked_blank g w.limits)

@@ -2,7 +2,7 @@
 -- border is chosen.
 use Prim.Native.Nat.{◌+◌, ◌*◌}
 use Rattle.lists.specs.Lists.{count}
-use Rattle.enumerate.proofs.+choose_border_try_values.Given as goal
+use Rattle.enumerate.proofs.search.Search.+choose_border_try_values.Given as goal
 
 abbrev pub decreases-choose_border : goal.decreases-choose_border
 decreases-choose_border l = 2 * count 0 l.states.now + 1

@@ -1,0 +1,131 @@
+// The search: it chooses the next border and tries its two values. A branch ends only where an ask finds a fault.
+
+ghost use Rattle.std.specs.Prelude.{◌≡◌, length};
+ghost use Rattle.rooms.specs.Rooms.{room_count};
+ghost use Rattle.rooms.specs.Lent.{Given};
+
+use crate::{Listing, first_undecided};
+use borders::Borders;
+use grid::Grid;
+use room_checks::CluedBoard;
+
+// How many boards may be written and are, and whether there is one more.
+#[derive(Clone, Copy)]
+pub struct Tally {
+    pub cap: usize,
+    pub count: usize,
+    pub more: bool,
+}
+
+// What a board is right by: its size, its given walls, and a clue for each of its rooms.
+#[derive(Clone, Copy)]
+pub struct Rules<'a> {
+    pub grid: Grid,
+    pub given: &'a [u16],
+    pub clues: &'a [u16],
+    ghost walls: { Given grid given.now },
+    ghost one_each: { length clues.now ≡ room_count grid given.now },
+}
+
+// A search under way: the lists of its asks and the boards that it finds go to slices that are lent.
+#[derive(Drop)]
+struct Search<'r, 'a> {
+    rules: Rules<'r>,
+    list: &'a mut [u16],
+    boards: &'a mut [u8],
+    tally: Tally,
+}
+
+impl Search<'_, '_> {
+    ghost use Rattle.enumerate.specs.Search.{Fits, written_in, add, Searching, Trying, searched, Kept};
+
+    // Writes a board behind those that are written, or notes that there is one more than the cap.
+    fn keep(&mut self, board: &[u8])
+        requires { Fits (length board.now) (written_in self.old) }
+        ensures kept { Kept self.old self.new }
+        ensures boards_after { written_in self.new ≡ add (written_in self.old) board.now }
+    {
+        if self.tally.count < self.tally.cap {
+            let start = self.tally.count * board.len();
+            self.boards[start..start + board.len()].copy_from_slice(board);
+            self.tally.count += 1;
+            return;
+        }
+        self.tally.more = true;
+    }
+
+    // Goes on from a board as it stands: nothing more is written once there is one more than the cap or where an ask finds a fault, a full
+    // board is kept, and else the first undecided border is tried.
+    #[cycle(choose_border_try_values)]
+    fn choose_border(&mut self, states: &mut [u8])
+        requires { Searching self.old.rules.grid states.old self.old.list.now (written_in self.old) }
+        ensures kept { Kept self.old self.new }
+        ensures states_unchanged { states.new ≡ states.old }
+        ensures boards_after { written_in self.new ≡ searched self.old.rules.grid self.old.rules.given.now self.old.rules.clues.now states.old (written_in self.old) }
+    {
+        if self.tally.more {
+            return;
+        }
+        let borders = Borders {
+            grid: self.rules.grid,
+            states,
+        };
+        let board = CluedBoard {
+            borders,
+            given: self.rules.given,
+            clues: self.rules.clues,
+        };
+        if puzzle::fault_of(board, self.list).is_some() {
+            return;
+        }
+        match first_undecided(states) {
+            None => self.keep(states),
+            Some(border) => self.try_values(border, states),
+        }
+    }
+
+    // Tries the two values of the first undecided border, Connected and then Wall, and leaves it undecided again.
+    #[cycle(choose_border_try_values)]
+    fn try_values(&mut self, border: usize, states: &mut [u8])
+        requires trying { Trying border states.old }
+        requires searching { Searching self.old.rules.grid states.old self.old.list.now (written_in self.old) }
+        ensures kept { Kept self.old self.new }
+        ensures states_unchanged { states.new ≡ states.old }
+        ensures boards_after { written_in self.new ≡ searched self.old.rules.grid self.old.rules.given.now self.old.rules.clues.now states.old (written_in self.old) }
+    {
+        states[border] = 1;
+        self.choose_border(states);
+        states[border] = 2;
+        self.choose_border(states);
+        states[border] = 0;
+    }
+}
+
+impl Rules<'_> {
+    ghost use Rattle.enumerate.specs.Boards.{listing, said, rights};
+    ghost use Rattle.enumerate.specs.Search.{Started};
+
+    // The right boards over these states, by a search from the start. The lists of its asks have an array of their own.
+    pub fn search(self, states: &mut [u8], cap: usize, boards: &mut [u8]) -> Listing
+        requires { Started self.grid states.old cap boards.old }
+        ensures value { said result ≡ (listing (rights self.entry.grid self.entry.given.now self.entry.clues.now states.old) cap boards.old).answer }
+        ensures boards_after { boards.new ≡ (listing (rights self.entry.grid self.entry.given.now self.entry.clues.now states.old) cap boards.old).buffer }
+    {
+        let mut list = [0u16; limits::ENTRIES];
+        let mut search = Search {
+            rules: self,
+            list: &mut list,
+            boards,
+            tally: Tally {
+                cap,
+                count: 0,
+                more: false,
+            },
+        };
+        search.choose_border(states);
+        Listing {
+            count: search.tally.count,
+            more: search.tally.more,
+        }
+    }
+}
