@@ -5,7 +5,6 @@ use answers::Plain;
 use board::Board;
 use groups::Grouping;
 use std::io;
-use std::io::Write;
 
 #[derive(Clone, Copy, Debug)]
 pub enum Call {
@@ -29,9 +28,10 @@ pub enum Question {
 }
 
 impl Call {
-    pub fn new(letter: u8, x: usize, y: usize) -> Option<Call> {
+    // Any letter but these asks for a fault.
+    pub fn new(letter: u8, x: usize, y: usize) -> Call {
         let is_potential = y == 1;
-        let call = match letter {
+        match letter {
             b'm' => Call::Make {
                 height: x,
                 width: y,
@@ -57,10 +57,8 @@ impl Call {
             }),
             b'v' => Call::Ask(Question::Unit(x)),
             b'w' => Call::Ask(Question::PotentialUnit(x)),
-            b'a' => Call::Ask(Question::Fault),
-            _ => return None,
-        };
-        Some(call)
+            _ => Call::Ask(Question::Fault),
+        }
     }
 }
 
@@ -82,11 +80,11 @@ impl Question {
     }
 }
 
-impl<W: Write + Drop> Desk<W> {
+impl Desk {
     pub fn on_board(&mut self, call: Call) -> io::Result<()> {
         let done = match call {
             Call::Make { height, width } => return self.make_board(height, width),
-            Call::Stroke => self.board.stroke(&self.first),
+            Call::Stroke => self.board.stroke(self.first.numbers()),
             Call::Decide { border, wall } => self.board.decide(border, wall),
             Call::Undo => self.board.undo(),
             Call::Record { states } => return self.say_board(states),
@@ -117,7 +115,7 @@ impl<W: Write + Drop> Desk<W> {
         let ids = Spaced(first(&info.ids, cells));
         let turn = Spaced(first(&buffer, cells));
         let starts = Spaced(first(&info.starts, info.count));
-        writeln!(self.out, "{code}{ids};{turn};{starts}")
+        println!(self.out; "{code}{ids};{turn};{starts}")
     }
 
     // The cells that are handed out for a group.
@@ -128,13 +126,13 @@ impl<W: Write + Drop> Desk<W> {
         let part = groups::group(info, &buffer, group);
         let len = part.len();
         let cells = Spaced(part);
-        writeln!(self.out, "{len}{cells}")
+        println!(self.out; "{len}{cells}")
     }
 
     fn say_board(&mut self, states: usize) -> io::Result<()> {
         let book = &self.board.book;
         let record = Record { book, states };
-        writeln!(self.out, "{record}")
+        println!(self.out; "{record}")
     }
 
     fn ask_board(&mut self, question: Question) -> io::Result<()> {

@@ -5,7 +5,6 @@ use enumerate::Listing;
 use grid::Grid;
 use puzzle::{Check, Fault};
 use std::io;
-use std::io::Write;
 
 #[derive(Clone, Copy, Debug)]
 pub enum Call {
@@ -19,8 +18,9 @@ pub enum Call {
 }
 
 impl Call {
-    pub fn new(letter: u8, x: usize, y: usize) -> Option<Call> {
-        let call = match letter {
+    // Any letter but these asks for a fault.
+    pub fn new(letter: u8, x: usize, y: usize) -> Call {
+        match letter {
             b'm' => Call::Make {
                 height: x,
                 width: y,
@@ -31,12 +31,10 @@ impl Call {
                 wall: y == 2,
             },
             b'u' => Call::Undo,
-            b'a' => Call::Ask { room: x },
             b'r' => Call::Record { states: x },
             b'b' => Call::Boards { most: x, room: y },
-            _ => return None,
-        };
-        Some(call)
+            _ => Call::Ask { room: x },
+        }
     }
 }
 
@@ -49,11 +47,11 @@ fn border_count(grid: Grid) -> usize {
     }
 }
 
-impl<W: Write + Drop> Desk<W> {
+impl Desk {
     pub fn on_puzzle(&mut self, call: Call) -> io::Result<()> {
         let done = match call {
             Call::Make { height, width } => return self.make_puzzle(height, width),
-            Call::Stroke => self.puzzle.stroke(&self.first),
+            Call::Stroke => self.puzzle.stroke(self.first.numbers()),
             Call::Decide { border, wall } => self.puzzle.decide(border, wall),
             Call::Undo => self.puzzle.undo(),
             Call::Ask { room } => return self.ask_puzzle(room),
@@ -64,7 +62,7 @@ impl<W: Write + Drop> Desk<W> {
     }
 
     fn make_puzzle(&mut self, height: usize, width: usize) -> io::Result<()> {
-        let made = puzzle::make(height, width, &self.first, &self.second);
+        let made = puzzle::make(height, width, self.first.numbers(), self.second.numbers());
         self.puzzle = made.puzzle;
         self.say(made.code)
     }
@@ -79,8 +77,8 @@ impl<W: Write + Drop> Desk<W> {
             Ok(Some(Fault { check, len })) => {
                 let list = Spaced(first(&buffer, len));
                 match check {
-                    Check::Shape => writeln!(self.out, "shape 0 fault{list}"),
-                    Check::Room(room) => writeln!(self.out, "room {room} 0 fault{list}"),
+                    Check::Shape => println!(self.out; "shape 0 fault{list}"),
+                    Check::Room(room) => println!(self.out; "room {room} 0 fault{list}"),
                 }
             }
             Err(refusal) => self.say_refusal(refusal),
@@ -90,7 +88,7 @@ impl<W: Write + Drop> Desk<W> {
     fn say_puzzle(&mut self, states: usize) -> io::Result<()> {
         let book = &self.puzzle.board.book;
         let record = Record { book, states };
-        writeln!(self.out, "{record}")
+        println!(self.out; "{record}")
     }
 
     // The right boards, lent so many bytes; there is room for a board of the largest size, or many small ones.
@@ -101,7 +99,7 @@ impl<W: Write + Drop> Desk<W> {
         match listed {
             Ok(Listing { count, more }) => {
                 let more = u8::from(more);
-                write!(self.out, "0 {count} {more}")?;
+                print!(self.out; "0 {count} {more}")?;
                 self.say_words(&buffer, count)
             }
             Err(refusal) => self.say_refusal(refusal),
@@ -115,9 +113,9 @@ impl<W: Write + Drop> Desk<W> {
         for _ in 0..count {
             let (digits, others) = left.split_at(n.min(left.len()));
             let word = Word(digits);
-            write!(self.out, " {word}")?;
+            print!(self.out; " {word}")?;
             left = others;
         }
-        writeln!(self.out)
+        self.say("")
     }
 }

@@ -1,7 +1,6 @@
 // Calls on a room graph: make (its edges wait in the two lists), stroke, decide, undo and ask.
 use crate::desk::Desk;
 use std::io;
-use std::io::Write;
 
 #[derive(Clone, Copy, Debug)]
 pub enum Call {
@@ -13,9 +12,9 @@ pub enum Call {
 }
 
 impl Call {
-    // A count of more than 32 bits counts as the largest.
-    pub fn new(letter: u8, x: usize, y: usize) -> Option<Call> {
-        let call = match letter {
+    // Any letter but these asks for a fault. A count of more than 32 bits counts as the largest.
+    pub fn new(letter: u8, x: usize, y: usize) -> Call {
+        match letter {
             b'm' => Call::Make {
                 vertices: x,
                 count: u32::try_from(y).unwrap_or(u32::MAX),
@@ -26,18 +25,16 @@ impl Call {
                 wall: y == 2,
             },
             b'u' => Call::Undo,
-            b'a' => Call::Ask,
-            _ => return None,
-        };
-        Some(call)
+            _ => Call::Ask,
+        }
     }
 }
 
-impl<W: Write + Drop> Desk<W> {
+impl Desk {
     pub fn on_room(&mut self, call: Call) -> io::Result<()> {
         let done = match call {
             Call::Make { vertices, count } => return self.make_room(vertices, count),
-            Call::Stroke => self.room.stroke(&self.first),
+            Call::Stroke => self.room.stroke(self.first.numbers()),
             Call::Decide { edge, wall } => self.room.decide(edge, wall),
             Call::Undo => self.room.undo(),
             Call::Ask => return self.ask_room(),
@@ -46,7 +43,7 @@ impl<W: Write + Drop> Desk<W> {
     }
 
     fn make_room(&mut self, vertices: usize, count: u32) -> io::Result<()> {
-        let made = city_count::make(vertices, &self.first, &self.second, count);
+        let made = city_count::make(vertices, self.first.numbers(), self.second.numbers(), count);
         self.room = made.room;
         self.say(made.code)
     }
