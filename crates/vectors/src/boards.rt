@@ -1,6 +1,7 @@
 // Calls on a board: make, stroke, decide and undo; its record; groups, paths, boundary lists and the shape check.
 use crate::desk::Desk;
 use crate::text::{Record, Spaced, first};
+use crate::turns::Turn;
 use answers::Plain;
 use board::Board;
 use groups::Grouping;
@@ -9,9 +10,7 @@ use std::io;
 #[derive(Clone, Copy, Debug)]
 pub enum Call {
     Make { height: usize, width: usize },
-    Stroke,
-    Decide { border: usize, wall: bool },
-    Undo,
+    Turn(Turn),
     Record { states: usize },
     Groups { cells: usize, is_potential: bool },
     Group { group: usize, is_potential: bool },
@@ -36,12 +35,6 @@ impl Call {
                 height: x,
                 width: y,
             },
-            b's' => Call::Stroke,
-            b'd' => Call::Decide {
-                border: x,
-                wall: y == 2,
-            },
-            b'u' => Call::Undo,
             b'r' => Call::Record { states: x },
             b'g' => Call::Groups {
                 cells: x,
@@ -57,7 +50,7 @@ impl Call {
             }),
             b'v' => Call::Ask(Question::Unit(x)),
             b'w' => Call::Ask(Question::PotentialUnit(x)),
-            _ => Call::Ask(Question::Fault),
+            _ => Turn::new(letter, x, y).map_or(Call::Ask(Question::Fault), Call::Turn),
         }
     }
 }
@@ -84,10 +77,13 @@ impl Desk {
     pub fn on_board(&mut self, call: Call) -> io::Result<()> {
         let done = match call {
             Call::Make { height, width } => return self.make_board(height, width),
-            Call::Stroke => self.board.stroke(self.first.numbers()),
-            Call::Decide { border, wall } => self.board.decide(border, wall),
-            Call::Undo => self.board.undo(),
-            Call::Record { states } => return self.say_board(states),
+            Call::Turn(Turn::Stroke) => self.board.stroke(self.first.numbers()),
+            Call::Turn(Turn::Decide { border, wall }) => self.board.decide(border, wall),
+            Call::Turn(Turn::Undo) => self.board.undo(),
+            Call::Record { states } => return self.say(Record {
+                book: &self.board.book,
+                states,
+            }),
             Call::Groups {
                 cells,
                 is_potential,
@@ -108,7 +104,7 @@ impl Desk {
     }
 
     // The groups of so many cells: each cell's group, the cells in turn and the starts.
-    fn say_groups(&mut self, cells: usize, is_potential: bool) -> io::Result<()> {
+    fn say_groups(&self, cells: usize, is_potential: bool) -> io::Result<()> {
         let mut buffer = [0u16; limits::CELLS];
         let made = groups::compute_connected_components(&self.board, is_potential, &mut buffer);
         let Grouping { code, info } = made.into();
@@ -119,7 +115,7 @@ impl Desk {
     }
 
     // The cells that are handed out for a group.
-    fn say_group(&mut self, group: usize, is_potential: bool) -> io::Result<()> {
+    fn say_group(&self, group: usize, is_potential: bool) -> io::Result<()> {
         let mut buffer = [0u16; limits::CELLS];
         let made = groups::compute_connected_components(&self.board, is_potential, &mut buffer);
         let Grouping { info, .. } = made.into();
@@ -129,13 +125,7 @@ impl Desk {
         println!(self.out; "{len}{cells}")
     }
 
-    fn say_board(&mut self, states: usize) -> io::Result<()> {
-        let book = &self.board.book;
-        let record = Record { book, states };
-        println!(self.out; "{record}")
-    }
-
-    fn ask_board(&mut self, question: Question) -> io::Result<()> {
+    fn ask_board(&self, question: Question) -> io::Result<()> {
         let mut buffer = [0u16; limits::ENTRIES];
         let answer = question.ask(&self.board, &mut buffer);
         self.say_plain(answer, &buffer)

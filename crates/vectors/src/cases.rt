@@ -37,7 +37,7 @@ impl Desk {
     }
 
     // A file of so many calls, lent so many bytes; there is room for some hundred calls.
-    fn say_file(&mut self, calls: usize, room: usize) -> io::Result<()> {
+    fn say_file(&self, calls: usize, room: usize) -> io::Result<()> {
         let mut buffer = [0u8; limits::BORDERS];
         let lent = &mut buffer[..room.min(limits::BORDERS)];
         let Grid { height, width } = self.grid;

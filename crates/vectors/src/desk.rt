@@ -59,21 +59,21 @@ impl Desk {
         }
     }
 
-    pub fn say(&mut self, answer: impl Display + Drop) -> io::Result<()> {
+    pub fn say(&self, answer: impl Display + Drop) -> io::Result<()> {
         println!(self.out; "{answer}")
     }
 
     // A call that gives nothing: 0, or the number of its refusal.
-    pub fn say_done(&mut self, done: Result<(), Refusal>) -> io::Result<()> {
+    pub fn say_done(&self, done: Result<(), Refusal>) -> io::Result<()> {
         self.say(answers::code_of(done))
     }
 
-    pub fn say_refusal(&mut self, refusal: Refusal) -> io::Result<()> {
+    pub fn say_refusal(&self, refusal: Refusal) -> io::Result<()> {
         self.say(u8::from(refusal))
     }
 
     // What a call that writes a list answered, and the list.
-    pub fn say_plain(&mut self, answer: Plain, buffer: &[u16]) -> io::Result<()> {
+    pub fn say_plain(&self, answer: Plain, buffer: &[u16]) -> io::Result<()> {
         let code = answer.code;
         let fault = if answer.fault { " fault" } else { "" };
         let list = Spaced(first(buffer, answer.length));

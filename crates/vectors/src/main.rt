@@ -9,6 +9,7 @@ mod puzzles;
 mod room_graphs;
 mod script;
 mod text;
+mod turns;
 mod unions;
 mod waiting;
 

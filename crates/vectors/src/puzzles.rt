@@ -1,6 +1,7 @@
 // Calls on a puzzle: make (its given walls and clues wait in the two lists), stroke, decide, undo and ask; its board's record; its right boards.
 use crate::desk::Desk;
 use crate::text::{Record, Spaced, Word, first};
+use crate::turns::Turn;
 use enumerate::Listing;
 use grid::Grid;
 use puzzle::{Check, Fault};
@@ -9,9 +10,7 @@ use std::io;
 #[derive(Clone, Copy, Debug)]
 pub enum Call {
     Make { height: usize, width: usize },
-    Stroke,
-    Decide { border: usize, wall: bool },
-    Undo,
+    Turn(Turn),
     Ask { room: usize },
     Record { states: usize },
     Boards { most: usize, room: usize },
@@ -25,15 +24,9 @@ impl Call {
                 height: x,
                 width: y,
             },
-            b's' => Call::Stroke,
-            b'd' => Call::Decide {
-                border: x,
-                wall: y == 2,
-            },
-            b'u' => Call::Undo,
             b'r' => Call::Record { states: x },
             b'b' => Call::Boards { most: x, room: y },
-            _ => Call::Ask { room: x },
+            _ => Turn::new(letter, x, y).map_or(Call::Ask { room: x }, Call::Turn),
         }
     }
 }
@@ -51,11 +44,14 @@ impl Desk {
     pub fn on_puzzle(&mut self, call: Call) -> io::Result<()> {
         let done = match call {
             Call::Make { height, width } => return self.make_puzzle(height, width),
-            Call::Stroke => self.puzzle.stroke(self.first.numbers()),
-            Call::Decide { border, wall } => self.puzzle.decide(border, wall),
-            Call::Undo => self.puzzle.undo(),
+            Call::Turn(Turn::Stroke) => self.puzzle.stroke(self.first.numbers()),
+            Call::Turn(Turn::Decide { border, wall }) => self.puzzle.decide(border, wall),
+            Call::Turn(Turn::Undo) => self.puzzle.undo(),
             Call::Ask { room } => return self.ask_puzzle(room),
-            Call::Record { states } => return self.say_puzzle(states),
+            Call::Record { states } => return self.say(Record {
+                book: &self.puzzle.board.book,
+                states,
+            }),
             Call::Boards { most, room } => return self.say_boards(most, room),
         };
         self.say_done(done)
@@ -68,7 +64,7 @@ impl Desk {
     }
 
     // An ask that is lent so many places: which check found a fault, and the fault.
-    fn ask_puzzle(&mut self, room: usize) -> io::Result<()> {
+    fn ask_puzzle(&self, room: usize) -> io::Result<()> {
         let mut buffer = [0u16; limits::ENTRIES];
         let lent = &mut buffer[..room.min(limits::ENTRIES)];
         let asked = self.puzzle.ask(lent);
@@ -85,14 +81,8 @@ impl Desk {
         }
     }
 
-    fn say_puzzle(&mut self, states: usize) -> io::Result<()> {
-        let book = &self.puzzle.board.book;
-        let record = Record { book, states };
-        println!(self.out; "{record}")
-    }
-
     // The right boards, lent so many bytes; there is room for a board of the largest size, or many small ones.
-    fn say_boards(&mut self, most: usize, room: usize) -> io::Result<()> {
+    fn say_boards(&self, most: usize, room: usize) -> io::Result<()> {
         let mut buffer = [0u8; limits::BORDERS];
         let lent = &mut buffer[..room.min(limits::BORDERS)];
         let listed = enumerate::list_right_boards(&self.puzzle, most, lent);
@@ -107,7 +97,7 @@ impl Desk {
     }
 
     // So many words, each with a digit for each border of the puzzle.
-    fn say_words(&mut self, digits: &[u8], count: usize) -> io::Result<()> {
+    fn say_words(&self, digits: &[u8], count: usize) -> io::Result<()> {
         let n = border_count(self.puzzle.board.grid);
         let mut left = digits;
         for _ in 0..count {

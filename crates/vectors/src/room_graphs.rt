@@ -1,13 +1,12 @@
 // Calls on a room graph: make (its edges wait in the two lists), stroke, decide, undo and ask.
 use crate::desk::Desk;
+use crate::turns::Turn;
 use std::io;
 
 #[derive(Clone, Copy, Debug)]
 pub enum Call {
     Make { vertices: usize, count: u32 },
-    Stroke,
-    Decide { edge: usize, wall: bool },
-    Undo,
+    Turn(Turn),
     Ask,
 }
 
@@ -19,13 +18,7 @@ impl Call {
                 vertices: x,
                 count: u32::try_from(y).unwrap_or(u32::MAX),
             },
-            b's' => Call::Stroke,
-            b'd' => Call::Decide {
-                edge: x,
-                wall: y == 2,
-            },
-            b'u' => Call::Undo,
-            _ => Call::Ask,
+            _ => Turn::new(letter, x, y).map_or(Call::Ask, Call::Turn),
         }
     }
 }
@@ -34,9 +27,9 @@ impl Desk {
     pub fn on_room(&mut self, call: Call) -> io::Result<()> {
         let done = match call {
             Call::Make { vertices, count } => return self.make_room(vertices, count),
-            Call::Stroke => self.room.stroke(self.first.numbers()),
-            Call::Decide { edge, wall } => self.room.decide(edge, wall),
-            Call::Undo => self.room.undo(),
+            Call::Turn(Turn::Stroke) => self.room.stroke(self.first.numbers()),
+            Call::Turn(Turn::Decide { border, wall }) => self.room.decide(border, wall),
+            Call::Turn(Turn::Undo) => self.room.undo(),
             Call::Ask => return self.ask_room(),
         };
         self.say_done(done)
@@ -48,7 +41,7 @@ impl Desk {
         self.say(made.code)
     }
 
-    fn ask_room(&mut self) -> io::Result<()> {
+    fn ask_room(&self) -> io::Result<()> {
         let mut buffer = [0u16; limits::BORDERS];
         let asked = self.room.ask(&mut buffer);
         self.say_plain(asked.into(), &buffer)

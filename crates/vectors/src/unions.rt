@@ -49,7 +49,7 @@ impl Desk {
     }
 
     // 0 and a number, or the number of a refusal and 0.
-    fn say_number(&mut self, answer: Result<usize, Refusal>) -> io::Result<()> {
+    fn say_number(&self, answer: Result<usize, Refusal>) -> io::Result<()> {
         let code = answer.map_or_else(u8::from, |_| 0);
         let number = answer.unwrap_or(0);
         println!(self.out; "{code} {number}")

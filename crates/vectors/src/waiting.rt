@@ -68,7 +68,7 @@ impl Desk {
     }
 
     // The first list, handed over into so many places.
-    fn hand_over(&mut self, room: usize) -> io::Result<()> {
+    fn hand_over(&self, room: usize) -> io::Result<()> {
         let mut buffer = [0u16; limits::BORDERS];
         let lent = &mut buffer[..room.min(limits::BORDERS)];
         let listed = hand_over::hand_over(self.first.numbers(), lent);
