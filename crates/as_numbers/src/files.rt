@@ -63,7 +63,7 @@ fn kind_of(wall: bool) -> u8
     if wall { 2 } else { 1 }
 }
 
-fn call_fields(call: Call, behind: usize) -> CallFields
+pub fn call_fields(call: Call, behind: usize) -> CallFields
     ensures { result ≡ call_fields call behind }
 {
     let (kind, border) = match call {

@@ -100,17 +100,6 @@ words_feed Shape list = refl
 words_feed (Room k) list = refl
 words_feed (Refused k) list = refl
 
--- The ways out of `write_line`.
-module _ (line : Line) (list buffer : List ℕ) where
-  abbrev Answers : Result ℕ Refusal → List ℕ → Type 0
-  Answers r last = let o = line_into line list (length buffer) in Lists o r × (last ≡ written o buffer)
-
-  pub unprinted : length buffer < needed list → Answers (Err ShortBuffer) buffer
-  unprinted h = rw (lt-leb (needed list) (length buffer) h) (refl, refl)
-
-  pub printed : {r : ℕ} {last : List ℕ} → needed list ≤ length buffer → r ≡ length (line_of line list) → last ≡ sets buffer 0 (line_of line list) → Answers (Ok r) last
-  printed h e m = rw (le-leb (needed list) (length buffer) h) (rw e refl, m)
-
 -- every line that the program prints fits a buffer that is long enough
 pub entries_fit : (list : List ℕ) → ((e : ℕ) → In e list → e < 65536) → length (spaced_of list) ≤ 6 * length list
 unfolding spaced_of gather

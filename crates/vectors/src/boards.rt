@@ -1,18 +1,16 @@
 // Calls on a board: make, stroke, decide and undo; its record; groups, paths, boundary lists and the shape check.
 use crate::desk::Desk;
 use crate::text::{Record, Spaced, first};
+use crate::turns::Turn;
 use answers::Plain;
 use board::Board;
 use groups::Grouping;
 use std::io;
-use std::io::Write;
 
 #[derive(Clone, Copy, Debug)]
 pub enum Call {
     Make { height: usize, width: usize },
-    Stroke,
-    Decide { border: usize, wall: bool },
-    Undo,
+    Turn(Turn),
     Record { states: usize },
     Groups { cells: usize, is_potential: bool },
     Group { group: usize, is_potential: bool },
@@ -29,19 +27,14 @@ pub enum Question {
 }
 
 impl Call {
-    pub fn new(letter: u8, x: usize, y: usize) -> Option<Call> {
+    // Any letter but these asks for a fault.
+    pub fn new(letter: u8, x: usize, y: usize) -> Call {
         let is_potential = y == 1;
-        let call = match letter {
+        match letter {
             b'm' => Call::Make {
                 height: x,
                 width: y,
             },
-            b's' => Call::Stroke,
-            b'd' => Call::Decide {
-                border: x,
-                wall: y == 2,
-            },
-            b'u' => Call::Undo,
             b'r' => Call::Record { states: x },
             b'g' => Call::Groups {
                 cells: x,
@@ -57,10 +50,8 @@ impl Call {
             }),
             b'v' => Call::Ask(Question::Unit(x)),
             b'w' => Call::Ask(Question::PotentialUnit(x)),
-            b'a' => Call::Ask(Question::Fault),
-            _ => return None,
-        };
-        Some(call)
+            _ => Turn::new(letter, x, y).map_or(Call::Ask(Question::Fault), Call::Turn),
+        }
     }
 }
 
@@ -82,14 +73,17 @@ impl Question {
     }
 }
 
-impl<W: Write + Drop> Desk<W> {
+impl Desk {
     pub fn on_board(&mut self, call: Call) -> io::Result<()> {
         let done = match call {
             Call::Make { height, width } => return self.make_board(height, width),
-            Call::Stroke => self.board.stroke(&self.first),
-            Call::Decide { border, wall } => self.board.decide(border, wall),
-            Call::Undo => self.board.undo(),
-            Call::Record { states } => return self.say_board(states),
+            Call::Turn(Turn::Stroke) => self.board.stroke(self.first.numbers()),
+            Call::Turn(Turn::Decide { border, wall }) => self.board.decide(border, wall),
+            Call::Turn(Turn::Undo) => self.board.undo(),
+            Call::Record { states } => return self.say(Record {
+                book: &self.board.book,
+                states,
+            }),
             Call::Groups {
                 cells,
                 is_potential,
@@ -110,34 +104,28 @@ impl<W: Write + Drop> Desk<W> {
     }
 
     // The groups of so many cells: each cell's group, the cells in turn and the starts.
-    fn say_groups(&mut self, cells: usize, is_potential: bool) -> io::Result<()> {
+    fn say_groups(&self, cells: usize, is_potential: bool) -> io::Result<()> {
         let mut buffer = [0u16; limits::CELLS];
         let made = groups::compute_connected_components(&self.board, is_potential, &mut buffer);
         let Grouping { code, info } = made.into();
         let ids = Spaced(first(&info.ids, cells));
         let turn = Spaced(first(&buffer, cells));
         let starts = Spaced(first(&info.starts, info.count));
-        writeln!(self.out, "{code}{ids};{turn};{starts}")
+        println!(self.out; "{code}{ids};{turn};{starts}")
     }
 
     // The cells that are handed out for a group.
-    fn say_group(&mut self, group: usize, is_potential: bool) -> io::Result<()> {
+    fn say_group(&self, group: usize, is_potential: bool) -> io::Result<()> {
         let mut buffer = [0u16; limits::CELLS];
         let made = groups::compute_connected_components(&self.board, is_potential, &mut buffer);
         let Grouping { info, .. } = made.into();
         let part = groups::group(info, &buffer, group);
         let len = part.len();
         let cells = Spaced(part);
-        writeln!(self.out, "{len}{cells}")
+        println!(self.out; "{len}{cells}")
     }
 
-    fn say_board(&mut self, states: usize) -> io::Result<()> {
-        let book = &self.board.book;
-        let record = Record { book, states };
-        writeln!(self.out, "{record}")
-    }
-
-    fn ask_board(&mut self, question: Question) -> io::Result<()> {
+    fn ask_board(&self, question: Question) -> io::Result<()> {
         let mut buffer = [0u16; limits::ENTRIES];
         let answer = question.ask(&self.board, &mut buffer);
         self.say_plain(answer, &buffer)

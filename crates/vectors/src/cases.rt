@@ -3,7 +3,6 @@ use crate::desk::Desk;
 use crate::text::{Spaced, first};
 use grid::Grid;
 use std::io;
-use std::io::Write;
 
 #[derive(Clone, Copy, Debug)]
 pub enum Call {
@@ -17,17 +16,16 @@ fn seed(high: usize, low: usize) -> u32 {
 }
 
 impl Call {
-    pub fn new(letter: u8, x: usize, y: usize) -> Option<Call> {
-        let call = match letter {
+    // Any letter but this asks for a file.
+    pub fn new(letter: u8, x: usize, y: usize) -> Call {
+        match letter {
             b's' => Call::Seed(seed(x, y)),
-            b'g' => Call::File { calls: x, room: y },
-            _ => return None,
-        };
-        Some(call)
+            _ => Call::File { calls: x, room: y },
+        }
     }
 }
 
-impl<W: Write + Drop> Desk<W> {
+impl Desk {
     pub fn on_case(&mut self, call: Call) -> io::Result<()> {
         match call {
             Call::Seed(seed) => {
@@ -39,14 +37,14 @@ impl<W: Write + Drop> Desk<W> {
     }
 
     // A file of so many calls, lent so many bytes; there is room for some hundred calls.
-    fn say_file(&mut self, calls: usize, room: usize) -> io::Result<()> {
+    fn say_file(&self, calls: usize, room: usize) -> io::Result<()> {
         let mut buffer = [0u8; limits::BORDERS];
         let lent = &mut buffer[..room.min(limits::BORDERS)];
         let Grid { height, width } = self.grid;
         match generator::generate(self.seed, height, width, calls, lent) {
             Ok(length) => {
                 let bytes = Spaced(first(&buffer, length));
-                writeln!(self.out, "0{bytes}")
+                println!(self.out; "0{bytes}")
             }
             Err(refusal) => self.say_refusal(refusal),
         }

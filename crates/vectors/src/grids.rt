@@ -2,7 +2,6 @@
 use crate::desk::Desk;
 use grid::{Direction, Grid, Neighbour};
 use std::io;
-use std::io::Write;
 
 #[derive(Clone, Copy, Debug)]
 pub enum Call {
@@ -10,24 +9,33 @@ pub enum Call {
     Neighbour { cell: usize, direction: Direction },
 }
 
+// Any number from 3 on is the right.
+fn direction(number: usize) -> Direction {
+    match number {
+        0 => Direction::Up,
+        1 => Direction::Down,
+        2 => Direction::Left,
+        _ => Direction::Right,
+    }
+}
+
 impl Call {
-    pub fn new(letter: u8, x: usize, y: usize) -> Option<Call> {
-        let call = match letter {
+    // Any letter but this asks for a neighbour.
+    pub fn new(letter: u8, x: usize, y: usize) -> Call {
+        match letter {
             b'm' => Call::Make {
                 height: x,
                 width: y,
             },
-            b'n' => Call::Neighbour {
+            _ => Call::Neighbour {
                 cell: x,
-                direction: *grid::AROUND.get(y)?,
+                direction: direction(y),
             },
-            _ => return None,
-        };
-        Some(call)
+        }
     }
 }
 
-impl<W: Write + Drop> Desk<W> {
+impl Desk {
     pub fn on_grid(&mut self, call: Call) -> io::Result<()> {
         match call {
             Call::Make { height, width } => {
@@ -35,7 +43,7 @@ impl<W: Write + Drop> Desk<W> {
                 self.say_done(Ok(()))
             }
             Call::Neighbour { cell, direction } => match self.grid.neighbour(cell, direction) {
-                Ok(Some(Neighbour { cell, border })) => writeln!(self.out, "0 {cell} {border}"),
+                Ok(Some(Neighbour { cell, border })) => println!(self.out; "0 {cell} {border}"),
                 Ok(None) => self.say_done(Ok(())),
                 Err(refusal) => self.say_refusal(refusal),
             },

@@ -9,24 +9,24 @@ mod puzzles;
 mod room_graphs;
 mod script;
 mod text;
+mod turns;
 mod unions;
 mod waiting;
 
 use desk::Desk;
 use script::Command;
-use std::io;
-use std::io::{BufRead, BufReader, BufWriter};
 
-// A line that is no call is answered by what is wrong with it. The last line says that the script ends there.
-fn main(rt: HostRuntime) -> io::Result<()> {
-    let out = BufWriter::new(rt.alloc(), io::writer(&rt))?;
-    let mut desk = Desk::new(rt.alloc(), out);
-    for line in BufReader::new(rt.alloc(), rt.reader())?.lines(rt.alloc()) {
-        match line?.as_str().parse::<Command>() {
-            Ok(Command::End) => return desk.end("end"),
-            Ok(command) => desk.run(command)?,
-            Err(bad) => desk.say(bad)?,
+const MOST_CALLS: usize = 100_000;
+
+// The last line says that the script ends there, or is cut short; behind the most calls there is none. What can't be written is left out.
+fn main(rt: HostRuntime) {
+    let mut input = rt.stdin();
+    let mut desk = Desk::new(rt.stdout());
+    for _ in 0..MOST_CALLS {
+        let command = Command::read(&mut input);
+        let _ = desk.run(command);
+        if command.is_last() {
+            return;
         }
     }
-    desk.end("the script is cut short")
 }

@@ -1,42 +1,33 @@
 // Calls on a puzzle: make (its given walls and clues wait in the two lists), stroke, decide, undo and ask; its board's record; its right boards.
 use crate::desk::Desk;
 use crate::text::{Record, Spaced, Word, first};
+use crate::turns::Turn;
 use enumerate::Listing;
 use grid::Grid;
 use puzzle::{Check, Fault};
 use std::io;
-use std::io::Write;
 
 #[derive(Clone, Copy, Debug)]
 pub enum Call {
     Make { height: usize, width: usize },
-    Stroke,
-    Decide { border: usize, wall: bool },
-    Undo,
+    Turn(Turn),
     Ask { room: usize },
     Record { states: usize },
     Boards { most: usize, room: usize },
 }
 
 impl Call {
-    pub fn new(letter: u8, x: usize, y: usize) -> Option<Call> {
-        let call = match letter {
+    // Any letter but these asks for a fault.
+    pub fn new(letter: u8, x: usize, y: usize) -> Call {
+        match letter {
             b'm' => Call::Make {
                 height: x,
                 width: y,
             },
-            b's' => Call::Stroke,
-            b'd' => Call::Decide {
-                border: x,
-                wall: y == 2,
-            },
-            b'u' => Call::Undo,
-            b'a' => Call::Ask { room: x },
             b'r' => Call::Record { states: x },
             b'b' => Call::Boards { most: x, room: y },
-            _ => return None,
-        };
-        Some(call)
+            _ => Turn::new(letter, x, y).map_or(Call::Ask { room: x }, Call::Turn),
+        }
     }
 }
 
@@ -49,28 +40,31 @@ fn border_count(grid: Grid) -> usize {
     }
 }
 
-impl<W: Write + Drop> Desk<W> {
+impl Desk {
     pub fn on_puzzle(&mut self, call: Call) -> io::Result<()> {
         let done = match call {
             Call::Make { height, width } => return self.make_puzzle(height, width),
-            Call::Stroke => self.puzzle.stroke(&self.first),
-            Call::Decide { border, wall } => self.puzzle.decide(border, wall),
-            Call::Undo => self.puzzle.undo(),
+            Call::Turn(Turn::Stroke) => self.puzzle.stroke(self.first.numbers()),
+            Call::Turn(Turn::Decide { border, wall }) => self.puzzle.decide(border, wall),
+            Call::Turn(Turn::Undo) => self.puzzle.undo(),
             Call::Ask { room } => return self.ask_puzzle(room),
-            Call::Record { states } => return self.say_puzzle(states),
+            Call::Record { states } => return self.say(Record {
+                book: &self.puzzle.board.book,
+                states,
+            }),
             Call::Boards { most, room } => return self.say_boards(most, room),
         };
         self.say_done(done)
     }
 
     fn make_puzzle(&mut self, height: usize, width: usize) -> io::Result<()> {
-        let made = puzzle::make(height, width, &self.first, &self.second);
+        let made = puzzle::make(height, width, self.first.numbers(), self.second.numbers());
         self.puzzle = made.puzzle;
         self.say(made.code)
     }
 
     // An ask that is lent so many places: which check found a fault, and the fault.
-    fn ask_puzzle(&mut self, room: usize) -> io::Result<()> {
+    fn ask_puzzle(&self, room: usize) -> io::Result<()> {
         let mut buffer = [0u16; limits::ENTRIES];
         let lent = &mut buffer[..room.min(limits::ENTRIES)];
         let asked = self.puzzle.ask(lent);
@@ -79,29 +73,23 @@ impl<W: Write + Drop> Desk<W> {
             Ok(Some(Fault { check, len })) => {
                 let list = Spaced(first(&buffer, len));
                 match check {
-                    Check::Shape => writeln!(self.out, "shape 0 fault{list}"),
-                    Check::Room(room) => writeln!(self.out, "room {room} 0 fault{list}"),
+                    Check::Shape => println!(self.out; "shape 0 fault{list}"),
+                    Check::Room(room) => println!(self.out; "room {room} 0 fault{list}"),
                 }
             }
             Err(refusal) => self.say_refusal(refusal),
         }
     }
 
-    fn say_puzzle(&mut self, states: usize) -> io::Result<()> {
-        let book = &self.puzzle.board.book;
-        let record = Record { book, states };
-        writeln!(self.out, "{record}")
-    }
-
     // The right boards, lent so many bytes; there is room for a board of the largest size, or many small ones.
-    fn say_boards(&mut self, most: usize, room: usize) -> io::Result<()> {
+    fn say_boards(&self, most: usize, room: usize) -> io::Result<()> {
         let mut buffer = [0u8; limits::BORDERS];
         let lent = &mut buffer[..room.min(limits::BORDERS)];
         let listed = enumerate::list_right_boards(&self.puzzle, most, lent);
         match listed {
             Ok(Listing { count, more }) => {
                 let more = u8::from(more);
-                write!(self.out, "0 {count} {more}")?;
+                print!(self.out; "0 {count} {more}")?;
                 self.say_words(&buffer, count)
             }
             Err(refusal) => self.say_refusal(refusal),
@@ -109,15 +97,15 @@ impl<W: Write + Drop> Desk<W> {
     }
 
     // So many words, each with a digit for each border of the puzzle.
-    fn say_words(&mut self, digits: &[u8], count: usize) -> io::Result<()> {
+    fn say_words(&self, digits: &[u8], count: usize) -> io::Result<()> {
         let n = border_count(self.puzzle.board.grid);
         let mut left = digits;
         for _ in 0..count {
             let (digits, others) = left.split_at(n.min(left.len()));
             let word = Word(digits);
-            write!(self.out, " {word}")?;
+            print!(self.out; " {word}")?;
             left = others;
         }
-        writeln!(self.out)
+        self.say("")
     }
 }

@@ -1,8 +1,9 @@
-// The script on standard input: a call a line, `bd 00017 00002`: the letters of the record and of the call, and two numbers.
+// The script on standard input: a call in 15 bytes, as `bd 00017 00002` and a line feed: the letters of the record and of the call, and two numbers
+// of five digits. What stands between them is not read.
+ghost use Rattle.std.specs.Prelude.{◌<◌};
+
 use crate::{boards, cases, grids, puzzles, room_graphs, unions, waiting};
-use std::error::Error;
-use std::fmt;
-use std::str::FromStr;
+use std::io::Read;
 
 #[derive(Clone, Copy, Debug)]
 pub enum Command {
@@ -13,53 +14,55 @@ pub enum Command {
     Union(unions::Call),
     Room(room_graphs::Call),
     Puzzle(puzzles::Call),
+    Unknown,
     End,
+    CutShort,
 }
 
-// Why a line is no call.
-#[derive(Clone, Copy, Debug, PartialEq, Eq)]
-pub enum BadLine {
-    Record,
-    Call,
-    Number,
-}
-
-impl fmt::Display for BadLine {
-    fn fmt<W: fmt::Write>(&self, f: &mut fmt::Formatter<W>) -> fmt::Result {
-        f.write_str(match self {
-            BadLine::Record => "no such record",
-            BadLine::Call => "no such call",
-            BadLine::Number => "not two numbers",
-        })
+// A digit's number; any other byte counts as 0.
+fn digit(byte: u8) -> usize
+    ensures { result < 10 }
+{
+    match byte {
+        b'0'..=b'9' => usize::from(byte - b'0'),
+        _ => 0,
     }
 }
 
-impl Error for BadLine {}
-
-fn number(word: Option<&str>) -> Result<usize, BadLine> {
-    let word = word.ok_or(BadLine::Number)?;
-    word.parse::<usize>().or(Err(BadLine::Number))
+fn number(digits: [u8; 5]) -> usize {
+    let [a, b, c, d, e] = digits;
+    10000 * digit(a) + 1000 * digit(b) + 100 * digit(c) + 10 * digit(d) + digit(e)
 }
 
-impl FromStr for Command {
-    type Err = BadLine;
+impl Command {
+    fn new(line: [u8; 15]) -> Command {
+        let [record, call, _, a, b, c, d, e, _, f, g, h, i, j, _] = line;
+        let x = number([a, b, c, d, e]);
+        let y = number([f, g, h, i, j]);
+        match record {
+            b'g' => Command::Grid(grids::Call::new(call, x, y)),
+            b'c' => Command::Case(cases::Call::new(call, x, y)),
+            b'l' => Command::Waiting(waiting::Call::new(call, x)),
+            b'b' => Command::Board(boards::Call::new(call, x, y)),
+            b'u' => Command::Union(unions::Call::new(call, x, y)),
+            b'r' => Command::Room(room_graphs::Call::new(call, x, y)),
+            b'p' => Command::Puzzle(puzzles::Call::new(call, x, y)),
+            b'.' => Command::End,
+            0 => Command::CutShort,
+            _ => Command::Unknown,
+        }
+    }
 
-    fn from_str(line: &str) -> Result<Command, BadLine> {
-        let mut words = line.split_whitespace();
-        let name = words.next().unwrap_or("");
-        let x = number(words.next())?;
-        let y = number(words.next())?;
-        let command = match name.as_bytes() {
-            [b'.'] => Some(Command::End),
-            [b'g', call] => grids::Call::new(*call, x, y).map(Command::Grid),
-            [b'c', call] => cases::Call::new(*call, x, y).map(Command::Case),
-            [b'l', call] => waiting::Call::new(*call, x).map(Command::Waiting),
-            [b'b', call] => boards::Call::new(*call, x, y).map(Command::Board),
-            [b'u', call] => unions::Call::new(*call, x, y).map(Command::Union),
-            [b'r', call] => room_graphs::Call::new(*call, x, y).map(Command::Room),
-            [b'p', call] => puzzles::Call::new(*call, x, y).map(Command::Puzzle),
-            _ => return Err(BadLine::Record),
-        };
-        command.ok_or(BadLine::Call)
+    // The next call of the script.
+    pub fn read(input: &mut impl Read) -> Command {
+        let mut line = [0; 15];
+        match input.read_exact(&mut line) {
+            Ok(()) => Command::new(line),
+            Err(_) => Command::CutShort,
+        }
+    }
+
+    pub fn is_last(self) -> bool {
+        matches!(self, Command::End | Command::CutShort)
     }
 }

@@ -3,7 +3,6 @@ use crate::desk::Desk;
 use crate::text::{Spaced, first};
 use answers::Refusal;
 use std::io;
-use std::io::Write;
 
 #[derive(Clone, Copy, Debug)]
 pub enum Call {
@@ -14,19 +13,18 @@ pub enum Call {
 }
 
 impl Call {
-    pub fn new(letter: u8, x: usize, y: usize) -> Option<Call> {
-        let call = match letter {
+    // Any letter but these asks for the parents.
+    pub fn new(letter: u8, x: usize, y: usize) -> Call {
+        match letter {
             b'm' => Call::Make { vertices: x },
             b'f' => Call::Find { vertex: x },
             b'u' => Call::Unite { one: x, other: y },
-            b'p' => Call::Parents,
-            _ => return None,
-        };
-        Some(call)
+            _ => Call::Parents,
+        }
     }
 }
 
-impl<W: Write + Drop> Desk<W> {
+impl Desk {
     pub fn on_union(&mut self, call: Call) -> io::Result<()> {
         match call {
             Call::Make { vertices } => {
@@ -45,15 +43,15 @@ impl<W: Write + Drop> Desk<W> {
             Call::Parents => {
                 let n = self.union.n;
                 let parents = Spaced(first(&self.union.parent, n));
-                writeln!(self.out, "{n}{parents}")
+                println!(self.out; "{n}{parents}")
             }
         }
     }
 
     // 0 and a number, or the number of a refusal and 0.
-    fn say_number(&mut self, answer: Result<usize, Refusal>) -> io::Result<()> {
+    fn say_number(&self, answer: Result<usize, Refusal>) -> io::Result<()> {
         let code = answer.map_or_else(u8::from, |_| 0);
         let number = answer.unwrap_or(0);
-        writeln!(self.out, "{code} {number}")
+        println!(self.out; "{code} {number}")
     }
 }

@@ -1,11 +1,7 @@
 -- `flaws::calls` meets its contract: the invariant says what the calls that are left come to; one law a call. Assumes nothing.
 use Rattle.std.proofs.Common.{sym, ◌∙◌, arith}
-use native.Mathlib.Nat.{sub-zero}
 use Rattle.flaws.proofs.FlawLaws.{calls_next, calls_stop, calls_end}
 use Rattle.flaws.proofs.calls.Goals as goal
-
-pub loop-init : goal.loop-init
-loop-init c = simp sub-zero
 
 pub returns-in_default : goal.returns-in_default
 returns-in_default c =

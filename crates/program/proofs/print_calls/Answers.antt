@@ -4,12 +4,6 @@ use Rattle.std.specs.Prelude.{IsOk}
 use Rattle.program.proofs.PrintLaws.{printing, printing_next, stopped}
 use Rattle.program.proofs.print_calls.Goals as goal
 
-pub loop-init : goal.loop-init
-loop-init g c = printing c.args.file.now c.args.opened.now c.large_buffer-out.result (sym c.large_buffer-out.ensures)
-
-pub overflow_sub-opened : goal.overflow_sub-opened
-overflow_sub-opened g c = omega (arith, c.loop.invariant.counts)
-
 pub loop-preserved : goal.loop-preserved
 loop-preserved g c =
     let k = c.run_calls-ran in
