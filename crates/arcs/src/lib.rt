@@ -24,7 +24,7 @@ impl ArcLists {
     ghost use Rattle.std.specs.Prelude.{◌≡◌, ◌+◌, ◌<◌, ◌≤◌, get_or, set, List, [], ◌∷◌};
     ghost use Rattle.limits.specs.Limits.{most_cells};
     ghost use Rattle.parts.specs.Parts.{Edge, edge, begun};
-    ghost use Rattle.arcs.specs.Walk.{Walk, Walked};
+    ghost use Rattle.arcs.specs.Walk.{Arcs, Walk, Walked};
     ghost use Rattle.arcs.specs.Held.{Holds};
 
     // The lists of so many vertices, with no arc yet.
@@ -53,7 +53,7 @@ impl ArcLists {
     }
 
     // Puts an arc from `u` to `v` at the front of `u`'s list.
-    fn put(&mut self, u: usize, v: usize)
+    pub fn put(&mut self, u: usize, v: usize)
         requires { (self.old.arcs < 3968) × (u < self.old.vertices) × (v < self.old.vertices) }
         ensures head_after { self.new.head ≡ set self.old.head u (self.old.arcs + 1) }
         ensures next_after { self.new.next ≡ set self.old.next self.old.arcs (get_or self.old.head u 0) }
@@ -85,7 +85,8 @@ impl ArcLists {
 
     // Walks from each vertex without a mark, and counts these walks: one a part.
     pub fn parts(&self) -> usize
-        ensures { (E : List Edge) → Holds self.now E → result ≡ begun E self.now.vertices }
+        ensures by_arcs { (E : List Edge) → Arcs E self.now.vertices self.now.head self.now.next self.now.to → result ≡ begun E self.now.vertices }
+        ensures by_edges { (E : List Edge) → Holds self.now E → result ≡ begun E self.now.vertices }
     {
         let mut seen = [0u8; CELLS];
         let mut parts = 0;

@@ -104,18 +104,20 @@ impl Board {
     }
 }
 
-// A fresh board of the size, or refused 1 with a record of zeros.
-pub fn make(height: usize, width: usize) -> Decided
-    ensures { result ≡ make_of height width }
-{
-    match Board::new(height, width) {
-        Ok(board) => Decided { code: 0, board },
-        Err(refusal) => Decided {
-            code: u8::from(refusal),
-            board: Board::empty(Grid {
-                height: 0,
-                width: 0,
-            }),
-        },
+// A making as a record: of zeros where it is refused.
+impl From<Result<Board, Refusal>> for Decided {
+    ghost from_gives = { λ making decided. decided ≡ made making };
+
+    fn from(making: Result<Board, Refusal>) -> Decided {
+        match making {
+            Ok(board) => Decided { code: 0, board },
+            Err(refusal) => Decided {
+                code: u8::from(refusal),
+                board: Board::empty(Grid {
+                    height: 0,
+                    width: 0,
+                }),
+            },
+        }
     }
 }

@@ -1,6 +1,6 @@
 -- One turn and the end of the loop that looks at a graph's ends. Assumes nothing.
 use Prim.Native.Nat.{ℕ, ◌+◌, ◌≤◌, ◌<◌}
-use mathlib.Core.Path.{◌≡◌, refl, sym}
+use mathlib.Core.Path.{◌≡◌, refl, sym, ◌∙◌}
 use mathlib.Core.Bool.{Bool, true, false}
 use mathlib.Core.List.{List}
 use native.Mathlib.Omega.{arith}
@@ -10,6 +10,7 @@ use native.Mathlib.Numerals.{add-one}
 use lib.ListN.{get_or, length, take, drop, drop_of_length-le}
 use lib.Seq.{drop-cons}
 use Rattle.std.proofs.lemmas.List.{get_or-take, length-take-le}
+use Rattle.limits.specs.Limits.{most_borders}
 use Rattle.lists.specs.Choice.{both}
 use Rattle.lists.specs.Lists.{range, all}
 use Rattle.lists.proofs.ChoiceLaws.{both_true, true_both, same_truth}
@@ -100,3 +101,8 @@ ends_taken n m us vs h k =
     sym
     (ends_all n (take m us) (take m vs) m m (omega arith)
     (λ j l. rw (get_or-take m us j 0 l, get_or-take m vs j 0 l) (all_ends n us vs m q j l)))))
+
+-- so a test of the slices of the edges is the record's
+pub ends_told : (n m : ℕ) (us vs : List ℕ) → m ≤ most_borders → length us ≡ most_borders → length vs ≡ most_borders → {t u : Bool}
+    → t ≡ ends_exist n (length (take m us)) (take m us) (take m vs) → t ≡ u → ends_exist n m us vs ≡ u
+ends_told n m us vs few a b q p = sym (ends_taken n m us vs (omega (arith, few, a)) (omega (arith, few, b))) ∙ sym q ∙ p

@@ -43,12 +43,6 @@ pub record Ready (n m : ℕ) (us vs : List ℕ) (b : Book) : Type 0 where
 
 module _ (n m : ℕ) (us vs : List ℕ) (b : Book) where
   -- the ways to refuse or accept, by what the code tests
-  pub many_vertices : most_cells < n → 1 ≡ check_of n m us vs b
-  many_vertices h = rw (lt-leb n most_cells h)
-
-  pub many_edges : n ≤ most_cells → most_borders < m → 1 ≡ check_of n m us vs b
-  many_edges h k = rw (le-leb n most_cells h, lt-leb m most_borders k)
-
   module _ (h : n ≤ most_cells) (k : m ≤ most_borders) where
     pub no_ends : ends_exist n m us vs ≡ false → 2 ≡ check_of n m us vs b
     no_ends e = rw (le-leb n most_cells h, le-leb m most_borders k, e)
@@ -79,13 +73,7 @@ module _ (n : ℕ) (us vs : List ℕ) (count : ℕ) where
   pub make_edges : n ≤ most_cells → most_borders < length us → answer 1 zero_room ≡ make_of n us vs count
   make_edges h k = rw (le-leb n most_cells h, lt-leb (length us) most_borders k)
 
-  pub make_lengths : n ≤ most_cells → length us ≤ most_borders → length us ≢ length vs → answer 1 zero_room ≡ make_of n us vs count
-  make_lengths h k z = rw (le-leb n most_cells h, le-leb (length us) most_borders k, ne_eqb (length us) (length vs) z)
-
   module _ (h : n ≤ most_cells) (k : length us ≤ most_borders) (e : length us ≡ length vs) where
-    pub make_ends : ends_exist n (length us) us vs ≡ false → answer 3 zero_room ≡ make_of n us vs count
-    make_ends f = simp (le-leb n most_cells h, le-leb (length us) most_borders k, eq-eqb (length us) (length vs) e, f)
-
     pub filled : {r : CityCountConstraint} {a b : List ℕ} → r ≡ fresh_room n (length us) zeros zeros count → a ≡ sets r.us 0 us → b ≡ sets r.vs 0 vs
         → ends_exist n (length us) us vs ≡ true → answer 0 (room_of r.vertices r.edges a b r.count r.book) ≡ make_of n us vs count
     filled er ea eb t = rw (ea, eb, er) (simp (le-leb n most_cells h, le-leb (length us) most_borders k, eq-eqb (length us) (length vs) e, t))

@@ -209,15 +209,17 @@ fn ends_exist(n: usize, us: &[u16], vs: &[u16]) -> bool
     all_below(n, us) && all_below(n, vs)
 }
 
-// A room graph, or refused with a record of zeros.
-pub fn make<'a>(n: usize, us: &'a [u16], vs: &'a [u16], count: u32) -> Decided
-    ensures { result ≡ make_of n us.now vs.now count }
-{
-    match CityCountConstraint::new(n, us, vs, count) {
-        Ok(room) => Decided { code: 0, room },
-        Err(refusal) => Decided {
-            code: u8::from(refusal),
-            room: CityCountConstraint::empty(0, 0, 0),
-        },
+// A making as a record: of zeros where it is refused.
+impl From<Result<CityCountConstraint, Refusal>> for Decided {
+    ghost from_gives = { λ making decided. decided ≡ made making };
+
+    fn from(making: Result<CityCountConstraint, Refusal>) -> Decided {
+        match making {
+            Ok(room) => Decided { code: 0, room },
+            Err(refusal) => Decided {
+                code: u8::from(refusal),
+                room: CityCountConstraint::empty(0, 0, 0),
+            },
+        }
     }
 }

@@ -2,10 +2,11 @@
 #![tactic(auto)]
 
 ghost use Rattle.std.specs.Prelude.{◌≡◌};
-ghost use Rattle.city_count.specs.Room.{make_of};
+ghost use Rattle.city_count.specs.Room.{made, make_of};
 ghost use Rattle.edge_list.specs.EdgeList.{firsts, seconds};
 
-use city_count::Decided;
+use answers::Refusal;
+use city_count::CityCountConstraint;
 
 // An edge between two vertices.
 #[repr(C)]
@@ -19,8 +20,8 @@ pub struct Edge {
 const HELD: usize = 1985;
 
 // A room graph of `n` vertices with these edges, all undecided, or refused as the making from two slices is.
-pub fn make(n: usize, edges: &[Edge], count: u32) -> Decided
-    ensures { result ≡ make_of n (firsts edges.now) (seconds edges.now) count }
+pub fn make(n: usize, edges: &[Edge], count: u32) -> Result<CityCountConstraint, Refusal>
+    ensures { made result ≡ make_of n (firsts edges.now) (seconds edges.now) count }
 {
     let mut us = [0u16; HELD];
     let mut vs = [0u16; HELD];
@@ -29,5 +30,5 @@ pub fn make(n: usize, edges: &[Edge], count: u32) -> Decided
         us[i] = edge.u;
         vs[i] = edge.v;
     }
-    city_count::make(n, &us[..held], &vs[..held], count)
+    CityCountConstraint::new(n, &us[..held], &vs[..held], count)
 }

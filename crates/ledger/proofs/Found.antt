@@ -6,8 +6,8 @@ use mathlib.Core.Logic.{◌≢◌, ⊎_elim}
 use mathlib.Core.Bool.{Bool, true, false, not}
 use mathlib.Core.List.{List, [], ◌∷◌, ◌++◌, map}
 use native.Mathlib.Omega.{arith}
-use borrow.Author.Tests.{eqb-true, eqb-false, eq-eqb, ne_eqb, leb-true, ltb-true, lt-ltb}
-use lib.Dec.{eqb, ltb, leb}
+use borrow.Author.Tests.{eqb-true, eqb-false, eq-eqb, ne_eqb, leb-true}
+use lib.Dec.{eqb, leb}
 use lib.ListN.{length, get_or, take, length-map, length-append, get_or-map}
 use lib.Seq.{get_or-take, length-take-le}
 use Rattle.limits.specs.Limits.{most_borders}
@@ -15,16 +15,16 @@ use Rattle.lists.specs.Choice.{both, pick}
 use Rattle.lists.specs.Lists.{count}
 use Rattle.lists.proofs.Cases.{le_or_lt, eq_or_ne, true_or_false}
 use Rattle.lists.proofs.ChoiceLaws.{both_true}
-use Rattle.lists.proofs.ListLaws.{all_true, true_all, get_d_in}
+use Rattle.lists.proofs.ListLaws.{get_d_in}
 use Rattle.lists.proofs.CountLaws.{count_in}
 use Rattle.ledger.specs.declared.Book.{Book}
 use Rattle.ledger.specs.Ledger.{Decision, decision_of, decisions, state_for, state_in, standing, borders, all_exist, stroke_code, holds_of}
 use Rattle.ledger.specs.Books.{half, names_in, state_at, first_starts, book_holds, start_of}
 use Rattle.ledger.specs.Marks.{Named}
-use Rattle.ledger.specs.Moves.{Held, HeldBook, Room}
+use Rattle.ledger.specs.Moves.{Held, HeldBook}
 use Rattle.ledger.proofs.Question.{Question, due_of, due_le, holds_question}
 use Rattle.ledger.proofs.Standing.{Sound, not_named, standing_named, standing_given, sound_length}
-use Rattle.ledger.proofs.Strokes.{questions, code_fits, fits_same, sound_stroke}
+use Rattle.ledger.proofs.Strokes.{exist_more, questions, code_fits, fits_same, sound_stroke}
 use Rattle.ledger.proofs.NameLaws.{start_le}
 
 -- the names with their states
@@ -151,9 +151,7 @@ module _ (n : ℕ) (given : ℕ → Bool) (b : Book) (q : book_holds n given b �
       let named : length l ≡ b.len = sym (simp length-map) ∙ ap length (borders_in_lem b.states (names_in b)) ∙ size in
       let e = (questions n (state_at b.states) ds z).0 in
       record {
-        exist =
-            true_all _ ds
-            (λ d i. lt-ltb d.border most_borders (let h = ltb-true d.border n (all_true (λ (d : Decision). ltb d.border n) ds e d i) in omega (arith, h, p.few)));
+        exist = exist_more n most_borders ds p.few e;
         fits = omega (arith, sound_length n given (l ++ ds) more, length-append l ds, named, as_many es, p.few);
       }
 
@@ -174,10 +172,8 @@ module _ (n : ℕ) (given : ℕ → Bool) (b : Book) (q : book_holds n given b �
       }
 
 -- of a book that question 2 accepts, whose arrays are as long as their types say
-pub room : (n : ℕ) (b : Book) → Held n b → length b.states ≡ most_borders → length b.names ≡ most_borders → (es : List ℕ) → stroke_code n (state_at b.states) (decisions es) ≡ 0 → Room b es
-room n b h s l es z =
-    let p = placeable n h.given b h.holds (record { few = h.few; states_are = s; names_are = l }) es z in
-    record { exist = p.exist; fits = p.fits }
+pub room : (n : ℕ) (b : Book) → Held n b → length b.states ≡ most_borders → length b.names ≡ most_borders → (es : List ℕ) → stroke_code n (state_at b.states) (decisions es) ≡ 0 → Placeable b es
+room n b h s l es z = placeable n h.given b h.holds (record { few = h.few; states_are = s; names_are = l }) es z
 
 pub few_names : (b : Book) → HeldBook b → b.len ≤ most_borders
 few_names b k = omega (arith, (held k.n k.held.given b k.held.holds).0, k.held.few)

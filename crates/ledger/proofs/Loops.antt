@@ -9,8 +9,9 @@ use lib.Dec.{ltb}
 use lib.ListN.{length, get_or, take, drop, drop_of_length-le, length-map, get_or-map}
 use lib.Seq.{drop-cons, get_or-take, length-take-le}
 use Rattle.lists.specs.Choice.{both, pick}
-use Rattle.lists.specs.Lists.{count_from, all}
-use Rattle.lists.proofs.ListLaws.{all_start, all_end}
+use Rattle.lists.specs.Lists.{In, range, count_from, all}
+use Rattle.lists.proofs.ChoiceLaws.{same_truth}
+use Rattle.lists.proofs.ListLaws.{all_true, true_all, in_range, all_start, all_end}
 use Rattle.ledger.specs.Books.{half, borders_in}
 use Rattle.ledger.specs.Marks.{fits_of, fit_all}
 
@@ -40,6 +41,18 @@ module _ (n : ℕ) (s m : List ℕ) where
         → both (ltb worst 1) (all (λ e. fits_of (get_or s e 0) (get_or m e 0)) (count_from i (n - i))) ≡ fit_all n s m → ltb worst 1 ≡ fit_all n s m
     unfolding goes
     fits_end h k = sym (and_true (ltb worst 1)) ∙ ap (both (ltb worst 1)) (sym (all_end goes n i h)) ∙ k
+
+-- the first n states alone tell
+pub fits_front : (n : ℕ) (s m : List ℕ) → n ≤ length s → fit_all (length (take n s)) (take n s) m ≡ fit_all n s m
+unfolding fit_all
+fits_front n s m h =
+    let front : ℕ → Bool = λ e. fits_of (get_or (take n s) e 0) (get_or m e 0) in
+    let goes : ℕ → Bool = λ e. fits_of (get_or s e 0) (get_or m e 0) in
+    let same : (e : ℕ) → In e (range n) → front e ≡ goes e = λ e i. let l = in_range n e i in rw (get_or-take n s e 0 l) in
+    rw (length-take-le n s h)
+    (same_truth (all front (range n)) (all goes (range n))
+    (λ t. true_all goes (range n) (λ e i. sym (same e i) ∙ all_true front (range n) t e i))
+    (λ t. true_all front (range n) (λ e i. same e i ∙ all_true goes (range n) t e i)))
 
 pub new_or_not : (t f rest : Bool) → both f (pick t rest false) ≡ both (both t f) rest
 new_or_not true f rest = refl

@@ -13,7 +13,7 @@ use Rattle.lists.specs.Lists.{count, all}
 use Rattle.lists.proofs.Cases.{le_or_lt, true_or_false}
 use Rattle.lists.proofs.ListLaws.{all_true, true_all}
 use Rattle.lists.proofs.CountLaws.{in_count, count_in}
-use Rattle.ledger.specs.Ledger.{Decision, standing, borders, none_twice, stroke_code}
+use Rattle.ledger.specs.Ledger.{Decision, standing, borders, all_exist, none_twice, stroke_code}
 use Rattle.ledger.proofs.Standing.{Sound, count_both, undecided, not_decided}
 
 -- the borders of a stroke exist, none stands there twice, and all are undecided
@@ -27,6 +27,12 @@ pub all_borders : (p : ℕ → Bool) (ds : List Decision) → all (λ (d : Decis
 unfolding all
 all_borders p [] = refl
 all_borders p (d ∷ ds) = ap (both (p d.border)) (all_borders p ds)
+
+-- borders that exist among n, exist among more
+pub exist_more : (n m : ℕ) (ds : List Decision) → n ≤ m → all_exist n ds ≡ true → all_exist m ds ≡ true
+exist_more n m ds few q =
+    true_all _ ds
+    (λ d i. lt-ltb d.border m (let h = ltb-true d.border n (all_true (λ (d : Decision). ltb d.border n) ds q d i) in omega (arith, h, few)))
 
 module _ (n : ℕ) (state : ℕ → ℕ) (ds : List Decision) where
   exist : Bool

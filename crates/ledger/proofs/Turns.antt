@@ -6,23 +6,24 @@ use mathlib.Core.Bool.{Bool, true, false}
 use mathlib.Core.List.{List, [], ◌∷◌, map}
 use native.Mathlib.Omega.{arith}
 use native.Mathlib.Numerals.{add-one}
-use borrow.Author.Tests.{lt-leb, lt-ltb, le-ltb, ltb-true}
+use borrow.Author.Tests.{lt-leb, lt-ltb, ltb-true}
 use lib.Dec.{eqb, ltb}
 use lib.ListN.{length, get_or, drop, set, replicate, drop_of_length-le, length-map, get_or-map, length-set, length-replicate}
 use lib.Seq.{drop-cons, sets}
 use borrow.Rule.Slice.PartMut.{put_mid, mid_of, mid_len}
-use Rattle.std.specs.Prelude.{max}
+use Rattle.std.specs.Prelude.{max, Option, MatchOption, IsTrue, fold}
+use Rattle.std.specs.List.{reduce}
 use Rattle.limits.specs.Limits.{most_borders}
 use Rattle.lists.specs.Choice.{both, pick}
 use Rattle.lists.specs.Lists.{In, all, count_from}
-use Rattle.lists.proofs.Cases.{le_or_lt, true_or_false, not_both}
+use Rattle.lists.proofs.Cases.{true_or_false, not_both}
 use Rattle.lists.proofs.ChoiceLaws.{both_true, true_both, same_truth}
 use Rattle.lists.proofs.ListLaws.{all_true, true_all, get_d_in, all_step}
 use Rattle.lists.proofs.SetsLaws.{part_written}
 use Rattle.lists.proofs.Bridges.{filled}
 use Rattle.ledger.specs.declared.Book.{Book}
 use Rattle.ledger.specs.Ledger.{Decision, decision_of, decisions}
-use Rattle.ledger.specs.Books.{book, half, names_from, names_of, names_in, state_all, clear_all, placed, taken_from}
+use Rattle.ledger.specs.Books.{book, half, names_from, names_of, names_in, state_all, clear_all}
 use Rattle.ledger.specs.Marks.{fits_of, fit_all, all_below, new_names, mark_all, Marked, Named}
 use Rattle.ledger.proofs.MarkLaws.{new_names_lem}
 use Rattle.ledger.proofs.Loops.{new_or_not, misfit_below, both_both, and_true}
@@ -41,36 +42,16 @@ greatest_on a b n rest = ap (λ t. both t rest) (greatest_below a b n) ∙ both_
 next_of : {A : Type 0} (l : List A) (i : ℕ) (d : A) → i < length l → drop i l ≡ get_or l i d ∷ drop (i + 1) l
 next_of l i d h = rw (add-one, drop-cons l i d h)
 
--- NAMES BELOW n: the greatest of the first i and what is left
-module _ (l : List ℕ) (n : ℕ) where
-  pub below_none : length l ≡ 0 → true ≡ all_below n l
-  unfolding all_below all
-  below_none z = go l z
-    where
-      go : (l : List ℕ) → length l ≡ 0 → true ≡ all_below n l
-      go [] z = refl
-      go (x ∷ l) z = absurd (omega arith)
+-- NAMES BELOW n: the greatest is
+below_fold : (n x : ℕ) (l : List ℕ) → ltb (fold max x l) n ≡ both (ltb x n) (all_below n l)
+unfolding all_below all
+below_fold n x [] = sym (and_true (ltb x n))
+below_fold n x (y ∷ l) = below_fold n (max x y) l ∙ greatest_on x y n (all_below n l)
 
-  pub below_start : 0 < length l → both (ltb 0 n) (all_below n l) ≡ all_below n l
-  unfolding all_below all
-  below_start h =
-      ⊎_elim
-      (λ (z : n ≤ 0).
-      let e : l ≡ get_or l 0 0 ∷ drop 1 l = next_of l 0 0 h in
-      rw (le-ltb 0 n z) (sym (ap (all_below n) e ∙ ap (λ t. both t (all_below n (drop 1 l))) (le-ltb (get_or l 0 0) n (omega arith)))))
-      (λ (p : 0 < n). rw (lt-ltb 0 n p))
-      (le_or_lt n 0)
-
-  pub below_on : (top i top' : ℕ) → i < length l → top' ≡ max top (get_or l i 0) → both (ltb top n) (all_below n (drop i l)) ≡ all_below n l
-      → both (ltb top' n) (all_below n (drop (i + 1) l)) ≡ all_below n l
-  unfolding all_below all
-  below_on top i top' h g k =
-      ap (λ x. both (ltb x n) (all_below n (drop (i + 1) l))) g ∙ greatest_on top (get_or l i 0) n (all_below n (drop (i + 1) l))
-      ∙ ap (λ m. both (ltb top n) (all_below n m)) (sym (next_of l i 0 h)) ∙ k
-
-  pub below_end : (top i : ℕ) → length l ≤ i → both (ltb top n) (all_below n (drop i l)) ≡ all_below n l → ltb top n ≡ all_below n l
-  unfolding all_below all
-  below_end top i h k = sym (and_true (ltb top n)) ∙ ap (λ m. both (ltb top n) (all_below n m)) (sym (drop_of_length-le l h)) ∙ k
+pub below_greatest : (n : ℕ) (l : List ℕ) (m : Option ℕ) (r : Bool) → m ≡ reduce max l → MatchOption m (IsTrue r) (λ x. r ≡ ltb x n) → r ≡ all_below n l
+unfolding all_below all
+below_greatest n [] m r q k = rw q at k
+below_greatest n (x ∷ l) m r q k = (rw q at k) ∙ below_fold n x l
 
 -- THE STATES AND THEIR MARKS: `worst` is 1 where one of the first i does not go with its mark
 pub fits_on : (n : ℕ) (s m : List ℕ) (worst i next : ℕ) (mis : ℕ) → i < n → mis ≡ pick (fits_of (get_or s i 0) (get_or m i 0)) 0 1 → next ≡ max worst mis
@@ -140,15 +121,23 @@ unfolding all
 all_entries p [] = refl
 all_entries p (x ∷ es) = rw (all_entries p es)
 
--- A STROKE placed as far as its first i entries
+-- THE STATES of a stroke, and its names, placed as far as its first i entries
 pub record Placing (b : Book) (es : List ℕ) (b' : Book) (i : ℕ) : Type 0 where
   pub states : state_all b'.states (decisions (drop i es)) ≡ state_all b.states (decisions es)
-  pub names : sets b'.names (b.len + i) (names_from i (decisions (drop i es))) ≡ sets b.names b.len (names_of (decisions es))
+  pub same_names : b'.names ≡ b.names
   pub same_len : b'.len ≡ b.len
 
-pub placed_end : (b : Book) (es : List ℕ) (b' : Book) (i : ℕ) → length es ≤ i → Placing b es b' i → book b'.states b'.names (b'.len + length es) ≡ placed b (decisions es)
-placed_end b es b' i h w =
-    rw (states_end es i b'.states _ h w.states, names_end es i b'.names _ b.len h w.names, w.same_len, length-map es decision_of)
+pub record Naming (b : Book) (es : List ℕ) (b' : Book) (i : ℕ) : Type 0 where
+  pub names : sets b'.names (b.len + i) (names_from i (decisions (drop i es))) ≡ sets b.names b.len (names_of (decisions es))
+  pub same_states : b'.states ≡ b.states
+  pub same_len : b'.len ≡ b.len
+
+module _ (b : Book) (es : List ℕ) (b' : Book) (i : ℕ) (h : length es ≤ i) where
+  pub placed_end : Placing b es b' i → book b'.states b'.names b'.len ≡ book (state_all b.states (decisions es)) b.names b.len
+  placed_end w = rw (states_end es i b'.states _ h w.states, w.same_names, w.same_len)
+
+  pub named_end : Naming b es b' i → book b'.states b'.names (b'.len + length es) ≡ book b.states (sets b.names b.len (names_of (decisions es))) (b.len + length es)
+  named_end w = rw (names_end es i b'.names _ b.len h w.names, w.same_states, w.same_len)
 
 -- BORDERS cleared as far as the names before place i
 pub record Clearing (b : Book) (from : ℕ) (b' : Book) (i : ℕ) : Type 0 where
@@ -171,17 +160,16 @@ module _ (b : Book) (from : ℕ) (k : Named b.names from b.len) (b' : Book) (i :
         same_len = w.same_len;
       }
 
-  -- the names' places are filled with zeros
-  pub cleared : (ys : List ℕ) → b.len ≤ i → length ys ≡ length (mid_of from (b'.len - from) b'.names)
-      → ((k d : ℕ) → k < length (mid_of from (b'.len - from) b'.names) → ◌≡◌ {A = ℕ} 0 0 → get_or ys k d ≡ 0)
-      → book b'.states (put_mid from (b'.len - from) b'.names ys) from ≡ taken_from b from
-  cleared ys h size each =
-      let n = b.len - from in
-      let zeros : length (replicate {A = ℕ} n 0) ≡ n = length-replicate {A = ℕ} n 0 in
-      let long = k.long in
-      let turn = k.in_turn in
-      let mid : length (mid_of from (b'.len - from) b'.names) ≡ n = rw (w.same_len, w.same_names) (mid_len from b.len b.names long) in
-      let ys_are : ys ≡ replicate n 0 = filled ys n 0 (size ∙ mid) (λ j q. each j 0 (rw mid q) refl) in
-      let names : put_mid from n b.names ys ≡ sets b.names from (replicate n 0) =
-      rw ys_are (part_written b.names (replicate n 0) from n (sym zeros) (omega (arith, zeros))) in
-      rw (clear_end b.names b.len i k.long b'.states _ w.states h, w.same_names, w.same_len, names)
+  pub cleared : b.len ≤ i → book b'.states b'.names b'.len ≡ book (clear_all b.states (drop from (names_in b))) b.names b.len
+  cleared h = rw (clear_end b.names b.len i k.long b'.states _ w.states h, w.same_names, w.same_len)
+
+-- the places of names are filled with zeros
+pub freed : (names : List ℕ) (from len : ℕ) → from ≤ len → len ≤ length names → (ys : List ℕ) → length ys ≡ length (mid_of from (len - from) names)
+    → ((k d : ℕ) → k < length (mid_of from (len - from) names) → ◌≡◌ {A = ℕ} 0 0 → get_or ys k d ≡ 0)
+    → put_mid from (len - from) names ys ≡ sets names from (replicate (len - from) 0)
+freed names from len turn long ys size each =
+    let n = len - from in
+    let zeros : length (replicate {A = ℕ} n 0) ≡ n = length-replicate {A = ℕ} n 0 in
+    let mid : length (mid_of from n names) ≡ n = mid_len from len names long in
+    let ys_are : ys ≡ replicate n 0 = filled ys n 0 (size ∙ mid) (λ j q. each j 0 (rw mid q) refl) in
+    rw ys_are (part_written names (replicate n 0) from n (sym zeros) (omega (arith, zeros)))

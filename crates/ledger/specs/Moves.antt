@@ -1,9 +1,8 @@
 -- What a book's methods ask, and what they leave (SPEC 1.5, 12). Assumes nothing.
-use Rattle.std.specs.Prelude.{ℕ, ◌+◌, ◌≤◌, ◌≡◌, Bool, true, List, eqb, length, get_or}
+use Rattle.std.specs.Prelude.{ℕ, ◌≤◌, ◌≡◌, Bool, true, List, eqb, length, get_or}
 use Rattle.limits.specs.Limits.{most_borders}
 use Rattle.lists.specs.Choice.{pick}
 use Rattle.ledger.specs.declared.Book.{Book}
-use Rattle.ledger.specs.Ledger.{decisions, all_exist}
 use Rattle.ledger.specs.Books.{book_holds}
 
 -- marks of n borders: 1 at each given wall, and 0 elsewhere
@@ -22,11 +21,6 @@ pub record Held (n : ℕ) (b : Book) : Type 0 where
 pub record HeldBook (b : Book) : Type 0 where
   pub n : ℕ
   pub held : Held n b
-
--- the borders of a stroke have places, and its names have room behind those that stand
-pub record Room (b : Book) (entries : List ℕ) : Type 0 where
-  pub exist : all_exist most_borders (decisions entries) ≡ true
-  pub fits : b.len + length entries ≤ most_borders
 
 -- the book that a call leaves: as it was where a number refuses the call (SPEC 3.12), and changed where none does
 abbrev pub left : ℕ → Book → Book → Book

@@ -2,8 +2,9 @@
 // question refuses a stroke or an undo, and how a stroke is placed and taken back. A book is changed where it stands.
 #![tactic(auto)]
 
-ghost use Rattle.std.specs.Prelude.{◌≡◌, true, ◌%◌, ◌≤◌, length, map, eqb};
+ghost use Rattle.std.specs.Prelude.{◌≡◌, true, ◌%◌, ◌+◌, ◌-◌, ◌≤◌, length, map, drop, replicate, eqb};
 ghost use Rattle.limits.specs.Limits.{most_borders};
+ghost use Rattle.answers.specs.Refusals.{code_of};
 ghost use Rattle.lists.specs.Choice.{both};
 ghost use Rattle.ledger.specs.Ledger.{decisions, state_for, borders, all_exist, none_twice, all_free, stroke_code, undo_code};
 ghost use Rattle.ledger.specs.Books.{half, state_at, first_starts, book_holds, name_of, start_of};
@@ -22,9 +23,9 @@ pub struct Book {
 }
 
 impl Book {
-    ghost use Rattle.ledger.specs.Moves.{Held, HeldBook, GivenMarks, Room, left};
-    ghost use Rattle.ledger.specs.Books.{placed, taken, taken_from};
-    ghost use Rattle.answers.specs.Refusals.{code_of};
+    ghost use Rattle.std.proofs.lemmas.List.Edits.{sets};
+    ghost use Rattle.ledger.specs.Moves.{Held, HeldBook, GivenMarks, left};
+    ghost use Rattle.ledger.specs.Books.{book, names_in, names_of, state_all, clear_all, placed, taken};
 
     // Whether the first name starts a stroke, where there is one.
     fn first_starts(&self) -> bool
@@ -47,33 +48,25 @@ impl Book {
         if !mark_names(&self.names[..self.len], n, marks) {
             return false;
         }
-        all_fit(&self.states, marks, n)
+        all_fit(&self.states[..n], marks)
     }
 
-    // Which question refuses a stroke over n borders, 3, 14 or 4: each is put to the whole stroke before the next.
-    fn check_stroke(&self, entries: &[u16], n: usize) -> Result<(), Refusal>
-        requires { n ≤ most_borders }
-        ensures { code_of result ≡ stroke_code n (state_at self.now.states) (decisions entries.now) }
+    // Gives the borders of a stroke their states.
+    pub fn place_states(&mut self, entries: &[u16])
+        requires { all_exist most_borders (decisions entries.now) ≡ true }
+        ensures { self.new ≡ book (state_all self.old.states (decisions entries.now)) self.old.names self.old.len }
     {
-        if !all_exist(entries, n) {
-            return Err(Refusal::Missing);
+        for &entry in entries {
+            self.states[border_of(entry)] = state_of(entry);
         }
-        if !none_twice(entries, n) {
-            return Err(Refusal::Repeated);
-        }
-        if !all_free(&self.states, entries, n) {
-            return Err(Refusal::Decided);
-        }
-        Ok(())
     }
 
-    // Gives the borders of a stroke their states, and names them behind the names that stand.
-    fn place(&mut self, entries: &[u16])
-        requires { Room self.old entries.now }
-        ensures { self.new ≡ placed self.old (decisions entries.now) }
+    // Names the borders of a stroke behind the names that stand.
+    pub fn place_names(&mut self, entries: &[u16])
+        requires { self.old.len + length entries.now ≤ most_borders }
+        ensures { self.new ≡ book self.old.states (sets self.old.names self.old.len (names_of (decisions entries.now))) (self.old.len + length entries.now) }
     {
         for (i, &entry) in entries.iter().enumerate() {
-            self.states[border_of(entry)] = state_of(entry);
             self.names[self.len + i] = name_of(entry, i);
         }
         self.len += entries.len();
@@ -85,13 +78,14 @@ impl Book {
         ensures code { code_of result ≡ stroke_code n (state_at self.old.states) (decisions entries.now) }
         ensures book { self.new ≡ left (stroke_code n (state_at self.old.states) (decisions entries.now)) self.old (placed self.old (decisions entries.now)) }
     {
-        self.check_stroke(entries, n)?;
-        self.place(entries);
+        check_stroke(&self.states, entries, n)?;
+        self.place_states(entries);
+        self.place_names(entries);
         Ok(())
     }
 
     // Where the last stroke starts.
-    fn last_start(&self) -> usize
+    pub fn last_start(&self) -> usize
         requires { self.now.len ≤ most_borders }
         ensures { result ≡ start_of self.now.names self.now.len }
     {
@@ -103,14 +97,21 @@ impl Book {
         0
     }
 
-    // The borders named from place `from` on are undecided again, and their places free.
-    fn take_from(&mut self, from: usize)
+    // The borders named from place `from` on are undecided again.
+    pub fn clear_states(&mut self, from: usize)
         requires { Named self.old.names from self.old.len }
-        ensures { self.new ≡ taken_from self.old from }
+        ensures { self.new ≡ book (clear_all self.old.states (drop from (names_in self.old))) self.old.names self.old.len }
     {
         for i in from..self.len {
             self.states[border_of(self.names[i])] = 0;
         }
+    }
+
+    // The places of the names from place `from` on are free again.
+    pub fn clear_names(&mut self, from: usize)
+        requires { (from ≤ self.old.len) × (self.old.len ≤ most_borders) }
+        ensures { self.new ≡ book self.old.states (sets self.old.names from (replicate (self.old.len - from) 0)) from }
+    {
         self.names[from..self.len].fill(0);
         self.len = from;
     }
@@ -121,26 +122,50 @@ impl Book {
         ensures code { code_of result ≡ undo_code self.old.len }
         ensures book { self.new ≡ left (undo_code self.old.len) self.old (taken self.old) }
     {
-        if self.len == 0 {
-            return Err(Refusal::NothingToUndo);
-        }
-        self.take_from(self.last_start());
+        check_undo(self.len)?;
+        let from = self.last_start();
+        self.clear_states(from);
+        self.clear_names(from);
         Ok(())
     }
 }
 
-// Whether each name is a border: the greatest is. The loop has one exit, so the compiler takes many elements at a time.
+// Which question refuses a stroke over n borders, 3, 14 or 4: each is put to the whole stroke before the next.
+pub fn check_stroke(states: &[u8], entries: &[u16], n: usize) -> Result<(), Refusal>
+    requires { (n ≤ length states.now) × (n ≤ most_borders) }
+    ensures { code_of result ≡ stroke_code n (state_at states.now) (decisions entries.now) }
+{
+    if !all_exist(entries, n) {
+        return Err(Refusal::Missing);
+    }
+    if !none_twice(entries) {
+        return Err(Refusal::Repeated);
+    }
+    if !all_free(states, entries) {
+        return Err(Refusal::Decided);
+    }
+    Ok(())
+}
+
+// Whether question 5 refuses an undo of so many decisions: there is none.
+pub fn check_undo(len: usize) -> Result<(), Refusal>
+    ensures { code_of result ≡ undo_code len }
+{
+    if len == 0 {
+        return Err(Refusal::NothingToUndo);
+    }
+    Ok(())
+}
+
+// Whether each name is a border: the greatest is.
 fn inside(names: &[u16], n: usize) -> bool
     ensures { result ≡ all_below n names.now }
 {
-    if names.is_empty() {
-        return true;
-    }
-    let mut top = 0u16;
-    for &name in names {
-        top = top.max(name);
-    }
-    usize::from(top) < n
+    names
+        .iter()
+        .copied()
+        .max()
+        .is_none_or(|top| usize::from(top) < n)
 }
 
 // Marks what the ledger names. False where a name is no border or is marked already.
@@ -160,14 +185,14 @@ fn mark_names(names: &[u16], n: usize, marks: &mut [u8]) -> bool
     new
 }
 
-// Whether each of the first n states goes with its mark: the worst does. One exit here too.
-fn all_fit(states: &[u8], marks: &[u8], n: usize) -> bool
-    requires { (n ≤ length states.now) × (n ≤ length marks.now) }
-    ensures { result ≡ fit_all n states.now marks.now }
+// Whether each state goes with its mark: the worst does. The loop has one exit, so the compiler takes many elements at a time.
+fn all_fit(states: &[u8], marks: &[u8]) -> bool
+    requires { length states.now ≤ length marks.now }
+    ensures { result ≡ fit_all (length states.now) states.now marks.now }
 {
     let mut worst = 0u8;
-    for e in 0..n {
-        worst = worst.max(u8::from(!fits(states[e], marks[e])));
+    for (e, &state) in states.iter().enumerate() {
+        worst = worst.max(u8::from(!fits(state, marks[e])));
     }
     worst < 1
 }
@@ -180,9 +205,9 @@ fn all_exist(entries: &[u16], n: usize) -> bool
 }
 
 // Whether each border of a stroke is new when it is come to, by marks that are free at first.
-fn each_new(entries: &[u16], n: usize, marks: &mut [u8]) -> bool
-    requires entries_value { all_exist n (decisions entries.now) ≡ true }
-    requires unmarked { Unmarked n marks.old }
+fn each_new(entries: &[u16], marks: &mut [u8]) -> bool
+    requires entries_value { all_exist (length marks.old) (decisions entries.now) ≡ true }
+    requires unmarked { Unmarked (length marks.old) marks.old }
     ensures { result ≡ none_twice (borders (decisions entries.now)) }
 {
     for &entry in entries {
@@ -196,20 +221,20 @@ fn each_new(entries: &[u16], n: usize, marks: &mut [u8]) -> bool
 }
 
 // Whether no border stands twice in a stroke. A stroke of one needs no marks.
-fn none_twice(entries: &[u16], n: usize) -> bool
-    requires { (n ≤ most_borders) × (all_exist n (decisions entries.now) ≡ true) }
+fn none_twice(entries: &[u16]) -> bool
+    requires { all_exist most_borders (decisions entries.now) ≡ true }
     ensures { result ≡ none_twice (borders (decisions entries.now)) }
 {
     if entries.len() < 2 {
         return true;
     }
     let mut marks = [0u8; limits::BORDERS];
-    each_new(entries, n, &mut marks)
+    each_new(entries, &mut marks)
 }
 
 // Whether each border of a stroke is undecided.
-fn all_free(states: &[u8], entries: &[u16], n: usize) -> bool
-    requires { (n ≤ length states.now) × (all_exist n (decisions entries.now) ≡ true) }
+fn all_free(states: &[u8], entries: &[u16]) -> bool
+    requires { all_exist (length states.now) (decisions entries.now) ≡ true }
     ensures { result ≡ all_free (state_at states.now) (decisions entries.now) }
 {
     for &entry in entries {

@@ -160,6 +160,3 @@ module _ (g : Graph) (s : ℕ → ℕ) where
 -- what a bound tells
 pub above_least : (count r : ℕ) {x : ℕ} → count < r → r ≤ x → true ≡ ltb count x
 above_least count r {x} h l = sym (lt-ltb count x (omega arith))
-
-pub below_most : (count r : ℕ) {x : ℕ} → r ≤ count → x ≤ r → false ≡ ltb count x
-below_most count r {x} h l = sym (le-ltb count x (omega arith))

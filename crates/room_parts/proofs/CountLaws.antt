@@ -58,9 +58,6 @@ taken_none g count s {p} l e =
     }
 
 module _ {g : Graph} {count : ℕ} {s : ℕ → ℕ} {p : List ℕ} {left i : ℕ} (w : Taken g count s p left i) where
-  pub taken_parents : g.vertices ≤ 1024 → Parents g.vertices p
-  taken_parents l = record { bound = l; below = w.joins.good.below }
-
   -- one edge more
   module _ (p' : List ℕ) (u v : ℕ) (r : Bool) (hu : get_or g.us i 0 < g.vertices) (hv : get_or g.vs i 0 < g.vertices) (eu : u ≡ get_or g.us i 0)
       (ev : v ≡ get_or g.vs i 0) (er : r ≡ both (is_connected (s i)) (united g.vertices p u v))

@@ -19,8 +19,6 @@ pub struct RoomGraph<'a> {
     pub us: &'a [u16],
     pub vs: &'a [u16],
     pub states: &'a [u8],
-    ghost us_whole: { length us.now ≡ length states.now },
-    ghost vs_whole: { length vs.now ≡ length states.now },
     ghost lent: { Lent vertices (length states.now) us.now vs.now states.now },
 }
 

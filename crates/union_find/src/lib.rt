@@ -4,7 +4,7 @@
 
 ghost use Rattle.std.specs.Prelude.{◌≡◌, ◌≤◌};
 ghost use Rattle.limits.specs.Limits.{most_cells};
-ghost use Rattle.union_find.specs.UnionFind.{new_of, find_of, unite_of};
+ghost use Rattle.union_find.specs.UnionFind.{made_as};
 
 use answers::Refusal;
 use limits::CELLS;
@@ -24,7 +24,7 @@ impl UnionFind {
     ghost use Rattle.answers.specs.Refusals.{code_of};
     ghost use Rattle.union_find.specs.Chains.{climb, shortened, united, hung, parents_exist, chains_end};
     ghost use Rattle.union_find.specs.Requires.{Stays, Parents};
-    ghost use Rattle.union_find.specs.UnionFind.{zeros, union_of, check_of, vertex_of, made_as, found_as, united_as};
+    ghost use Rattle.union_find.specs.UnionFind.{zeros, union_of, new_of, find_of, unite_of, check_of, vertex_of, found_as, united_as};
 
     // A union of `n` vertices, each its own parent.
     pub fn new(n: usize) -> Result<UnionFind, Refusal>
@@ -37,6 +37,7 @@ impl UnionFind {
     }
 
     // The same of a number of vertices that is known to fit.
+    #[tactic(auto, unfolding(crate::specs::UnionFind::zeros))]
     pub fn alone(n: usize) -> UnionFind
         requires { n ≤ most_cells }
         ensures { result ≡ union_of (sets zeros 0 (range n)) n }
@@ -45,10 +46,18 @@ impl UnionFind {
             parent: [0; CELLS],
             n,
         };
-        for i in 0..n {
-            union.parent[i] = i as u16;
-        }
+        union.separate();
         union
+    }
+
+    // Makes each vertex a part of its own: its own parent.
+    pub fn separate(&mut self)
+        requires { self.old.n ≤ most_cells }
+        ensures { self.new ≡ union_of (sets self.old.parent 0 (range self.old.n)) self.old.n }
+    {
+        for i in 0..self.n {
+            self.parent[i] = i as u16;
+        }
     }
 
     // The root of `x`; its chain is shortened.
@@ -71,7 +80,7 @@ impl UnionFind {
     }
 
     // The vertex `depth` steps above `x`, which is its root where the chain is no longer; each vertex on the way then names it.
-    fn climb(&mut self, x: usize, depth: usize) -> usize
+    pub fn climb(&mut self, x: usize, depth: usize) -> usize
         requires { Stays self.old.parent x }
         ensures value { result ≡ climb depth self.old.parent x }
         ensures after { self.new ≡ union_of (shortened depth self.old.parent x) self.old.n }
@@ -178,17 +187,21 @@ pub struct United {
     pub union: UnionFind,
 }
 
-pub fn new(n: usize) -> Made
-    ensures { result ≡ new_of n }
-{
-    match UnionFind::new(n) {
-        Ok(union) => Made { code: 0, union },
-        Err(refusal) => Made {
-            code: u8::from(refusal),
-            union: UnionFind {
-                parent: [0; CELLS],
-                n: 0,
+// A making as a record: of zeros where it is refused.
+impl From<Result<UnionFind, Refusal>> for Made {
+    ghost from_gives = { λ making made. made ≡ made_as making };
+
+    #[tactic(auto, unfolding(crate::specs::UnionFind::zeros))]
+    fn from(making: Result<UnionFind, Refusal>) -> Made {
+        match making {
+            Ok(union) => Made { code: 0, union },
+            Err(refusal) => Made {
+                code: u8::from(refusal),
+                union: UnionFind {
+                    parent: [0; CELLS],
+                    n: 0,
+                },
             },
-        },
+        }
     }
 }

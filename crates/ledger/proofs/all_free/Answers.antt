@@ -1,16 +1,14 @@
 -- `ledger::all_free` meets its contract: the entries from here on are still to be tested. Assumes nothing.
-use native.Mathlib.Omega.{arith}
 use borrow.Author.Tests.{eq-eqb, ne_eqb}
 use lib.Dec.{eqb}
-use lib.ListN.{get_or}
+use lib.ListN.{get_or, length}
 use Rattle.ledger.specs.Ledger.{Decision}
 use Rattle.ledger.proofs.StrokeLoops.{test_on, test_fails, test_end, entry_below}
 use Rattle.ledger.proofs.all_free.Goals as goal
 
 pub bounds-states-border_of : goal.bounds-states-border_of
 bounds-states-border_of c =
-    let e = entry_below c.args.entries.now c.loop-entry.entry-index c.args.n c.requires.1 c.loop-entry-test.true in
-    rw c.border_of.ensures (omega (arith, e, c.requires.0))
+    rw c.border_of.ensures (entry_below c.args.entries.now c.loop-entry.entry-index (length c.args.states.now) c.requires c.loop-entry-test.true)
 
 pub returns-then-states-border_of-ne0 : goal.returns-then-states-border_of-ne0
 returns-then-states-border_of-ne0 c =

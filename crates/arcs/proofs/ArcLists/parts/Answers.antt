@@ -27,7 +27,11 @@ loop-s-preserved c =
           (sweep_pass a.vertices a.head a.next a.to c.loop-s.invariant c.loop-s-test.true w.if-seen-s-eq0.false)
     ]
 
-pub returns : goal.returns
-returns c E w =
+pub returns-clause-by_arcs : goal.returns-clause-by_arcs
+returns-clause-by_arcs c E k =
+    let a = c.args.self.now in sweep_all a.vertices a.head a.next a.to c.loop-s.invariant (omega arith) E k
+
+pub returns-clause-by_edges : goal.returns-clause-by_edges
+returns-clause-by_edges c E w =
     let a = c.args.self.now in
     sweep_all a.vertices a.head a.next a.to c.loop-s.invariant (omega arith) E (link_all E a.vertices a.arcs a.head a.next a.to a.lists w)

@@ -1,20 +1,16 @@
 -- `CityCountConstraint::check` meets its contract: each test is a question of `check_of`. Assumes nothing.
-use Rattle.std.proofs.Common.{◌≡◌, true, false, length, sym, ◌∙◌, arith, rules}
-use Rattle.limits.specs.Limits.{most_borders}
+use Rattle.std.proofs.Common.{true, false, ◌∙◌, rules}
 use Rattle.ledger.specs.Books.{zeros}
 use Rattle.ledger.proofs.BookLaws.{no_marks, by_marks}
-use Rattle.city_count.proofs.LoopLaws.{ends_taken}
+use Rattle.city_count.proofs.LoopLaws.{ends_told}
 use Rattle.city_count.proofs.RoomLaws.{no_ends, by_book}
 use Rattle.city_count.proofs.CityCountConstraint.check.Goals as goal
 
 pub returns-then-not-ends_exist : goal.returns-then-not-ends_exist
 returns-then-not-ends_exist c =
     let r = c.args.self.now in
-    let us_long : length r.us ≡ most_borders = search rules in
-    let vs_long : length r.vs ≡ most_borders = search rules in
-    let e = ends_taken r.vertices r.edges r.us r.vs (omega arith) (omega arith) in
     no_ends r.vertices r.edges r.us r.vs r.book c.if-self-gt-CELLS.false c.if-self-gt-BORDERS.false
-    (sym e ∙ sym c.ends_exist.ensures ∙ c.if-not-ends_exist.true)
+    (ends_told r.vertices r.edges r.us r.vs c.if-self-gt-BORDERS.false (search rules) (search rules) c.ends_exist.ensures c.if-not-ends_exist.true)
 
 pub holds-requires : goal.holds-requires
 unfolding zeros
@@ -24,11 +20,8 @@ pub returns-then-not-holds : goal.returns-then-not-holds
 unfolding zeros
 returns-then-not-holds c =
     let r = c.args.self.now in
-    let us_long : length r.us ≡ most_borders = search rules in
-    let vs_long : length r.vs ≡ most_borders = search rules in
-    let e = ends_taken r.vertices r.edges r.us r.vs (omega arith) (omega arith) in
     by_book r.vertices r.edges r.us r.vs r.book c.if-self-gt-CELLS.false c.if-self-gt-BORDERS.false
-    (sym e ∙ sym c.ends_exist.ensures ∙ c.if-not-ends_exist.false)
+    (ends_told r.vertices r.edges r.us r.vs c.if-self-gt-BORDERS.false (search rules) (search rules) c.ends_exist.ensures c.if-not-ends_exist.false)
     false
     (by_marks r.edges r.book c.holds.result c.holds.ensures ∙ c.if-not-holds.true)
 
@@ -36,10 +29,7 @@ pub returns : goal.returns
 unfolding zeros
 returns c =
     let r = c.args.self.now in
-    let us_long : length r.us ≡ most_borders = search rules in
-    let vs_long : length r.vs ≡ most_borders = search rules in
-    let e = ends_taken r.vertices r.edges r.us r.vs (omega arith) (omega arith) in
     by_book r.vertices r.edges r.us r.vs r.book c.if-self-gt-CELLS.false c.if-self-gt-BORDERS.false
-    (sym e ∙ sym c.ends_exist.ensures ∙ c.if-not-ends_exist.false)
+    (ends_told r.vertices r.edges r.us r.vs c.if-self-gt-BORDERS.false (search rules) (search rules) c.ends_exist.ensures c.if-not-ends_exist.false)
     true
     (by_marks r.edges r.book c.holds.result c.holds.ensures ∙ c.if-not-holds.false)

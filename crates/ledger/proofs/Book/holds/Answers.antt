@@ -1,8 +1,10 @@
 -- `ledger::Book::holds` meets its contract: no more names than borders, the first one's mark, and the walk over names and states. Assumes nothing.
 use mathlib.Core.Path.{sym, ap, ◌∙◌}
+use native.Mathlib.Omega.{arith}
 use borrow.Author.Tests.{lt-leb, le-leb}
 use Rattle.ledger.specs.Books.{book_holds, names_in}
 use Rattle.ledger.specs.Marks.{fit_all}
+use Rattle.ledger.proofs.Loops.{fits_front}
 use Rattle.ledger.proofs.MarkLaws.{holds_by_marks}
 use Rattle.ledger.proofs.Book.holds.Goals as goal
 
@@ -28,4 +30,4 @@ returns c =
     let b = c.args.self.now in
     let law = holds_by_marks c.args.n b.states c.args.marks.now (names_in b) c.requires.marks_long c.requires.marks_given in
     let t = c.if-not-mark_names.false in
-    simp (le-leb _ _ c.if-n-self.false, sym c.first_starts.ensures ∙ c.if-not-first_starts.false, law, sym c.mark_names.ensures.answer ∙ t) (c.all_fit.ensures ∙ ap (fit_all c.args.n b.states) (c.mark_names.ensures.marks t))
+    simp (le-leb _ _ c.if-n-self.false, sym c.first_starts.ensures ∙ c.if-not-first_starts.false, law, sym c.mark_names.ensures.answer ∙ t) (c.all_fit.ensures ∙ fits_front c.args.n b.states c.mark_names.new.marks (omega (arith, c.requires.few)) ∙ ap (fit_all c.args.n b.states) (c.mark_names.ensures.marks t))

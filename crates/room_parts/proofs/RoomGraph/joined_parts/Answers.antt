@@ -25,4 +25,4 @@ loop-i-preserved c =
 pub returns : goal.returns
 returns c =
     let g = c.args.self in
-    counted (graph_of g.vertices g.us.now g.vs.now g.states.now) (states_in g.states.now) c.loop-i.invariant (omega arith) c.parts.ensures
+    counted (graph_of g.vertices g.us.now g.vs.now g.states.now) (states_in g.states.now) c.loop-i.invariant (omega arith) c.parts.ensures.by_edges

@@ -1,6 +1,6 @@
 -- `Room::find` meets its contract: the room's graph stands at the front of the arrays. Assumes nothing.
 use Rattle.rooms.specs.Lent.{blank}
-use Rattle.rooms.proofs.FindLaws.{us_taken, vs_taken, states_taken, us_whole, vs_whole, array_lent, joined, parted, neither}
+use Rattle.rooms.proofs.FindLaws.{us_taken, vs_taken, states_taken, array_lent, joined, parted, neither}
 use Rattle.rooms.proofs.room.Room.find.Goals as goal
 
 pub slice_bounds-us-end : goal.slice_bounds-us-end
@@ -29,11 +29,7 @@ slice_bounds-graph-end-3 c = (states_taken _ _ _ _ c.args.self.housed _ _ _ _ c.
 
 pub invariant_of-graph : goal.invariant_of-graph
 unfolding blank
-invariant_of-graph c = record {
-  us_whole = us_whole _ _ _ _ c.args.self.housed _ _ _ _ c.edges-m.ensures;
-  vs_whole = vs_whole _ _ _ _ c.args.self.housed _ _ _ _ c.edges-m.ensures;
-  lent = array_lent _ _ _ _ c.args.self.housed _ _ _ _ c.edges-m.ensures;
-}
+invariant_of-graph c = record { lent = array_lent _ _ _ _ c.args.self.housed _ _ _ _ c.edges-m.ensures }
 
 pub returns-then-tipped : goal.returns-then-tipped
 unfolding blank
