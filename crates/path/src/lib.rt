@@ -22,18 +22,18 @@ const NEW: usize = CELLS;
 // What is kept of a search: each found cell's finder and the entry of the border between, and the found cells, `tail` of them, as they
 // come into the queue.
 #[derive(Drop)]
-struct Trace {
-    finders: [usize; CELLS],
-    entries: [u16; CELLS],
-    queue: [usize; CELLS],
+struct Trace<'a> {
+    finders: &'a mut [usize; CELLS],
+    entries: &'a mut [u16; CELLS],
+    queue: &'a mut [usize; CELLS],
     tail: usize,
 }
 
-impl Trace {
+impl Trace<'_> {
     // A cell looks in a direction: a new cell over a Connected border is marked with its finder and entry, and put at the queue's end.
     fn look(&mut self, b: Borders<'_>, cell: usize, direction: Direction)
-        requires { LooksFrom b.grid b.states.now cell self.old.finders self.old.entries self.old.queue self.old.tail }
-        ensures { Follows b.entry.grid cell (λ p s. look_of b.entry.grid b.entry.states.now cell p direction s) self.old.finders self.old.entries self.old.queue self.old.tail self.new.finders self.new.entries self.new.queue self.new.tail }
+        requires { LooksFrom b.grid b.states.now cell self.old.finders.now self.old.entries.now self.old.queue.now self.old.tail }
+        ensures { Follows b.entry.grid cell (λ p s. look_of b.entry.grid b.entry.states.now cell p direction s) self.old.finders.now self.old.entries.now self.old.queue.now self.old.tail self.new.finders.now self.new.entries.now self.new.queue.now self.new.tail }
     {
         let Borders { grid, states, .. } = b;
         let Some(Neighbour { cell: next, border }) = grid.step(cell, direction) else {
@@ -53,8 +53,8 @@ impl Trace {
 
     // A cell, taken out of the queue, looks up, down, left and right.
     fn look_round(&mut self, b: Borders<'_>, cell: usize)
-        requires { LooksFrom b.grid b.states.now cell self.old.finders self.old.entries self.old.queue self.old.tail }
-        ensures { Follows b.entry.grid cell (λ p s. look_all b.entry.grid b.entry.states.now cell p s) self.old.finders self.old.entries self.old.queue self.old.tail self.new.finders self.new.entries self.new.queue self.new.tail }
+        requires { LooksFrom b.grid b.states.now cell self.old.finders.now self.old.entries.now self.old.queue.now self.old.tail }
+        ensures { Follows b.entry.grid cell (λ p s. look_all b.entry.grid b.entry.states.now cell p s) self.old.finders.now self.old.entries.now self.old.queue.now self.old.tail self.new.finders.now self.new.entries.now self.new.queue.now self.new.tail }
     {
         for direction in grid::AROUND {
             self.look(b, cell, direction);
@@ -64,8 +64,8 @@ impl Trace {
     // Searches from `start` until the target is taken out or nothing waits.
     fn search_from(&mut self, b: Borders<'_>, start: usize, target: usize)
         requires cells { Cell b.grid start × Cell b.grid target }
-        requires fresh { Fresh self.old.finders self.old.entries self.old.queue }
-        ensures { Traced b.entry.grid (search_of b.entry.grid b.entry.states.now start target) self.new.finders self.new.entries }
+        requires fresh { Fresh self.old.finders.now self.old.entries.now self.old.queue.now }
+        ensures { Traced b.entry.grid (search_of b.entry.grid b.entry.states.now start target) self.new.finders.now self.new.entries.now }
     {
         self.finders[start] = start;
         self.queue[0] = start;
@@ -82,9 +82,9 @@ impl Trace {
     }
 
     // Writes the entries from the target back to the start, and returns how many they are.
-    fn walk_back(&self, start: usize, target: usize, buffer: &mut [u16]) -> usize
-        requires { Walks start target self.now.finders self.now.entries buffer.old }
-        ensures { (p : List ℕ) → Back start self.now.finders self.now.entries target p → (result ≡ length p) × (buffer.new ≡ sets buffer.old 0 p) }
+    fn walk_back(self, start: usize, target: usize, buffer: &mut [u16]) -> usize
+        requires { Walks start target self.finders.now self.entries.now buffer.old }
+        ensures { (p : List ℕ) → Back start self.entry.finders.now self.entry.entries.now target p → (result ≡ length p) × (buffer.new ≡ sets buffer.old 0 p) }
     {
         let mut n = 0;
         let mut cell = target;
@@ -104,10 +104,13 @@ fn list(b: Borders<'_>, start: usize, target: usize, buffer: &mut [u16]) -> Resu
     ensures value { Lists (joined (path_of b.entry.grid b.entry.states.now start target)) result }
     ensures buffer_after { buffer.new ≡ written (joined (path_of b.entry.grid b.entry.states.now start target)) buffer.old }
 {
+    let mut finders = [NEW; CELLS];
+    let mut entries = [0; CELLS];
+    let mut queue = [0; CELLS];
     let mut trace = Trace {
-        finders: [NEW; CELLS],
-        entries: [0; CELLS],
-        queue: [0; CELLS],
+        finders: &mut finders,
+        entries: &mut entries,
+        queue: &mut queue,
         tail: 0,
     };
     trace.search_from(b, start, target);
