@@ -9,6 +9,7 @@ use native.Mathlib.Omega.{arith}
 use lib.Dec.{eqb}
 use lib.ListN.{get_or, length}
 use Rattle.std.specs.Prelude as std
+use Rattle.std.specs.Option.{is_some}
 use Rattle.lists.specs.Choice.{both, either, give, or_else, holds, through}
 use Rattle.lists.specs.Lists.{In, all, any, first}
 use Rattle.lists.proofs.ChoiceLaws.{both_true, holds_true}
@@ -238,9 +239,13 @@ module _ {g : Grid} {states : List ℕ} {table : List CellInfo} {marks cs : List
           unfolding landed
           trial_good k = sym (by_landing none (told_none _ (sym failure_is ∙ k)))
 
--- whether it is good
-pub not_good : (t : Try) → (t ≡ Good → ⊥) → false ≡ is_good t
-unfolding is_good
-not_good Passed k = refl
-not_good Good k = absurd (k refl)
-not_good (Failed l) k = refl
+          -- whether it is good
+          good_by : (o : std.Option ℕ) → r ≡ o → (b : Bool) → is_some o ≡ not b → b ≡ is_good answer
+          unfolding is_good
+          good_by std.None k true q = ap is_good (trial_good k)
+          good_by (std.Some l) k false q = ap is_good (trial_failed k)
+          good_by std.None k false q = cc
+          good_by (std.Some l) k true q = cc
+
+          pub good_told : {b : Bool} → is_some r ≡ not b → b ≡ is_good answer
+          good_told {b} = good_by r refl b

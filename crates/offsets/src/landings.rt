@@ -46,6 +46,7 @@ impl Kind {
 
 impl Chart<'_> {
     // Whether the border of a cell must land well: one between cells of the unit, or else a Wall or the board's edge.
+    #[inline(always)]
     pub fn keeps(self, unit: u16, kind: Kind, cell: usize, direction: Direction) -> bool
         requires { Cell self.borders.grid cell }
         ensures { result ≡ kept_of self.entry.borders.grid self.entry.borders.states.now (units_in self.entry.borders.grid self.entry.table.now) (is_inner kind) unit cell direction }
@@ -63,6 +64,7 @@ impl Chart<'_> {
     }
 
     // The entry of a cell's border in a direction, where it lands badly.
+    #[inline(always)]
     fn failure(self, shift: Shift, kind: Kind, cell: usize, direction: Direction) -> Option<u16>
         requires { Turning self.borders.grid shift cell }
         ensures { result ≡ told (fail_at self.entry.borders.grid shift self.entry.borders.states.now (units_in self.entry.borders.grid self.entry.table.now) (is_inner kind) cell direction) }
@@ -79,6 +81,7 @@ impl Chart<'_> {
 
     // The entry of a cell's first border that lands badly. The directions of `Kind::directions` are written out, since a step is compiled for
     // each: a loop over them took half as long again.
+    #[inline(always)]
     pub fn cell_failure(self, shift: Shift, kind: Kind, cell: usize) -> Option<u16>
         requires { Turning self.borders.grid shift cell }
         ensures { result ≡ told (fail_cell self.entry.borders.grid shift self.entry.borders.states.now (units_in self.entry.borders.grid self.entry.table.now) (is_inner kind) cell) }

@@ -27,6 +27,7 @@ pub mod unit;
 
 impl UnitCells<'_> {
     // Where the cells go, whose first cell goes to `to`.
+    #[inline(always)]
     fn shift_to(self, to: usize) -> Shift
         requires { Cell self.chart.borders.grid to }
         ensures { result ≡ shift_of self.entry.chart.borders.grid (unit_in self.entry.chart.table.now (head_or0 self.entry.cells.now)) (head_or0 self.entry.cells.now) to }
@@ -43,6 +44,7 @@ impl UnitCells<'_> {
     }
 
     // The entry of its first border that lands badly: inner borders first.
+    #[inline(always)]
     fn failure(self, shift: Shift) -> Option<u16>
         requires { Falling self.chart.borders.grid self.cells.now shift }
         ensures { result ≡ told (failure_of self.entry.chart.borders.grid shift self.entry.chart.borders.states.now (units_in self.entry.chart.borders.grid self.entry.chart.table.now) self.entry.cells.now) }
@@ -56,6 +58,7 @@ impl UnitCells<'_> {
 
 impl Trial<'_> {
     // An offset that is not passed over: all cells fall on the board and off the unit, and one falls in a marked potential unit.
+    #[inline(always)]
     fn reaches(self, shift: Shift) -> bool
         requires { Small self.unit.chart.borders.grid shift 0 0 }
         ensures { result ≡ reaches_of self.entry.unit.chart.borders.grid shift (units_in self.entry.unit.chart.borders.grid self.entry.unit.chart.table.now) (potentials_in self.entry.unit.chart.borders.grid self.entry.unit.chart.table.now) self.entry.marks.now self.entry.unit.cells.now }
@@ -92,11 +95,13 @@ impl Trial<'_> {
         }
     }
 
-    // Whether that offset is good.
+    // Whether that offset is good. The trials that need no entry are compiled into their loop.
+    #[inline(always)]
     pub fn is_good_at(self, to: usize) -> bool
         requires { Cell self.unit.chart.borders.grid to }
         ensures { result ≡ is_good (tried_at self.entry.unit.chart.borders.grid self.entry.unit.chart.borders.states.now self.entry.unit.chart.table.now self.entry.unit.cells.now to) }
     {
-        matches!(self.at(to), Try::Good)
+        let shift = self.unit.shift_to(to);
+        self.reaches(shift) && self.unit.failure(shift).is_none()
     }
 }
