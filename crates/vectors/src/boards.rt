@@ -2,7 +2,7 @@
 use crate::desk::Desk;
 use crate::text::{Record, Spaced, first};
 use answers::Plain;
-use board::Board;
+use board::{Board, Decided};
 use groups::Grouping;
 use std::io;
 use std::io::Write;
@@ -104,7 +104,7 @@ impl<W: Write + Drop> Desk<W> {
     }
 
     fn make_board(&mut self, height: usize, width: usize) -> io::Result<()> {
-        let made = board::make(height, width);
+        let made = Decided::from(Board::new(height, width));
         self.board = made.board;
         self.say(made.code)
     }

@@ -1,5 +1,6 @@
 // Calls on a room graph: make (its edges wait in the two lists), stroke, decide, undo and ask.
 use crate::desk::Desk;
+use city_count::{CityCountConstraint, Decided};
 use std::io;
 use std::io::Write;
 
@@ -46,7 +47,12 @@ impl<W: Write + Drop> Desk<W> {
     }
 
     fn make_room(&mut self, vertices: usize, count: u32) -> io::Result<()> {
-        let made = city_count::make(vertices, &self.first, &self.second, count);
+        let made = Decided::from(CityCountConstraint::new(
+            vertices,
+            &self.first,
+            &self.second,
+            count,
+        ));
         self.room = made.room;
         self.say(made.code)
     }

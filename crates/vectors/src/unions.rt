@@ -4,6 +4,7 @@ use crate::text::{Spaced, first};
 use answers::Refusal;
 use std::io;
 use std::io::Write;
+use union_find::{Made, UnionFind};
 
 #[derive(Clone, Copy, Debug)]
 pub enum Call {
@@ -30,7 +31,7 @@ impl<W: Write + Drop> Desk<W> {
     pub fn on_union(&mut self, call: Call) -> io::Result<()> {
         match call {
             Call::Make { vertices } => {
-                let made = union_find::new(vertices);
+                let made = Made::from(UnionFind::new(vertices));
                 self.union = made.union;
                 self.say(made.code)
             }
