@@ -9,7 +9,7 @@ use board::{Board, Decided};
 pub extern "C" fn sendai_board_make(height: usize, width: usize) -> Decided
     ensures { result ≡ make_of height width }
 {
-    board::make(height, width)
+    Decided::from(Board::new(height, width))
 }
 
 #[unsafe(no_mangle)]

@@ -10,5 +10,5 @@ use edge_list::Edge;
 pub extern "C" fn sendai_room_make_of_edges(n: usize, edges: &[Edge], count: u32) -> Decided
     ensures { result ≡ make_of n (firsts edges.now) (seconds edges.now) count }
 {
-    edge_list::make(n, edges, count)
+    Decided::from(edge_list::make(n, edges, count))
 }

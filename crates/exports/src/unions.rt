@@ -8,7 +8,7 @@ use union_find::{Found, Made, UnionFind, United};
 pub extern "C" fn sendai_union_new(n: usize) -> Made
     ensures { result ≡ new_of n }
 {
-    union_find::new(n)
+    Made::from(UnionFind::new(n))
 }
 
 #[unsafe(no_mangle)]

@@ -17,7 +17,6 @@ use Rattle.parts.specs.Parts.{begun}
 use Rattle.parts.proofs.PartLaws.{begun_small}
 use Rattle.parts.proofs.UniteLaws.{begun_none}
 use Rattle.union_find.specs.Chains.{united, hung}
-use Rattle.union_find.specs.Requires.{Parents}
 use Rattle.union_find.specs.UnionFind.{zeros}
 use Rattle.union_find.proofs.AloneLaws.{alone_up}
 use Rattle.union_find.proofs.JoinLaws.{Joins, joins_none, joins_unite, joins_count}

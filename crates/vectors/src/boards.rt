@@ -3,7 +3,7 @@ use crate::desk::Desk;
 use crate::text::{Record, Spaced, first};
 use crate::turns::Turn;
 use answers::Plain;
-use board::Board;
+use board::{Board, Decided};
 use groups::Grouping;
 use std::io;
 
@@ -98,7 +98,7 @@ impl Desk {
     }
 
     fn make_board(&mut self, height: usize, width: usize) -> io::Result<()> {
-        let made = board::make(height, width);
+        let made = Decided::from(Board::new(height, width));
         self.board = made.board;
         self.say(made.code)
     }

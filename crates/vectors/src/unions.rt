@@ -3,6 +3,7 @@ use crate::desk::Desk;
 use crate::text::{Spaced, first};
 use answers::Refusal;
 use std::io;
+use union_find::{Made, UnionFind};
 
 #[derive(Clone, Copy, Debug)]
 pub enum Call {
@@ -28,7 +29,7 @@ impl Desk {
     pub fn on_union(&mut self, call: Call) -> io::Result<()> {
         match call {
             Call::Make { vertices } => {
-                let made = union_find::new(vertices);
+                let made = Made::from(UnionFind::new(vertices));
                 self.union = made.union;
                 self.say(made.code)
             }
