@@ -40,7 +40,7 @@ pub record Found {A : Type 0} (bs : List ℕ) (at : ℕ) (o : Option (List A × 
   pub inside : next ≤ length bs
 
 module _ {A : Type 0} (bs : List ℕ) (at : ℕ) where
-  pub found : (o : Option (List A × List ℕ)) (s : Span) (next : ℕ) → Within bs o → Some (s, next) ≡ counted_at bs at o → Found bs at o s next
+  found : (o : Option (List A × List ℕ)) (s : Span) (next : ℕ) → Within bs o → Some (s, next) ≡ counted_at bs at o → Found bs at o s next
   found none s next h q = let z : ◌≡◌ {A = ℕ} 0 1 = cc in absurd (omega arith)
   found (some p) s next h q =
       let w = h p refl in
@@ -69,7 +69,7 @@ numbers_cases bs at =
     (⊎_elim (λ (k : at + 2 ≤ length bs). numbers_cut bs at k h) (λ (k : length bs < at + 2). numbers_none bs at k) (le_or_lt (at + 2) (length bs))))
     (le_or_lt (at + 2 + 2 * w) (length bs))
 
-pub numbers_within : (bs : List ℕ) (at : ℕ) → Within bs (numbers_of (drop at bs))
+numbers_within : (bs : List ℕ) (at : ℕ) → Within bs (numbers_of (drop at bs))
 numbers_within bs at p q =
     ⊎_elim
     (λ h. (at + 2 + 2 * word_at bs at, h, ap (λ (x : List ℕ × List ℕ). x.1) (some-injective p _ (sym q ∙ numbers_some bs at h))))
@@ -88,13 +88,20 @@ calls_within bs (suc n) at h p q =
     calls_within bs n (at + size_of w.0) w.2 (o.others, p.1) (rw a at o.follow))
     (call_cases bs at)
 
-pub list_within : (bs : List ℕ) (at : ℕ) → Within bs (call_list_of (drop at bs))
+list_within : (bs : List ℕ) (at : ℕ) → Within bs (call_list_of (drop at bs))
 unfolding call_list_of through
 list_within bs at p q =
     ⊎_elim
     (λ (h : at + 2 ≤ length bs). calls_within bs (word_at bs at) (at + 2) h p (rw (word_at_lem bs at (omega arith)) at q))
     (λ (h : length bs < at + 2). absurd (none-ne-some p (rw (word_out bs at (omega arith)) at q)))
     (le_or_lt (at + 2) (length bs))
+
+-- numbers, and calls, that were found at a byte are those that the definition reads there
+pub numbers_found : (bs : List ℕ) (at : ℕ) {s : Span} {next : ℕ} → Some (s, next) ≡ counted_at bs at (numbers_of (drop at bs)) → Found bs at (numbers_of (drop at bs)) s next
+numbers_found bs at {s} {next} q = found bs at (numbers_of (drop at bs)) s next (numbers_within bs at) q
+
+pub calls_found : (bs : List ℕ) (at : ℕ) {s : Span} {next : ℕ} → Some (s, next) ≡ counted_at bs at (call_list_of (drop at bs)) → Found bs at (call_list_of (drop at bs)) s next
+calls_found bs at {s} {next} q = found bs at (call_list_of (drop at bs)) s next (list_within bs at) q
 
 -- the numbers end where their count says
 pub numbers_end : (bs : List ℕ) (at : ℕ) {s : Span} {next : ℕ} (f : Found bs at (numbers_of (drop at bs)) s next) → next ≡ at + 2 + 2 * length f.items

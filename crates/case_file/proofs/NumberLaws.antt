@@ -35,14 +35,15 @@ module _ (bs : List ℕ) (at count : ℕ) where
   pub numbers_count : length (numbers_at bs at count) ≡ min (2 * count) (length bs - at) / 2
   numbers_count = words_count (take (2 * count) (drop at bs)) ∙ simp (length-take, length-drop)
 
-  pub number_in : (k : ℕ) → k < length (numbers_at bs at count) → at + 2 * k + 1 < length bs
-  number_in k h = omega (arith, numbers_count)
+  -- a number below the count stands in the file
+  pub number_in : (k : ℕ) {n : ℕ} → k < n → n ≡ length (numbers_at bs at count) → at + 2 * k + 1 < length bs
+  number_in k h e = omega (arith, numbers_count)
 
   byte_in : (i : ℕ) → i < 2 * count → get_or (take (2 * count) (drop at bs)) i 0 ≡ get_or bs (at + i) 0
   byte_in i h = get_or-take (2 * count) (drop at bs) i 0 h ∙ get_or-drop at bs i 0
 
-  pub number_at : (k : ℕ) → k < length (numbers_at bs at count) → get_or (numbers_at bs at count) k 0 ≡ word_at bs (at + 2 * k)
-  number_at k h =
+  pub number_at : (k : ℕ) {n : ℕ} → k < n → n ≡ length (numbers_at bs at count) → get_or (numbers_at bs at count) k 0 ≡ word_at bs (at + 2 * k)
+  number_at k h n_is =
       let l : length (take (2 * count) (drop at bs)) ≡ min (2 * count) (length bs - at) = simp (length-take, length-drop) in
       let e : at + (2 * k + 1) ≡ at + 2 * k + 1 = omega arith in
       words_at (take (2 * count) (drop at bs)) k (omega (arith, numbers_count))
@@ -53,10 +54,10 @@ pub record Copying (xs out₀ out : List ℕ) (k : ℕ) : Type 0 where
   pub left : sets out k (drop k xs) ≡ sets out₀ 0 xs
 
 module _ {xs out₀ out : List ℕ} {k : ℕ} (f : Copying xs out₀ out k) where
-  pub copying_next : (v : ℕ) → k < length xs → v ≡ get_or xs k 0 → Copying xs out₀ (set out k v) (k + 1)
-  copying_next v h e = record {
+  pub copying_next : (v : ℕ) {n : ℕ} → k < n → n ≡ length xs → v ≡ get_or xs k 0 → Copying xs out₀ (set out k v) (k + 1)
+  copying_next v h n_is e = record {
     left =
-        let q : drop k xs ≡ v ∷ drop (suc k) xs = rw e (drop-cons xs k 0 h) in
+        let q : drop k xs ≡ v ∷ drop (suc k) xs = rw e (drop-cons xs k 0 (omega arith)) in
         rw add-one (rw q at f.left);
   }
 

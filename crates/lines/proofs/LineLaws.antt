@@ -4,7 +4,7 @@ use mathlib.Core.Path.{◌≡◌, refl, sym, ap, ◌∙◌}
 use mathlib.Core.List.{List, [], ◌∷◌, ◌++◌}
 use native.Mathlib.Omega.{arith}
 use lib.ListN.{length, get_or, take, length-append}
-use lib.Seq.{sets, length-sets, take_all}
+use lib.Seq.{length-sets, take_all}
 use Rattle.std.proofs.Common.{append_assoc, append-nil}
 use Rattle.std.proofs.lemmas.List.{take_more}
 use mathlib.Core.Logic.{◌≢◌, inl, inr}
@@ -13,18 +13,12 @@ use Rattle.lists.proofs.ListLaws.{in_get_d}
 use Rattle.lists.proofs.SetsLaws.{sets_append}
 use mir.Val.{Fits}
 use mir.Syntax.{w16}
-use Rattle.std.specs.Prelude.{Result, Ok, Err}
-use Rattle.answers.specs.Answers.{written}
-use Rattle.answers.specs.Refusals.{Lists}
-use Rattle.answers.specs.declared.Refusal.{Refusal}
-use Rattle.answers.specs.declared.Refusal.TheVariants.{ShortBuffer}
 use Rattle.lines.specs.declared.pen.Pen.{Pen}
 use Rattle.lines.specs.Pen.{Writes, words_of}
 use Rattle.lines.specs.declared.Line.TheVariants.{Decided, Undone, Clear, Shape, Room, Refused}
 use Rattle.lines.specs.Decimal.{digits_of, decimal_of}
-use Rattle.lines.specs.Line.{feed, spaced_of, line_of, needed, line_into}
+use Rattle.lines.specs.Line.{feed, spaced_of, line_of, needed}
 use Rattle.lines.specs.declared.Line.{Line}
-use borrow.Author.Tests.{le-leb, lt-leb}
 use Rattle.lines.proofs.DecimalLaws.{digits_one, digits_more, digits_few, digits_most}
 
 pub writes_length : {xs : List ℕ} {p q : Pen} → Writes xs p q → length q.buffer.now ≡ length p.buffer.now

@@ -1,14 +1,10 @@
 -- `case_file::calls_at` meets its contract: the invariant `Walking` says what the calls that are left leave behind them. Assumes nothing.
 use Rattle.std.proofs.Common.{◌∙◌, arith}
-use native.Mathlib.Nat.{sub-zero}
 use Rattle.case_file.proofs.ListLaws.{walking_next, walking_stop, walking_end, step_unsound, calls_none, calls_cut, calls_fits}
 use Rattle.case_file.proofs.calls_at.Goals as goal
 
 pub returns-then-file-at-lt2 : goal.returns-then-file-at-lt2
 returns-then-file-at-lt2 c = let a = c.args in simp (calls_none a.file.now a.at (omega arith))
-
-pub loop-init : goal.loop-init
-loop-init c = record { inside = omega arith; left = simp sub-zero }
 
 pub returns-in_err-next : goal.returns-in_err-next
 returns-in_err-next c =

@@ -22,13 +22,6 @@ slice_bounds-fault_line-end c =
     let q = rw c.in-Ok-Some.field-0-is at c.in-Ok-Some.ensures.value in
     (fault_part c.args.puzzle.now f.check f.len (Fault f.check f.len) c.ask.new.buffer refl q c.ask.auto.buffer).long
 
-pub fault_line-requires : goal.fault_line-requires
-unfolding blank
-fault_line-requires c =
-    let f = c.in-Ok-Some.field-0-0 in
-    let q = rw c.in-Ok-Some.field-0-is at c.in-Ok-Some.ensures.value in
-    ((fault_part c.args.puzzle.now f.check f.len (Fault f.check f.len) c.ask.new.buffer refl q c.ask.auto.buffer).few, c.requires)
-
 pub returns-in-Ok-Some : goal.returns-in-Ok-Some
 unfolding blank
 returns-in-Ok-Some c =

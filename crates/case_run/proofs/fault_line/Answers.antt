@@ -4,10 +4,6 @@ use Rattle.case_run.proofs.LineLaws.{fault_written, listed, never_refused}
 use native.Mathlib.Omega.{arith}
 use Rattle.case_run.proofs.fault_line.Goals as goal
 
-pub returns-in_default : goal.returns-in_default
-unfolding blank
-returns-in_default c = absurd (never_refused c.args.list.now c.requires.0 c.in_default.field-0 c.in_default.ensures.value)
-
 pub slice_bounds-entries-end : goal.slice_bounds-entries-end
 unfolding blank
 slice_bounds-entries-end c =
@@ -17,12 +13,6 @@ pub slice_bounds-put_line-end : goal.slice_bounds-put_line-end
 unfolding blank
 slice_bounds-put_line-end c =
     (listed c.args.list.now c.requires.0 c.in-Ok.n c.hand_over.new.buffer c.in-Ok.ensures.value c.hand_over.ensures.buffer_after).long
-
-pub put_line-requires : goal.put_line-requires
-unfolding blank
-put_line-requires c =
-    let handed = listed c.args.list.now c.requires.0 c.in-Ok.n c.hand_over.new.buffer c.in-Ok.ensures.value c.hand_over.ensures.buffer_after in
-    omega (arith, handed.few, handed.long, c.requires.1)
 
 pub returns : goal.returns
 unfolding blank

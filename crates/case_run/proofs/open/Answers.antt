@@ -3,9 +3,6 @@ use mathlib.Core.Path.{sym, ◌∙◌}
 use Rattle.case_run.proofs.OpenLaws.{refused_file, places, walls_read, clues_read, made_file, opened_refused, opened_made}
 use Rattle.case_run.proofs.open.Goals as goal
 
-pub returns-in_default : goal.returns-in_default
-returns-in_default c = refused_file c.args.file.now c.in_default.field-0 c.unsound.result (sym c.in_default.is ∙ c.decode.ensures.value) c.unsound.ensures
-
 pub slice_bounds-walls-end : goal.slice_bounds-walls-end
 unfolding places
 slice_bounds-walls-end c =

@@ -8,22 +8,6 @@ use Rattle.case_run.proofs.run_calls.Goals as goal
 pub returns-then-out-count : goal.returns-then-out-count
 returns-then-out-count c = let a = c.args in let w = no_room a.p a.file.now a.at a.count a.out.now c.if-out-count.true in record { value = w.0; out_after = w.1.0; len_in_bounds = w.1.1 }
 
-pub loop-done-init : goal.loop-done-init
-loop-done-init c = let a = c.args in running a.p a.file.now a.at a.count a.out.now c.if-out-count.false
-
-pub slice_bounds-do_call-count : goal.slice_bounds-do_call-count
-slice_bounds-do_call-count c = omega (arith, part_room c.loop-done.invariant c.loop-done-test.true)
-
-pub slice_bounds-do_call-start : goal.slice_bounds-do_call-start
-slice_bounds-do_call-start c = omega (arith, part_room c.loop-done.invariant c.loop-done-test.true)
-
-pub do_call-len-requires : goal.do_call-len-requires
-do_call-len-requires c = part_long c.loop-done.invariant c.loop-done-test.true
-
-pub overflow_add-len : goal.overflow_add-len
-overflow_add-len c =
-    omega (arith, part_room c.loop-done.invariant c.loop-done-test.true, c.loop-done.invariant.long, c.do_call-len.ensures.turned.fits, c.well_formed.1.1.1.1.0)
-
 pub loop-done-preserved : goal.loop-done-preserved
 loop-done-preserved c =
     let r = c.loop-done.invariant in
