@@ -83,12 +83,6 @@ module _ (g : Grid) (marks states cs : List ℕ) (w : Housed g marks states cs) 
   pub states_taken : (m ≤ length here) × (m ≡ length (take m here))
   states_taken = taken (λ s. get_or states (border_of g s) 0) o.here_are
 
-  pub us_whole : length (take m us) ≡ length (take m here)
-  us_whole = rw (us_are, here_are) (length-map ss (from_of cs) ∙ sym (length-map ss (λ s. get_or states (border_of g s) 0)))
-
-  pub vs_whole : length (take m vs) ≡ length (take m here)
-  vs_whole = rw (vs_are, here_are) (length-map ss (into_of g cs) ∙ sym (length-map ss (λ s. get_or states (border_of g s) 0)))
-
   -- the ends of each edge are vertices
   end_lt : (f : Spot → ℕ) → ((s : Spot) → In s ss → f s < length cs) → (i : ℕ) → i < length ss → get_or (map f ss) i 0 < length cs
   end_lt f h i k = let x = at_place ss i k in rw (x.2 f) (h x.0 x.1)
