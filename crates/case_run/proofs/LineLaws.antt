@@ -1,7 +1,6 @@
 -- The line of each answer, in a buffer that is long enough for it. Assumes nothing.
-use Prim.Native.Nat.{ℕ, zero, suc, ◌≤◌, ◌<◌}
+use Prim.Native.Nat.{ℕ, ◌≤◌, ◌<◌}
 use mathlib.Core.Path.{◌≡◌, refl, sym, ap, ◌∙◌}
-use mathlib.Core.Logic.{◌≢◌}
 use mathlib.Core.Bool.{Bool}
 use mathlib.Core.List.{List, []}
 use native.Mathlib.Omega.{arith}
@@ -14,13 +13,12 @@ use Rattle.limits.specs.Limits.{most_entries, longest_line}
 use Rattle.lists.specs.Lists.{In, gather}
 use Rattle.lists.proofs.ListLaws.{in_get_d}
 use Rattle.hand_over.specs.Sorted.{sorted_once}
-use Rattle.std.specs.Prelude.{Ok, Err}
-use Rattle.answers.specs.declared.Refusal.{Refusal}
+use Rattle.std.specs.Prelude.{Ok}
 use Rattle.answers.specs.Answers.{written}
 use Rattle.answers.specs.Refusals.{Lists}
 use Rattle.hand_over.specs.HandOver.{hand_over}
 use Rattle.hand_over.proofs.SortedLaws.{met, no_longer}
-use Rattle.hand_over.proofs.HandOverLaws.{given, refused}
+use Rattle.hand_over.proofs.HandOverLaws.{given}
 use Rattle.lines.specs.declared.Line.{Line}
 use Rattle.lines.specs.declared.Line.TheVariants as line
 use Rattle.lines.specs.Line.{spaced_of, line_of}
@@ -55,14 +53,6 @@ pub bare_written : (line : Line) (buf : List ℕ) {r : ℕ} {buf' : List ℕ}
     → (r ≡ length (line_of line [])) × (buf' ≡ sets buf 0 (line_of line [])) → Counts r (line_of line []) × (buf' ≡ sets buf 0 (line_of line []))
 bare_written line buf e = (record { count = e.0; fits = omega (arith, e.0, bare_short line) }, e.1)
 
--- the line of a decide or an undo: accepted, or refused by number
-pub code_well : (well : Line) (code : ℕ) → code ≡ 0 → line_of well [] ≡ code_line well code
-code_well well code e = rw e
-
-pub code_refused : (well : Line) (code : ℕ) → code ≢ 0 → line_of (line.Refused code) [] ≡ code_line well code
-code_refused well zero e = absurd (e refl)
-code_refused well (suc n) e = refl
-
 pub by_line : (l m buf : List ℕ) {buf' : List ℕ} {r : ℕ} → l ≡ m → Counts r l × (buf' ≡ sets buf 0 l) → Counts r m × (buf' ≡ sets buf 0 m)
 by_line l m buf q e = rw q at e
 
@@ -74,9 +64,6 @@ pub record Listed (list : List ℕ) (n : ℕ) (buf : List ℕ) : Type 0 where
   pub is : take n buf ≡ sorted_once list
 
 module _ (list : List ℕ) (few : length list ≤ 9216) where
-  pub never_refused : (r : Refusal) → Lists (hand_over list (length blank)) (Err r) → ⊥
-  never_refused r e = let o = refused list (length blank) r e in omega (arith, o.0, blank_length)
-
   pub listed : (n : ℕ) (buf : List ℕ) → Lists (hand_over list (length blank)) (Ok n) → buf ≡ written (hand_over list (length blank)) blank
       → Listed list n buf
   listed n buf e m =

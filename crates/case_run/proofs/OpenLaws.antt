@@ -2,7 +2,7 @@
 use Prim.Native.Nat.{ℕ, ◌*◌, ◌≤◌}
 use mathlib.Core.Path.{◌≡◌, refl, sym, ap, ◌∙◌}
 use mathlib.Core.List.{List, [], ◌∷◌}
-use mathlib.Core.Option.{none, some}
+use mathlib.Core.Option.{some}
 use mathlib.Core.Logic.{◌≢◌}
 use native.Mathlib.Omega.{arith}
 use borrow.Author.Tests.{le-leb, eq-eqb, ne_eqb}
@@ -10,24 +10,17 @@ use lib.ListN.{length, take, drop, length-replicate, length-drop, length-take, r
 use lib.Seq.{sets, length-sets}
 use Rattle.answers.specs.Answers.{written}
 use Rattle.case_file.specs.declared.Layout.{Layout}
-use Rattle.std.specs.Prelude.{Ok, Err}
-use Rattle.answers.specs.declared.Refusal.{Refusal}
+use Rattle.std.specs.Prelude.{Ok}
 use Rattle.case_file.specs.Sound.{Case, words_of, decode_of}
 use Rattle.case_file.specs.declared.Span.{Span}
 use Rattle.case_file.specs.Layout.{numbers_at, numbers_into, span_of, layout_of, file_of}
 use Rattle.case_file.proofs.BackLaws.{parts}
-use Rattle.case_file.proofs.UseLaws.{accepted, refused, walls_there, clues_there}
+use Rattle.case_file.proofs.UseLaws.{accepted, walls_there, clues_there}
 use Rattle.puzzle.specs.declared.Made.{Made}
 use Rattle.puzzle.specs.Puzzle.{make_of}
 use Rattle.lists.proofs.SetsLaws.{front}
 use Rattle.case_run.specs.declared.Opened.{Opened}
 use Rattle.case_run.specs.CaseRun.{opened, opened_as, opened_of}
-
-pub not_sound : (m : Made) → m ≡ make_of 0 0 [] [] → ◌≡◌ {A = Opened} (opened 11 m.puzzle 0 0) (opened_of none)
-not_sound m e = ap (λ (x : Made). opened 11 x.puzzle 0 0) e
-
-pub refused_file : (bs : List ℕ) (r : Refusal) (o : Opened) → Err r ≡ file_of (decode_of bs) → o ≡ opened_of none → o ≡ opened_of (decode_of bs)
-refused_file bs r o q e = rw (refused bs r q) e
 
 -- the program's places for walls and for clues: as many as a file of 60,003 bytes can have
 unfoldable pub places : List ℕ

@@ -102,19 +102,6 @@ pub record Running (p : Puzzle) (bs : List ℕ) (at count : ℕ) (out₀ : List 
   pub lines : sets out len (printed_by puzzle (calls_in (count - done) (drop next bs))) ≡ sets out₀ 0 (printed_by p (calls_in count (drop at bs)))
 
 module _ (p : Puzzle) (bs : List ℕ) (at count : ℕ) (out₀ : List ℕ) where
-  pub running : count ≤ length out₀ / longest_line → Running p bs at count out₀ p at 0 0 out₀
-  running h =
-      let z : count - 0 ≡ count = omega arith in
-      let e : calls_in (count - 0) (drop at bs) ≡ calls_in count (drop at bs) = ap (λ n. calls_in n (drop at bs)) z in
-      record {
-        long = refl;
-        room = omega arith;
-        within = omega arith;
-        short = omega arith;
-        ran = rw e (ran_same (run_of p (calls_in count (drop at bs))) refl (omega arith) (omega arith));
-        lines = rw e;
-      }
-
   -- too short a buffer
   pub no_room : length out₀ / longest_line < count → (◌≡◌ {A = Ran} (record { code = 6; puzzle = p; at = at; done = 0; len = 0 }) (ran_of (code_in count (length out₀)) p at (done_in count (drop at bs) (length out₀))))
       × ((out₀ ≡ sets out₀ 0 (printed_by p (done_in count (drop at bs) (length out₀)))) × (0 ≤ length out₀))

@@ -22,9 +22,6 @@ pub record Printing (bs : List ℕ) (o r : Opened) (out : List ℕ) (done : ℕ)
   pub counts : done + r.count ≡ o.count
   pub left : (n : ℕ) → run_of r.puzzle (calls_in n (drop r.at bs)) ≡ run_of o.puzzle (calls_in (done + n) (drop o.at bs))
 
-pub printing : (bs : List ℕ) (o : Opened) (out : List ℕ) → length out ≡ 65536 → Printing bs o o out 0
-printing bs o out h = record { long = h; counts = omega arith; left = λ n. let z : n ≡ 0 + n = omega arith in ap (λ k. run_of o.puzzle (calls_in k (drop o.at bs))) z }
-
 module _ {bs : List ℕ} {o r : Opened} {out : List ℕ} {done : ℕ} (p : Printing bs o r out done) where
   pub printing_next : (ran : Ran) (out' : List ℕ) → done < o.count → ran ≡ ran_of (code_in 1 (length out)) r.puzzle r.at (done_in 1 (drop r.at bs) (length out)) → length out' ≡ length out
       → Printing bs o (record r { puzzle = ran.puzzle; at = ran.at; count = r.count - 1 }) out' (done + 1)

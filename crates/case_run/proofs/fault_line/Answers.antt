@@ -1,7 +1,6 @@
 -- `case_run::fault_line` meets its contract: hand-over has the room that it asks, and so has the line. Assumes nothing.
 use Rattle.case_run.specs.CaseRun.{blank}
-use Rattle.case_run.proofs.LineLaws.{fault_written, listed, never_refused}
-use native.Mathlib.Omega.{arith}
+use Rattle.case_run.proofs.LineLaws.{fault_written, listed}
 use Rattle.case_run.proofs.fault_line.Goals as goal
 
 pub slice_bounds-entries-end : goal.slice_bounds-entries-end

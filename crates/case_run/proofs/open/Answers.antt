@@ -1,6 +1,5 @@
 -- `case_run::open` meets its contract: an unsound file is refused, and a sound one's lists are read whole. Assumes nothing.
-use mathlib.Core.Path.{sym, ◌∙◌}
-use Rattle.case_run.proofs.OpenLaws.{refused_file, places, walls_read, clues_read, made_file, opened_refused, opened_made}
+use Rattle.case_run.proofs.OpenLaws.{places, walls_read, clues_read, made_file, opened_refused, opened_made}
 use Rattle.case_run.proofs.open.Goals as goal
 
 pub slice_bounds-walls-end : goal.slice_bounds-walls-end

@@ -2,7 +2,7 @@
 use mathlib.Core.Path.{sym, ◌∙◌}
 use native.Mathlib.Omega.{arith}
 use Rattle.case_run.specs.CaseRun.{line_by}
-use Rattle.case_run.proofs.RunLaws.{running, no_room, part_room, part_long, part_back, all_done, counted, stopped, running_next}
+use Rattle.case_run.proofs.RunLaws.{no_room, part_back, all_done, counted, stopped, running_next}
 use Rattle.case_run.proofs.run_calls.Goals as goal
 
 pub returns-then-out-count : goal.returns-then-out-count

@@ -1,7 +1,7 @@
 -- `program::print_calls` meets its contract: one law a call, and the two ways out. Assumes nothing.
-use Rattle.std.proofs.Common.{◌≤◌, sym, arith, rules}
+use Rattle.std.proofs.Common.{◌≤◌, rules}
 use Rattle.std.specs.Prelude.{IsOk}
-use Rattle.program.proofs.PrintLaws.{printing, printing_next, stopped}
+use Rattle.program.proofs.PrintLaws.{printing_next, stopped}
 use Rattle.program.proofs.print_calls.Goals as goal
 
 pub loop-preserved : goal.loop-preserved
