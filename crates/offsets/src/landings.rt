@@ -109,6 +109,7 @@ impl Chart<'_> {
     }
 
     // The entry of the first border of a kind that lands badly, of cells in turn.
+    #[inline(always)]
     pub fn first_failure(self, shift: Shift, kind: Kind, cells: &[u16]) -> Option<u16>
         requires { Falling self.borders.grid cells.now shift }
         ensures { result ≡ told (first_fail self.entry.borders.grid shift self.entry.borders.states.now (units_in self.entry.borders.grid self.entry.table.now) (is_inner kind) cells.now) }
