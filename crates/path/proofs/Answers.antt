@@ -2,17 +2,14 @@
 use Prim.Native.Nat.{ℕ, ◌*◌, ◌≤◌, ◌<◌}
 use mathlib.Core.Path.{◌≡◌, refl, ap, sym, ◌∙◌}
 use mathlib.Core.Logic.{◌≢◌, ⊎_elim}
-use mathlib.Core.Bool.{Bool, true, false}
 use mathlib.Core.List.{List, [], ◌∷◌}
-use lib.Dec.{eqb, ltb, leb}
 use mathlib.Core.Option.{Option, none, some, none-ne-some}
 use native.Mathlib.Omega.{arith}
 use borrow.Author.Tests.{eq-eqb, ne_eqb, lt-ltb, le-leb}
 use lib.ListN.{get_or, length, replicate, length-replicate, get_or-replicate, get_or-eq_default}
 use lib.Seq.{sets}
 use Rattle.limits.specs.Limits.{most_cells}
-use Rattle.lists.specs.Choice.{both, pick}
-use Rattle.lists.proofs.Cases.{le_or_lt, eq_or_ne}
+use Rattle.lists.proofs.Cases.{le_or_lt}
 use Rattle.grid.specs.declared.Grid.{Grid}
 use Rattle.grid.specs.Grid.{cells, Cell}
 use Rattle.grid.proofs.Geometry.{cells_le}
@@ -21,14 +18,13 @@ use Rattle.board.specs.Board.{size_of, board_code}
 use Rattle.std.specs.Prelude.{Result, Ok, Err}
 use Rattle.std.specs.Result.{result_unwrap_or}
 use Rattle.answers.specs.declared.Plain.{Plain}
-use Rattle.answers.specs.Listed as case
 use Rattle.answers.specs.declared.Refusal.{Refusal}
 use Rattle.answers.specs.Refusals.{number_of, Lists as Answered}
 use Rattle.borders.specs.Fits.{Fits}
 use Rattle.path.specs.Path.{Lists, search, path_of}
 use Rattle.path.specs.Trace.{Traced, Asks, Fresh, Back, Walks}
 use Rattle.path.specs.Answer.{joined, path_outcome}
-use Rattle.answers.specs.Answers.{Outcome, refused, clear, listed, list_of, listed_of, written}
+use Rattle.answers.specs.Answers.{Outcome, refused, listed, list_of, written}
 use Rattle.answers.proofs.RefusalLaws.{some_number}
 use Rattle.path.proofs.Found.{new_none, old_some}
 use Rattle.path.proofs.PathLaws.{ended, leads_nowhere, path_short}

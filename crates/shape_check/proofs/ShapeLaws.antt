@@ -1,6 +1,6 @@
 -- The two stages of the check, over the units that it finds in its own arrays. Assumes nothing.
 use Prim.Native.Nat.{ℕ, ◌*◌, ◌≤◌}
-use mathlib.Core.Path.{◌≡◌, refl, sym, ◌∙◌}
+use mathlib.Core.Path.{◌≡◌, refl}
 use mathlib.Core.Bool.{true, false}
 use mathlib.Core.List.{List}
 use mathlib.Core.Option.{Option, none, some}
@@ -16,7 +16,7 @@ use Rattle.groups.specs.Lent.{Fits}
 use Rattle.groups.specs.Lent.{Grouped}
 use Rattle.groups.specs.Info.{blank_places}
 use Rattle.shape.specs.Shape.{inner_wall, unit_fault, fault_in, shape_fault}
-use Rattle.groups.proofs.Theorems.{arrays_lent, made, made_ids, made_ids_fit, made_starts_fit}
+use Rattle.groups.proofs.Theorems.{arrays_lent, made_ids, made_ids_fit, made_starts_fit}
 use Rattle.answers.specs.Answers.{Finds, found, length_found}
 use Rattle.answers.specs.Refusals.{Answers}
 use Rattle.inner_walls.specs.Asked.{Asked}

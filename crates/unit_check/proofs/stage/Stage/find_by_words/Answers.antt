@@ -1,11 +1,9 @@
 -- `unit_check::stage::Stage::find_by_words` meets its contract: each unit so far fits somewhere, the next one has its marks, and the stamps hold. Assumes nothing.
-use mathlib.Core.Path.{◌≡◌, sym, ◌∙◌}
+use mathlib.Core.Path.{◌∙◌}
 use native.Mathlib.Omega.{arith}
 use lib.ListN.{length-replicate}
 use Rattle.grid.proofs.Geometry.{cells_le}
 use Rattle.cell_words.proofs.OwnLaws.{get_d_zeros}
-use Rattle.offsets.specs.Trial.{fits_at}
-use Rattle.unit_check.specs.Find.{unit_cells}
 use Rattle.unit_check.proofs.FindLaws.{fit_on, fit_there, pending_first, pending_next, unfit_none, unfit_some, still_less}
 use Rattle.unit_check.proofs.HeldLaws.{units_held, fits_held}
 use Rattle.unit_check.proofs.RoomLaws.{asking}
