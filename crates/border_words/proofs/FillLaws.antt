@@ -5,13 +5,17 @@ use mathlib.Core.Logic.{⊎_elim}
 use mathlib.Core.List.{List}
 use native.Mathlib.Omega.{arith}
 use native.Mathlib.Nat.{mul-le-mul, suc-mul, le_refl}
-use lib.ListN.{get_or, length, set, length-set}
+use borrow.Author.Tests.{le-ltb, lt-leb}
+use lib.Dec.{eqb}
+use lib.ListN.{get_or, length, set, length-set, take, drop}
 use lib.Seq.{get_or-set_same, get_or-set_other}
+use Rattle.std.proofs.lemmas.List.{length-take-le, length-drop, get_or-take, get_or-drop}
 use Rattle.lists.proofs.Cases.{le_or_lt}
 use Rattle.grid.specs.declared.Grid.{Grid}
 use Rattle.grid.proofs.Geometry.{border_count_le}
 use Rattle.borders.specs.Fits.{Fits}
-use Rattle.border_words.specs.Filled.{Run, Filled}
+use Rattle.words.specs.Words.{Only}
+use Rattle.border_words.specs.Filled.{SideWord, Run, Filled}
 
 module _ (word : ℕ → ℕ → Type 0) (rows at : ℕ) (words₀ : List ℕ) where
   -- the words of the first y rows are made
@@ -42,6 +46,33 @@ module _ (word : ℕ → ℕ → Type 0) (rows at : ℕ) (words₀ : List ℕ) w
 
   pub fill_end : {words : List ℕ} {y : ℕ} → rows ≤ y → FillWalk words y → Filled word rows at words₀ words
   fill_end {words} {y} h w = let e : y ≡ rows = omega arith in rw e at w.filled
+
+-- the states of a run, cut out of all: their word is the run's
+module _ {from count : ℕ} {states : List ℕ} (r : Run from count states) where
+  abbrev cut : List ℕ
+  cut = take (from + count - from) (drop from states)
+
+  cut_long : length cut ≡ count
+  cut_long = length-take-le (from + count - from) (drop from states) (omega (arith, length-drop from states, r.states_long)) ∙ (let e : from + count - from ≡ count = omega arith in e)
+
+  pub cut_narrow : length cut ≤ 32
+  cut_narrow = omega (arith, cut_long, r.narrow)
+
+  cut_at : (x : ℕ) → x < count → get_or cut x 0 ≡ get_or states (from + x) 0
+  cut_at x h = get_or-take (from + count - from) (drop from states) x 0 (omega arith) ∙ get_or-drop from states x 0
+
+  pub cut_word : (k word : ℕ) → Only (length cut) (λ x. eqb (get_or cut x 0) k) word → SideWord from count states k word
+  cut_word k word b j =
+      b j
+      ∙ rw cut_long
+      (⊎_elim
+      (λ (h : 32 ≤ j).
+      ⊎_elim
+      (λ (m : 32 + count ≤ j). rw (le-ltb j (32 + count) m))
+      (λ (m : j < 32 + count). rw (cut_at (j - 32) (omega arith)))
+      (le_or_lt (32 + count) j))
+      (λ (h : j < 32). rw (lt-leb 32 j h))
+      (le_or_lt 32 j))
 
 -- the borders right of row y, and those under it
 module _ {g : Grid} {states : List ℕ} (f : Fits g states) (y : ℕ) where

@@ -2,20 +2,21 @@
 // offsets at once.
 #![tactic(auto)]
 
-ghost use Rattle.std.specs.Prelude.{◌+◌, ◌-◌, ◌*◌, ◌≤◌, length};
+ghost use Rattle.std.specs.Prelude.{◌+◌, ◌-◌, ◌*◌, ◌≤◌, eqb, get_or, length};
+ghost use Rattle.words.specs.Words.{Only};
 ghost use Rattle.border_words.specs.Sides.{BorderWords};
-ghost use Rattle.border_words.specs.Filled.{SideWord, Run, Filled, Unfilled};
+ghost use Rattle.border_words.specs.Filled.{SideWord, Filled, Unfilled};
 
 use borders::Borders;
 
 // The word of a row of borders.
-fn side_word(states: &[u8], state: u8, from: usize, count: usize) -> u64
-    requires { Run from count states.now }
-    ensures { SideWord from count states.now state result }
+fn side_word(states: &[u8], state: u8) -> u64
+    requires { length states.now ≤ 32 }
+    ensures { Only (length states.now) (λ x. eqb (get_or states.now x 0) state) result }
 {
     let mut word = 0;
-    for x in 0..count {
-        word = words::with_bit(word, states[from + x] == state, 32 + x);
+    for (x, &here) in states.iter().enumerate() {
+        word = words::with_bit(word, here == state, 32 + x);
     }
     word
 }
@@ -28,7 +29,8 @@ fn fill_right(borders: Borders<'_>, state: u8, at: usize, words: &mut [u64])
 {
     let count = borders.grid.width - 1;
     for y in 0..borders.grid.height {
-        words[at + y] = side_word(borders.states, state, y * count, count);
+        let from = y * count;
+        words[at + y] = side_word(&borders.states[from..from + count], state);
     }
 }
 
@@ -41,7 +43,8 @@ fn fill_down(borders: Borders<'_>, state: u8, at: usize, words: &mut [u64])
     let width = borders.grid.width;
     let below = borders.grid.height * (width - 1);
     for y in 0..borders.grid.height - 1 {
-        words[at + y] = side_word(borders.states, state, below + y * width, width);
+        let from = below + y * width;
+        words[at + y] = side_word(&borders.states[from..from + width], state);
     }
 }
 
