@@ -34,14 +34,18 @@ def dedent(lines):
 def items(text):
     """The public functions, up to their bodies, the public types, and what conversions promise."""
     lines = text.split("\n")
-    at = 0
+    at, owner = 0, ""
     while at < len(lines):
         line = lines[at]
         end = at
+        if line.startswith("impl"):
+            owner = line.removesuffix(" {") + ": "
+        elif line.startswith("}"):
+            owner = ""
         if re.match(r"\s*pub (?:extern \"C\" )?fn ", line):
             while not re.search(r"\{$", lines[end]) or re.search(r"(?:requires|ensures)", lines[end]) and lines[end].rstrip().endswith("}"):
                 end += 1
-            yield dedent(lines[at:end] if lines[end].strip() == "{" else lines[at:end + 1]).removesuffix(" {")
+            yield owner + dedent(lines[at:end] if lines[end].strip() == "{" else lines[at:end + 1]).removesuffix(" {")
         elif re.match(r"pub (?:struct|enum) ", line):
             while not lines[end].startswith("}") and not lines[end].endswith(";"):
                 end += 1
@@ -49,7 +53,7 @@ def items(text):
         elif re.match(r"impl.* (?:From|TryFrom)<", line):
             while "fn " not in lines[end]:
                 end += 1
-            yield dedent([x for x in lines[at:end] if x.strip()])
+            yield dedent([x for x in lines[at:end] if x.strip() and not x.lstrip().startswith("#[")])
         at = end + 1
 
 
@@ -61,9 +65,10 @@ def paragraphs(text):
 
 
 def named():
+    """The names in backticks that the papers have, and the files of proofs that they name."""
     papers = [TOP / "README.md", *(TOP / "docs").glob("*.md"), *(TOP / "docs" / "requests").glob("*.md")]
     text = "\n".join(p.read_text() for p in papers if not p.name.startswith("DESIGN-PASS"))
-    return set(re.findall(r"`([a-z_]\w*)`", text))
+    return set(re.findall(r"`([a-z_]\w*)`", text)), set(re.findall(r"\b([a-z][a-z0-9_]*/proofs/[A-Z]\w*)\b", text))
 
 
 def statements(text, names):
@@ -87,11 +92,11 @@ def differing(was, now):
 
 
 def main():
-    names = named()
+    names, files = named()
     kinds = [
         ("public functions and types", ".rt", "rust", lambda n, t: list(items(t)) if "/src/" in n else []),
         ("definitions", ".antt", "antt", lambda n, t: list(paragraphs(t)) if "/specs/" in n else []),
-        ("named theorems", ".antt", "antt", lambda n, t: list(statements(t, names)) if "/proofs/" in n else []),
+        ("named theorems", ".antt", "antt", lambda n, t: list(statements(t, names)) if n[len("crates/"):-len(".antt")] in files else []),
     ]
     found = [(title, tongue, by_crate(tree(BASE, end), parts), by_crate(tree("HEAD", end), parts)) for title, end, tongue, parts in kinds]
     page = [HEAD]
