@@ -9,9 +9,6 @@ pub loop-s-init : goal.loop-s-init
 unfolding zeros
 loop-s-init c = sweep_none c.requires (zeros 1024) (omega (arith, c.requires.arcs.few, zeros_long 1024)) (zeros_at 1024)
 
-pub bounds-seen-s : goal.bounds-seen-s
-bounds-seen-s c = omega (arith, c.requires.arcs.few)
-
 pub walk-requires : goal.walk-requires
 walk-requires c = sweep_walk c.requires c.loop-s.invariant c.loop-s-test.true c.if-seen-s-eq0.true
 
