@@ -13,11 +13,15 @@ use Rattle.parts.specs.Flood.{Link}
 use Rattle.parts.proofs.PartLaws.{edge_ends, ends_edge}
 use Rattle.parts.proofs.PartLists.{within_ends}
 use Rattle.limits.specs.Limits.{most_cells}
-use Rattle.arcs.specs.Walk.{OnList, here, later, Lists, Arcs}
+use Rattle.arcs.specs.Walk.{OnList, here, later, Arcs}
 use Rattle.arcs.specs.Linked.{Linked, arcs_of}
-use Rattle.arcs.proofs.WalkLaws.{on_cases, on_below}
+use Rattle.arcs.proofs.WalkLaws.{on_cases}
 
--- a list that begins below k does not notice a store at k
+-- a list that begins below k stays below it, and does not notice a store at k
+on_below : (next : List ℕ) (k : ℕ) → ((j : ℕ) → j < k → get_or next j 0 ≤ j) → (at j : ℕ) → at ≤ k → OnList next at j → j < k
+on_below next k f at j l (here e) = omega arith
+on_below next k f at j l (later {k = i} e o) = on_below next k f (get_or next i 0) j (omega (arith, f i (omega arith))) o
+
 on_set : (next : List ℕ) (k v : ℕ) → ((j : ℕ) → j < k → get_or next j 0 ≤ j) → (at j : ℕ) → at ≤ k → OnList next at j → OnList (set next k v) at j
 on_set next k v f at j l (here e) = here e
 on_set next k v f at j l (later {k = i} e o) =
@@ -151,36 +155,24 @@ pub zeros_long : (k : ℕ) → length (zeros k) ≡ k
 unfolding zeros
 zeros_long k = length-replicate {A = ℕ} k 0
 
--- no edge is linked yet
-module _ (n : ℕ) (few : n ≤ most_cells) where
-  pub link_none : Linked (arcs_of []) n 0 (zeros 1024) (zeros 3968) (zeros 3968)
-  unfolding arcs_of
-  link_none =
-      record {
-        within = tt;
-        tops = λ u h. omega (arith, zeros_at 1024 u);
-        falls = λ j h. omega arith;
-        sound = λ u j h o.
-            absurd
-            (⊎_elim
-            (λ e. omega (arith, zeros_at 1024 u))
-            (λ y. omega (arith, zeros_at 1024 u, y.1))
-            (on_cases (zeros 3968) (get_or (zeros 1024) u 0) j o));
-        whole = λ c d m. absurd m;
-        head_long = omega (arith, zeros_long 1024);
-        next_long = omega (arith, zeros_long 3968);
-        to_long = omega (arith, zeros_long 3968);
-      }
-
-  pub lists_none : Lists n 0 (zeros 1024) (zeros 3968) (zeros 3968)
-  lists_none =
-      record {
-        few = few;
-        room = omega arith;
-        tops = λ u h. omega (arith, zeros_at 1024 u);
-        falls = λ j h. omega arith;
-        ends = λ j h. omega arith;
-      }
+-- no arc is linked yet
+pub link_none : (n : ℕ) → n ≤ most_cells → Linked [] n 0 (zeros 1024) (zeros 3968) (zeros 3968)
+link_none n few =
+    record {
+      within = tt;
+      tops = λ u h. omega (arith, zeros_at 1024 u);
+      falls = λ j h. omega arith;
+      sound = λ u j h o.
+          absurd
+          (⊎_elim
+          (λ e. omega (arith, zeros_at 1024 u))
+          (λ y. omega (arith, zeros_at 1024 u, y.1))
+          (on_cases (zeros 3968) (get_or (zeros 1024) u 0) j o));
+      whole = λ c d m. absurd m;
+      head_long = omega (arith, zeros_long 1024);
+      next_long = omega (arith, zeros_long 3968);
+      to_long = omega (arith, zeros_long 3968);
+    }
 
 -- both arcs of an edge
 pub link_edge : (E : List Edge) (n k : ℕ) (head next to : List ℕ) → Linked (arcs_of E) n k head next to → (u v : ℕ) → u < n → v < n → k + 1 < 3968
@@ -198,12 +190,12 @@ unfolding arcs_of
 arcs_within n [] w = tt
 arcs_within n (e ∷ E) w = (w.1.0, arcs_within n E w.1.1)
 
-pub link_all : (E : List Edge) (n k : ℕ) (head next to : List ℕ) → Lists n k head next to → Linked (arcs_of E) n k head next to → Arcs E n head next to
-link_all E n k head next to a w =
+pub link_all : (E : List Edge) (n k : ℕ) (head next to : List ℕ) → n ≤ most_cells → k ≤ 3968 → Linked (arcs_of E) n k head next to → Arcs E n head next to
+link_all E n k head next to few room w =
     record {
-      few = a.few;
+      few = few;
       within = arcs_within n E w.within;
-      low = λ u j h o. let l = on_below next k w.falls (get_or head u 0) j (w.tops u h) o in (omega (arith, a.room), w.falls j l);
+      low = λ u j h o. let l = on_below next k w.falls (get_or head u 0) j (w.tops u h) o in (omega arith, w.falls j l);
       sound = λ u j h o. arcs_link E u (get_or to j 0) (w.sound u j h o);
       whole = λ c d m. w.whole c d (link_arcs E c d m);
     }

@@ -8,7 +8,7 @@ ghost use Rattle.limits.specs.Limits.{most_cells};
 ghost use Rattle.parts.specs.Flood.{blank};
 ghost use Rattle.room_parts.specs.Graph.{Lent, later_marked};
 
-use arcs::ArcLists;
+use arcs::Arcs;
 use limits::CELLS;
 use union_find::UnionFind;
 
@@ -100,13 +100,18 @@ impl RoomGraph<'_> {
         ensures { result ≡ joined_parts (graph_of self.entry.vertices self.entry.us.now self.entry.vs.now self.entry.states.now)
             (states_in self.entry.states.now) }
     {
-        let mut arcs = ArcLists::new(self.vertices);
+        let mut arcs = Arcs::new();
+        let mut count = 0;
         for (i, &state) in self.states.iter().enumerate() {
             if state != 2 {
-                arcs.link(usize::from(self.us[i]), usize::from(self.vs[i]));
+                let u = usize::from(self.us[i]);
+                let v = usize::from(self.vs[i]);
+                arcs.link(count, u, v);
+                arcs.link(count + 1, v, u);
+                count += 2;
             }
         }
-        arcs.parts()
+        arcs.sweep(self.vertices)
     }
 }
 

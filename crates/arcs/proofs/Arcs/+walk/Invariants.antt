@@ -1,7 +1,7 @@
--- `ArcLists::walk` meets its contract: `Trying` of the part of u's list that was tried. The measure of the calls is the depth that is
+-- `Arcs::walk` meets its contract: `Trying` of the part of u's list that was tried. The measure of the calls is the depth that is
 -- left, that of the loop the arc's number.
 use Rattle.arcs.proofs.WalkLaws.{Trying}
-use Rattle.arcs.proofs.ArcLists.+walk.Given as goal
+use Rattle.arcs.proofs.Arcs.+walk.Given as goal
 
 abbrev pub decreases-walk : goal.decreases-walk
 decreases-walk l = l.left

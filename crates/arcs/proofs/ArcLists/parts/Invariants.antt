@@ -1,6 +1,0 @@
--- `ArcLists::parts` meets its contract: `Sweeping` of the vertices so far; a seed without a mark begins a part.
-use Rattle.arcs.proofs.WalkLaws.{Sweeping}
-use Rattle.arcs.proofs.ArcLists.parts.Given as goal
-
-abbrev pub invariant-loop-s : goal.invariant-loop-s
-invariant-loop-s l = Sweeping l.self.vertices l.self.head l.self.next l.self.to l.seen l.parts l.s
