@@ -1,20 +1,18 @@
 -- One turn and the end of the loop that looks at a graph's ends. Assumes nothing.
-use Prim.Native.Nat.{ℕ, ◌+◌, ◌≤◌, ◌<◌}
+use Prim.Native.Nat.{ℕ, ◌≤◌, ◌<◌}
 use mathlib.Core.Path.{◌≡◌, refl, sym, ◌∙◌}
-use mathlib.Core.Bool.{Bool, true, false}
+use mathlib.Core.Bool.{Bool, true}
 use mathlib.Core.List.{List}
 use native.Mathlib.Omega.{arith}
-use borrow.Author.Tests.{ltb-true, lt-ltb, le-ltb}
+use borrow.Author.Tests.{ltb-true, lt-ltb}
 use lib.Dec.{ltb}
-use native.Mathlib.Numerals.{add-one}
-use lib.ListN.{get_or, length, take, drop, drop_of_length-le}
-use lib.Seq.{drop-cons}
+use lib.ListN.{get_or, length, take}
 use Rattle.std.proofs.lemmas.List.{get_or-take, length-take-le}
 use Rattle.limits.specs.Limits.{most_borders}
 use Rattle.lists.specs.Choice.{both}
 use Rattle.lists.specs.Lists.{range, all}
 use Rattle.lists.proofs.ChoiceLaws.{both_true, true_both, same_truth}
-use Rattle.lists.proofs.ListLaws.{all_not, all_true, true_all, range_in, in_range, in_get_d, get_d_in}
+use Rattle.lists.proofs.ListLaws.{all_true, true_all, range_in, in_range, in_get_d, get_d_in}
 use Rattle.city_count.specs.Room.{below, ends_exist}
 
 -- a test of two is two tests

@@ -173,13 +173,8 @@ fn find(graph: RoomGraph<'_>, count: usize, buffer: &mut [u16]) -> Option<usize>
     ensures { Finds (room_fault (graph_of graph.entry.vertices graph.entry.us.now graph.entry.vs.now graph.entry.states.now) count
         (states_in graph.entry.states.now)) buffer.old buffer.new result }
 {
-    if graph.tipped(count) {
-        return Some(list(graph.states, false, buffer));
-    }
-    if graph.outnumbers(count) {
-        return Some(list(graph.states, true, buffer));
-    }
-    None
+    let wall = graph.failing(count)?;
+    Some(list(graph.states, wall, buffer))
 }
 
 // Is each end of the edges one of the `n` vertices?
