@@ -14,7 +14,7 @@ loop-i-preserved c =
           let l = w.link.ensures in
           let k = w.link-then-state-ne2.ensures in
           rw (w.arcs-is, w.count-is)
-          (linking_more c.args.self.lent c.loop-i.invariant c.loop-i-test.true w.from-u.ensures w.from-v.ensures w.if-state-ne2.true
+          (linking_more c.args.self.lent c.loop-i.invariant c.loop-i-test.true w.ends-u.ensures.first w.ends-u.ensures.second w.if-state-ne2.true
           l.head_after
           l.next_after
           l.to_after
