@@ -1,62 +1,41 @@
--- The loops over given walls and clues: what is left to test. Assumes nothing.
-use Prim.Native.Nat.{ℕ, ◌+◌, ◌-◌, ◌≤◌, ◌<◌}
-use mathlib.Core.Path.{◌≡◌, refl, ap, ◌∙◌}
-use mathlib.Core.Logic.{◌≢◌}
-use mathlib.Core.Bool.{true, false}
+-- What the library's tests of given walls and clues answer. Assumes nothing.
+use Prim.Native.Nat.{ℕ, zero, suc, ◌<◌}
+use mathlib.Core.Path.{◌≡◌, refl, sym}
+use mathlib.Core.Bool.{Bool, true, false}
 use mathlib.Core.List.{List, [], ◌∷◌}
 use native.Mathlib.Omega.{arith}
 use native.Mathlib.Numerals.{add-one}
-use borrow.Author.Tests.{lt-ltb, le-ltb, lt-leb, le-leb, eq-eqb, ne_eqb}
-use lib.ListN.{length, get_or, drop, length-drop}
-use lib.Seq.{drop-cons}
-use Rattle.limits.specs.Limits.{no_clue}
-use Rattle.lists.specs.Choice.{both}
-use Rattle.lists.specs.Lists.{all, count_from}
-use Rattle.lists.proofs.ListLaws.{all_step}
+use lib.Dec.{ltb}
+use lib.ListN.{length, get_or}
+use Rattle.std.specs.List.{IsAllAdjacentAnswer}
+use Rattle.std.proofs.Common.{IsTrue, ◌↔◌}
+use Rattle.lists.specs.Lists.{range}
+use Rattle.lists.proofs.ChoiceLaws.{true_both, both_false, same_truth}
+use Rattle.lists.proofs.ListLaws.{all_true, true_all, range_in, in_range}
 use Rattle.clues.specs.Clues.{rises, clue_fits, all_fit}
 
-module _ (given : List ℕ) where
-  rest_turn : (i : ℕ) → i < length given → drop i given ≡ get_or given i 0 ∷ drop (i + 1) given
-  rest_turn i h = rw (drop-cons given i 0 h, add-one)
+each_rises : (xs : List ℕ) → ((k d : ℕ) → suc k < length xs → true ≡ ltb (get_or xs k d) (get_or xs (suc k) d)) → rises xs ≡ true
+unfolding rises
+each_rises [] h = refl
+each_rises (x ∷ []) h = refl
+each_rises (x ∷ y ∷ l) h = true_both _ _ (sym (h 0 0 (omega arith))) (each_rises (y ∷ l) (λ k d q. h (suc k) d (omega (arith, q))))
 
-  -- RISING
-  module _ (i : ℕ) (some : 1 ≤ i) where
-    two : i < length given → drop (i - 1) given ≡ get_or given (i - 1) 0 ∷ get_or given i 0 ∷ drop (i + 1) given
-    two h =
-        let q : i - 1 + 1 ≡ i = omega arith in
-        rest_turn (i - 1) (omega arith) ∙ rw q (ap (λ (l : List ℕ). get_or given (i - 1) 0 ∷ l) (rest_turn i h))
+one_falls : (xs : List ℕ) (k : ℕ) → suc k < length xs → false ≡ ltb (get_or xs k 0) (get_or xs (suc k) 0) → rises xs ≡ false
+unfolding rises
+one_falls [] k h q = absurd (omega arith)
+one_falls (x ∷ []) k h q = absurd (omega arith)
+one_falls (x ∷ y ∷ l) zero h q = rw (sym q)
+one_falls (x ∷ y ∷ l) (suc k) h q = rw (one_falls (y ∷ l) k (omega arith) q) (both_false (ltb x y))
 
-    one : drop (i + 1 - 1) given ≡ drop i given
-    one = let q : i + 1 - 1 ≡ i = omega arith in rw q
+-- `is_sorted_by` tests whether they rise
+pub rise_by : (xs : List ℕ) (r : Bool) → IsAllAdjacentAnswer (λ x y b. b ≡ ltb x y) xs r → r ≡ rises xs
+rise_by xs true h = sym (each_rises xs (λ k d q. rw (add-one k) at (h k d (omega (arith, q)))))
+rise_by xs false h = sym (one_falls xs h.0 (omega (arith, h.1)) (rw (add-one h.0) at (h.2 0)))
 
-    pub rise_stop : i < length given → get_or given i 0 ≤ get_or given (i - 1) 0 → rises (drop (i - 1) given) ≡ false
-    unfolding rises
-    rise_stop h k = rw (two h, le-ltb (get_or given (i - 1) 0) (get_or given i 0) k)
-
-    pub rise_turn : i < length given → get_or given (i - 1) 0 < get_or given i 0 → rises (drop (i - 1) given) ≡ rises (drop (i + 1 - 1) given)
-    unfolding rises
-    rise_turn h k = rw (two h, lt-ltb (get_or given (i - 1) 0) (get_or given i 0) k, one, rest_turn i h)
-
-    pub rise_end : length given ≤ i → rises (drop (i - 1) given) ≡ true
-    rise_end h = short (drop (i - 1) given) (simp length-drop (omega arith))
-      where
-        short : (l : List ℕ) → length l ≤ 1 → rises l ≡ true
-        short [] k = unfold rises in refl
-        short (x ∷ []) k = unfold rises in refl
-        short (x ∷ y ∷ l) k = absurd (omega arith)
-
--- CLUES
-module _ (sizes clues : List ℕ) (room : ℕ) (h : room < length clues)
-    (w : all (clue_fits sizes clues) (count_from room (length clues - room)) ≡ all_fit sizes clues) where
-  fit_step : both (clue_fits sizes clues room) (all (clue_fits sizes clues) (count_from (room + 1) (length clues - (room + 1)))) ≡ all_fit sizes clues
-  fit_step = rw (all_step (clue_fits sizes clues) (length clues) room h) at w
-
-  pub fit_stop : get_or clues room 0 ≢ no_clue → get_or sizes room 0 < get_or clues room 0 → false ≡ all_fit sizes clues
-  fit_stop z l = rw (ne_eqb (get_or clues room 0) no_clue z, lt-leb (get_or clues room 0) (get_or sizes room 0) l) at fit_step
-
-  pub fit_none : get_or clues room 0 ≡ no_clue → all (clue_fits sizes clues) (count_from (room + 1) (length clues - (room + 1))) ≡ all_fit sizes clues
-  fit_none e = rw (eq-eqb (get_or clues room 0) no_clue e) at fit_step
-
-  pub fit_small : get_or clues room 0 ≢ no_clue → get_or clues room 0 ≤ get_or sizes room 0
-      → all (clue_fits sizes clues) (count_from (room + 1) (length clues - (room + 1))) ≡ all_fit sizes clues
-  fit_small z l = rw (ne_eqb (get_or clues room 0) no_clue z, le-leb (get_or clues room 0) (get_or sizes room 0) l) at fit_step
+-- `all` over clues and sizes tests whether each clue fits
+pub fits_by : (sizes clues : List ℕ) (r : Bool) → IsTrue r ↔ ((k : ℕ) → k < length clues → IsTrue (clue_fits sizes clues k)) → r ≡ all_fit sizes clues
+unfolding all_fit
+fits_by sizes clues r h =
+    same_truth r (all_fit sizes clues)
+    (λ q. true_all (clue_fits sizes clues) (range (length clues)) (λ k m. h.0 q k (in_range (length clues) k m)))
+    (λ q. h.1 (λ k l. all_true (clue_fits sizes clues) (range (length clues)) q k (range_in (length clues) k l)))

@@ -1,9 +1,8 @@
 // What a puzzle's making asks of its lists, the given walls and the clues: questions 3, 7, 8 and 9.
 #![tactic(auto)]
 
-ghost use Rattle.std.specs.Prelude.{◌≡◌, ◌≤◌, ltb, length};
+ghost use Rattle.std.specs.Prelude.{◌≡◌, ◌≤◌, length};
 ghost use Rattle.limits.specs.Limits.{most_cells};
-ghost use Rattle.lists.specs.Lists.{all};
 ghost use Rattle.answers.specs.Refusals.{code_of};
 ghost use Rattle.grid.specs.Grid.{Limits, cells};
 ghost use Rattle.rooms.specs.Lent.{Given};
@@ -12,23 +11,11 @@ ghost use Rattle.clues.specs.Clues.{rises, all_fit, rooms_code, lists_code};
 use answers::Refusal;
 use grid::Grid;
 
-// Question 3: each given wall is below n, which is how many borders there are.
-fn exist(given: &[u16], n: usize) -> bool
-    ensures { result ≡ all (λ e. ltb e n) given.now }
-{
-    given.iter().all(|&wall| usize::from(wall) < n)
-}
-
 // Question 7: the given walls rise strictly.
 fn rise(given: &[u16]) -> bool
     ensures { result ≡ rises given.now }
 {
-    for i in 1..given.len() {
-        if given[i] <= given[i - 1] {
-            return false;
-        }
-    }
-    true
+    given.is_sorted_by(|a, b| a < b)
 }
 
 // Question 9: each room's clue is 65535 or at most its size.
@@ -36,12 +23,10 @@ fn clues_fit(clues: &[u16], sizes: &[u16]) -> bool
     requires { length clues.now ≤ length sizes.now }
     ensures { result ≡ all_fit sizes.now clues.now }
 {
-    for (room, &clue) in clues.iter().enumerate() {
-        if clue != limits::NO_CLUE && sizes[room] < clue {
-            return false;
-        }
-    }
-    true
+    clues
+        .iter()
+        .zip(sizes)
+        .all(|(&clue, &size)| clue == limits::NO_CLUE || clue <= size)
 }
 
 // Questions 8 and 9 of given walls and clues, by arrays with a place for each cell.
@@ -67,7 +52,7 @@ pub fn check_lists(grid: Grid, given: &[u16], clues: &[u16]) -> Result<(), Refus
     requires { Limits grid }
     ensures { code_of result ≡ lists_code grid given.now clues.now }
 {
-    if !exist(given, grid.border_count()) {
+    if !lists::all_below(given, grid.border_count()) {
         return Err(Refusal::Missing);
     }
     if !rise(given) {

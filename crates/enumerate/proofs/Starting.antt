@@ -33,7 +33,7 @@ use Rattle.puzzle.proofs.Ready.{Ready, ready}
 use Rattle.puzzle.proofs.Answers.{second_says}
 use Rattle.enumerate.specs.Boards.{Boards}
 use Rattle.enumerate.specs.Boards.{Listed, Refused}
-use Rattle.enumerate.specs.declared.search.Tally.{Tally}
+use Rattle.enumerate.specs.declared.Listing.{Listing}
 use Rattle.enumerate.specs.Boards.{extensions, is_right, rights, states_in, rights_of, places_code, boards_code, listing, answered, boards_of}
 use Rattle.enumerate.specs.Search.{Written, written, Searching, searched, no_entries, Started}
 use Rattle.enumerate.proofs.Extensions.{in_extensions, over_long}
@@ -48,7 +48,7 @@ unfolding no_entries
 entries_long = length-replicate {A = ℕ} most_entries 0
 
 abbrev pub nothing : ℕ → List ℕ → Written
-nothing cap boards = written (record { cap = cap; count = 0; more = false }) boards
+nothing cap boards = written cap (record { count = 0; more = false }) boards
 
 pub right_long : (g : Grid) (given clues s b : List ℕ) → In b (rights g given clues s) → length b ≡ length s
 unfolding rights
@@ -65,14 +65,14 @@ module _ (g : Grid) (given clues s : List ℕ) (cap : ℕ) (boards : List ℕ) w
       }
 
   whole : searched g given clues s (nothing cap boards)
-      ≡ written (record { cap = cap; count = length (take cap (rights g given clues s)); more = ltb cap (length (rights g given clues s)) }) (sets boards 0 (gather (λ b. b) (take cap (rights g given clues s))))
+      ≡ written cap (record { count = length (take cap (rights g given clues s)); more = ltb cap (length (rights g given clues s)) }) (sets boards 0 (gather (λ b. b) (take cap (rights g given clues s))))
   whole = all_from (length s) cap cap 0 (sym (zero-add cap)) boards (rights g given clues s) (right_long g given clues s) ∙ rw (zero-add (length (take cap (rights g given clues s))), zero-mul (length s))
 
-  pub at_end : (x : Tally) (boards' left : List ℕ) → left ≡ boards' → written x boards' ≡ searched g given clues s (nothing cap boards)
+  pub at_end : (top : ℕ) (x : Listing) (boards' left : List ℕ) → left ≡ boards' → written top x boards' ≡ searched g given clues s (nothing cap boards)
       → (Listed x.count x.more ≡ (listing (rights g given clues s) cap boards).answer) × (left ≡ (listing (rights g given clues s) cap boards).buffer)
-  at_end x boards' left k q =
+  at_end top x boards' left k q =
       let e = q ∙ whole in
-      (ap (λ (w : Written). Listed w.tally.count w.tally.more) e, k ∙ ap (λ (w : Written). w.boards) e)
+      (ap (λ (w : Written). Listed w.listing.count w.listing.more) e, k ∙ ap (λ (w : Written). w.boards) e)
 
 -- AN ACCEPTED PUZZLE
 each_border : (p : Puzzle) → length (states_in p) ≡ borders_of p

@@ -66,7 +66,7 @@ told_fault none q = absurd (true≢false (sym q))
 told_fault (some x) q = (x, refl)
 
 module _ {g : Grid} (given clues : List ℕ) {s list : List ℕ} {w : Written} (a : Searching g s list w) where
-  pub cap_met : w.tally.more ≡ true → w ≡ searched g given clues s w
+  pub cap_met : w.listing.more ≡ true → w ≡ searched g given clues s w
   cap_met q = sym (no_more w (rights g given clues s) (omega (arith, a.fits.met q)) q)
 
   pub branch_cut : is_some (told (fault_of g given clues s)) ≡ true → w ≡ searched g given clues s w

@@ -25,36 +25,36 @@ all_append w [] b = refl
 all_append w (x ∷ a) b = all_append (add w x) a b
 
 module _ (w : Written) (b : List ℕ) where
-  pub add_below : w.tally.count < w.tally.cap
-      → add w b ≡ written (record { cap = w.tally.cap; count = w.tally.count + 1; more = w.tally.more }) (sets w.boards (w.tally.count * length b) b)
+  pub add_below : w.listing.count < w.cap
+      → add w b ≡ written w.cap (record { count = w.listing.count + 1; more = w.listing.more }) (sets w.boards (w.listing.count * length b) b)
   unfolding add
-  add_below h = rw (lt-ltb w.tally.count w.tally.cap h)
+  add_below h = rw (lt-ltb w.listing.count w.cap h)
 
-  pub add_met : w.tally.cap ≤ w.tally.count → add w b ≡ written (record { cap = w.tally.cap; count = w.tally.count; more = true }) w.boards
+  pub add_met : w.cap ≤ w.listing.count → add w b ≡ written w.cap (record { count = w.listing.count; more = true }) w.boards
   unfolding add
-  add_met h = rw (le-ltb w.tally.count w.tally.cap h)
+  add_met h = rw (le-ltb w.listing.count w.cap h)
 
 -- a board's bytes behind count others have places
-pub place : (n : ℕ) (w : Written) → Fits n w → w.tally.count < w.tally.cap → w.tally.count * n + n ≤ length w.boards
-place n w f h = go w.tally.count w.tally.cap (length w.boards) h f.long
+pub place : (n : ℕ) (w : Written) → Fits n w → w.listing.count < w.cap → w.listing.count * n + n ≤ length w.boards
+place n w f h = go w.listing.count w.cap (length w.boards) h f.long
   where
     go : (k cap l : ℕ) → k < cap → cap * n ≤ l → k * n + n ≤ l
     go k cap l h f = omega (arith, suc-mul k n, mul-le-mul_right {m = suc k} {n = cap} n (omega arith))
 
 -- a board that is copied there
-pub placed : (w : Written) (b : List ℕ) → Fits (length b) w → w.tally.count < w.tally.cap → (ys : List ℕ) → ys ≡ b
-    → put_mid (w.tally.count * length b) (w.tally.count * length b + length b - w.tally.count * length b) w.boards ys ≡ sets w.boards (w.tally.count * length b) b
+pub placed : (w : Written) (b : List ℕ) → Fits (length b) w → w.listing.count < w.cap → (ys : List ℕ) → ys ≡ b
+    → put_mid (w.listing.count * length b) (w.listing.count * length b + length b - w.listing.count * length b) w.boards ys ≡ sets w.boards (w.listing.count * length b) b
 placed w b f h ys q =
-    rw q (part_written w.boards b (w.tally.count * length b) _ (omega arith) (place (length b) w f h))
+    rw q (part_written w.boards b (w.listing.count * length b) _ (omega arith) (place (length b) w f h))
 
 fits_add : (n : ℕ) (w : Written) (b : List ℕ) → Fits n w → Fits n (add w b)
 fits_add n w b f =
     ⊎_elim
-    (λ (h : w.tally.cap ≤ w.tally.count). rw (add_met w b h) (record { few = f.few; long = f.long; met = λ q. omega (arith, f.few) }))
-    (λ (h : w.tally.count < w.tally.cap).
+    (λ (h : w.cap ≤ w.listing.count). rw (add_met w b h) (record { few = f.few; long = f.long; met = λ q. omega (arith, f.few) }))
+    (λ (h : w.listing.count < w.cap).
     rw (add_below w b h)
-    (record { few = omega arith; long = rw (length-sets w.boards (w.tally.count * length b) b) f.long; met = λ q. absurd (omega (arith, f.met q)) }))
-    (le_or_lt w.tally.cap w.tally.count)
+    (record { few = omega arith; long = rw (length-sets w.boards (w.listing.count * length b) b) f.long; met = λ q. absurd (omega (arith, f.met q)) }))
+    (le_or_lt w.cap w.listing.count)
 
 pub fits_all : (n : ℕ) (w : Written) (bs : List (List ℕ)) → Fits n w → Fits n (add_all w bs)
 unfolding add_all
@@ -62,17 +62,17 @@ fits_all n w [] f = f
 fits_all n w (b ∷ bs) f = fits_all n (add w b) bs (fits_add n w b f)
 
 -- once there is one more than the cap, nothing changes
-pub no_more : (w : Written) (bs : List (List ℕ)) → w.tally.cap ≤ w.tally.count → w.tally.more ≡ true → add_all w bs ≡ w
+pub no_more : (w : Written) (bs : List (List ℕ)) → w.cap ≤ w.listing.count → w.listing.more ≡ true → add_all w bs ≡ w
 unfolding add_all
 no_more w [] h q = refl
 no_more w (b ∷ bs) h q = ap (λ x. add_all x bs) same ∙ no_more w bs h q
   where
     same : add w b ≡ w
-    same = add_met w b h ∙ ap (λ m. written (record { cap = w.tally.cap; count = w.tally.count; more = m }) w.boards) (sym q)
+    same = add_met w b h ∙ ap (λ m. written w.cap (record { count = w.listing.count; more = m }) w.boards) (sym q)
 
 -- THE WHOLE: after k boards, with d more below the cap
 abbrev ended : ℕ → ℕ → Bool → List ℕ → Written
-ended cap count more boards = written (record { cap = cap; count = count; more = more }) boards
+ended cap count more boards = written cap (record { count = count; more = more }) boards
 
 shift : (d l : ℕ) → ltb d l ≡ ltb (suc d) (suc l)
 shift d l =
@@ -90,8 +90,8 @@ one_then n cap d k l x buf b rest q =
     rw (e, shift d l, z, sets_append b rest buf (k * n), q)
 
 pub all_from : (n cap d k : ℕ) → cap ≡ k + d → (buf : List ℕ) (bs : List (List ℕ)) → ((b : List ℕ) → In b bs → length b ≡ n)
-    → add_all (written (record { cap = cap; count = k; more = false }) buf) bs
-    ≡ written (record { cap = cap; count = k + length (take d bs); more = ltb d (length bs) }) (sets buf (k * n) (gather (λ b. b) (take d bs)))
+    → add_all (written cap (record { count = k; more = false }) buf) bs
+    ≡ written cap (record { count = k + length (take d bs); more = ltb d (length bs) }) (sets buf (k * n) (gather (λ b. b) (take d bs)))
 unfolding add_all gather
 all_from n cap zero k q buf [] each = rw (add-zero k)
 all_from n cap (suc d) k q buf [] each = rw (add-zero k, le-ltb (suc d) 0 (omega arith))

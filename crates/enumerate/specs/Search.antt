@@ -6,7 +6,7 @@ use Rattle.lists.specs.Choice.{pick}
 use Rattle.grid.specs.declared.Grid.{Grid}
 use Rattle.grid.specs.Grid.{cells, border_count}
 use Rattle.borders.specs.Border.{StatesOk}
-use Rattle.enumerate.specs.declared.search.Tally.{Tally}
+use Rattle.enumerate.specs.declared.Listing.{Listing}
 use Rattle.enumerate.specs.declared.search.Search.{Search}
 use Rattle.enumerate.specs.Boards.{rights}
 
@@ -17,22 +17,23 @@ first_undecided (s ∷ states) = pick (eqb s 0) 0 (suc (first_undecided states))
 
 -- what the search has written so far
 pub record Written : Type 0 where
-  pub tally : Tally
+  pub cap : ℕ
+  pub listing : Listing
   pub boards : List ℕ
 
-abbrev pub written : Tally → List ℕ → Written
-written t boards = record { tally = t; boards = boards }
+abbrev pub written : ℕ → Listing → List ℕ → Written
+written cap l boards = record { cap = cap; listing = l; boards = boards }
 
 abbrev pub written_in : Search → Written
-written_in s = written s.tally s.boards.now
+written_in s = written s.cap s.listing s.boards.now
 
 -- a board more: behind those that are written; or, where the cap is met, there is one more
 unfoldable pub add : Written → List ℕ → Written
 add w b =
-    let t = w.tally in
-    pick (ltb t.count t.cap)
-    (written (record { cap = t.cap; count = t.count + 1; more = t.more }) (sets w.boards (t.count * length b) b))
-    (written (record { cap = t.cap; count = t.count; more = true }) w.boards)
+    let l = w.listing in
+    pick (ltb l.count w.cap)
+    (written w.cap (record { count = l.count + 1; more = l.more }) (sets w.boards (l.count * length b) b))
+    (written w.cap (record { count = l.count; more = true }) w.boards)
 
 unfoldable pub add_all : Written → List (List ℕ) → Written
 unfolding add
@@ -41,9 +42,9 @@ add_all w (b ∷ bs) = add_all (add w b) bs
 
 -- boards of n borders, as many as the cap, have places; there is one more only where the cap is met
 pub record Fits (n : ℕ) (w : Written) : Type 0 where
-  pub few : w.tally.count ≤ w.tally.cap
-  pub long : w.tally.cap * n ≤ length w.boards
-  pub met : w.tally.more ≡ true → w.tally.count ≡ w.tally.cap
+  pub few : w.listing.count ≤ w.cap
+  pub long : w.cap * n ≤ length w.boards
+  pub met : w.listing.more ≡ true → w.listing.count ≡ w.cap
 
 -- a board's borders as they stand, a buffer for the lists of its asks, and places for the boards
 pub record Searching (g : Grid) (states list : List ℕ) (w : Written) : Type 0 where

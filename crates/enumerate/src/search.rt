@@ -9,14 +9,6 @@ use borders::Borders;
 use grid::Grid;
 use room_checks::CluedBoard;
 
-// How many boards may be written and are, and whether there is one more.
-#[derive(Clone, Copy)]
-pub struct Tally {
-    pub cap: usize,
-    pub count: usize,
-    pub more: bool,
-}
-
 // What a board is right by: its size, its given walls, and a clue for each of its rooms.
 #[derive(Clone, Copy)]
 pub struct Rules<'a> {
@@ -27,13 +19,14 @@ pub struct Rules<'a> {
     ghost one_each: { length clues.now ≡ room_count grid given.now },
 }
 
-// A search under way: the lists of its asks and the boards that it finds go to slices that are lent.
+// A search under way: the lists of its asks and the boards that it finds, as many as the cap, go to slices that are lent.
 #[derive(Drop)]
 struct Search<'r, 'a> {
     rules: Rules<'r>,
     list: &'a mut [u16],
     boards: &'a mut [u8],
-    tally: Tally,
+    cap: usize,
+    listing: Listing,
 }
 
 impl Search<'_, '_> {
@@ -45,13 +38,13 @@ impl Search<'_, '_> {
         ensures kept { Kept self.old self.new }
         ensures boards_after { written_in self.new ≡ add (written_in self.old) board.now }
     {
-        if self.tally.count < self.tally.cap {
-            let start = self.tally.count * board.len();
+        if self.listing.count < self.cap {
+            let start = self.listing.count * board.len();
             self.boards[start..start + board.len()].copy_from_slice(board);
-            self.tally.count += 1;
+            self.listing.count += 1;
             return;
         }
-        self.tally.more = true;
+        self.listing.more = true;
     }
 
     // Goes on from a board as it stands: nothing more is written once there is one more than the cap or where an ask finds a fault, a full
@@ -63,7 +56,7 @@ impl Search<'_, '_> {
         ensures states_unchanged { states.new ≡ states.old }
         ensures boards_after { written_in self.new ≡ searched self.old.rules.grid self.old.rules.given.now self.old.rules.clues.now states.old (written_in self.old) }
     {
-        if self.tally.more {
+        if self.listing.more {
             return;
         }
         let borders = Borders {
@@ -116,16 +109,13 @@ impl Rules<'_> {
             rules: self,
             list: &mut list,
             boards,
-            tally: Tally {
-                cap,
+            cap,
+            listing: Listing {
                 count: 0,
                 more: false,
             },
         };
         search.choose_border(states);
-        Listing {
-            count: search.tally.count,
-            more: search.tally.more,
-        }
+        search.listing
     }
 }

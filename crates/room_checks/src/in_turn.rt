@@ -1,8 +1,7 @@
 // The rooms of a board, one after the other.
 
-ghost use Rattle.std.specs.Prelude.{◌≤◌, length};
+ghost use Rattle.std.specs.Prelude.{◌≡◌, ◌≤◌, length};
 ghost use Rattle.grid.specs.Grid.{border_count};
-ghost use Rattle.borders.specs.Fits.{Fits};
 
 use crate::RoomFault;
 use borders::Borders;
@@ -11,12 +10,12 @@ use rooms::Room;
 
 // The rooms of a board with marks at its given walls: the cells of each stand in turn.
 #[derive(Clone, Copy)]
-pub struct Rooms<'a> {
-    pub states: &'a [u8],
+pub struct Rooms<'b, 'a> {
+    pub borders: Borders<'b>,
     pub marks: &'a [u8],
     pub groups: Groups<'a>,
-    ghost fits: { Fits groups.grid states.now },
-    ghost marked: { border_count groups.grid ≤ length marks.now },
+    ghost one_board: { groups.grid ≡ borders.grid },
+    ghost marked: { border_count borders.grid ≤ length marks.now },
 }
 
 // The room whose count fails, and whether its list has its Walls or its Connected borders.
@@ -26,8 +25,8 @@ struct Failing {
     wall: bool,
 }
 
-impl<'a> Rooms<'a> {
-    ghost use Rattle.std.specs.Prelude.{◌≡◌, ◌<◌, ◌*◌};
+impl<'b, 'a> Rooms<'b, 'a> {
+    ghost use Rattle.std.specs.Prelude.{◌<◌, ◌*◌};
     ghost use Rattle.grid.specs.Grid.{cells};
     ghost use Rattle.borders.specs.Border.{state_of};
     ghost use Rattle.groups.specs.Groups.{cells_of};
@@ -35,32 +34,15 @@ impl<'a> Rooms<'a> {
     ghost use Rattle.rooms.specs.Lent.{marked_in};
     ghost use Rattle.room_checks.specs.RoomChecks.{clue_list, rooms_fault, counted_of, leaves, Checks};
 
-    // The rooms whose cells stand in turn, with states and marks that the caller lends.
-    pub fn new(groups: Groups<'a>, states: &'a [u8], marks: &'a [u8]) -> Rooms<'a>
-        requires fits { Fits groups.grid states.now }
-        requires marked { border_count groups.grid ≤ length marks.now }
-        ensures groups { (result.groups.grid ≡ groups.entry.grid) × (result.groups.ids.now ≡ groups.entry.ids.now) × (result.groups.starts.now ≡ groups.entry.starts.now) }
-        ensures borders { (result.states.now ≡ states.now) × (result.marks.now ≡ marks.now) }
-    {
-        Rooms {
-            states,
-            marks,
-            groups,
-        }
-    }
-
     // A room with its borders.
-    fn room(self, room: usize) -> Room<'a>
+    fn room(self, room: usize) -> Room<'b, 'a>
         requires { room < length self.groups.starts.now }
-        ensures board { (result.borders.grid ≡ self.entry.groups.grid) × (result.borders.states.now ≡ self.entry.states.now) }
+        ensures board { (result.borders.grid ≡ self.entry.borders.grid) × (result.borders.states.now ≡ self.entry.borders.states.now) }
         ensures marks { result.marks.now ≡ self.entry.marks.now }
-        ensures cells { result.cells.now ≡ cells_of self.entry.groups.grid self.entry.groups.ids.now room }
+        ensures cells { result.cells.now ≡ cells_of self.entry.borders.grid self.entry.groups.ids.now room }
     {
         Room {
-            borders: Borders {
-                grid: self.groups.grid,
-                states: self.states,
-            },
+            borders: self.borders,
             marks: self.marks,
             cells: self.groups.cells(room),
         }
@@ -69,8 +51,8 @@ impl<'a> Rooms<'a> {
     // Which side of a room's count fails, where the room has a clue.
     fn check(self, room: usize, clue: u16) -> Option<bool>
         requires { room < length self.groups.starts.now }
-        ensures { side_list self.entry.groups.grid (marked_in self.entry.marks.now) (cells_of self.entry.groups.grid self.entry.groups.ids.now room) (state_of self.entry.states.now) result
-            ≡ clue_list self.entry.groups.grid (marked_in self.entry.marks.now) (cells_of self.entry.groups.grid self.entry.groups.ids.now room) clue (state_of self.entry.states.now) }
+        ensures { side_list self.entry.borders.grid (marked_in self.entry.marks.now) (cells_of self.entry.borders.grid self.entry.groups.ids.now room) (state_of self.entry.borders.states.now) result
+            ≡ clue_list self.entry.borders.grid (marked_in self.entry.marks.now) (cells_of self.entry.borders.grid self.entry.groups.ids.now room) clue (state_of self.entry.borders.states.now) }
     {
         if clue == limits::NO_CLUE {
             return None;
@@ -81,7 +63,7 @@ impl<'a> Rooms<'a> {
     // The first of the clued rooms whose count fails.
     fn first(self, clues: &[u16]) -> Option<Failing>
         requires { length clues.now ≡ length self.groups.starts.now }
-        ensures { Checks self.entry.groups.grid (marked_in self.entry.marks.now) (cells_of self.entry.groups.grid self.entry.groups.ids.now) clues.now (state_of self.entry.states.now) result }
+        ensures { Checks self.entry.borders.grid (marked_in self.entry.marks.now) (cells_of self.entry.borders.grid self.entry.groups.ids.now) clues.now (state_of self.entry.borders.states.now) result }
     {
         for (room, &clue) in clues.iter().enumerate() {
             if let Some(wall) = self.check(room, clue) {
@@ -94,9 +76,9 @@ impl<'a> Rooms<'a> {
     // The counts of the clued rooms: the first that fails is listed.
     pub fn count(self, clues: &[u16], buffer: &mut [u16]) -> Option<RoomFault>
         requires clues { length clues.now ≡ length self.groups.starts.now }
-        requires buffer { 9 * cells self.groups.grid ≤ length buffer.old }
-        ensures value { result ≡ counted_of (rooms_fault self.entry.groups.grid (marked_in self.entry.marks.now) (cells_of self.entry.groups.grid self.entry.groups.ids.now) clues.now (state_of self.entry.states.now)) }
-        ensures buffer_after { buffer.new ≡ leaves (rooms_fault self.entry.groups.grid (marked_in self.entry.marks.now) (cells_of self.entry.groups.grid self.entry.groups.ids.now) clues.now (state_of self.entry.states.now)) buffer.old }
+        requires buffer { 9 * cells self.borders.grid ≤ length buffer.old }
+        ensures value { result ≡ counted_of (rooms_fault self.entry.borders.grid (marked_in self.entry.marks.now) (cells_of self.entry.borders.grid self.entry.groups.ids.now) clues.now (state_of self.entry.borders.states.now)) }
+        ensures buffer_after { buffer.new ≡ leaves (rooms_fault self.entry.borders.grid (marked_in self.entry.marks.now) (cells_of self.entry.borders.grid self.entry.groups.ids.now) clues.now (state_of self.entry.borders.states.now)) buffer.old }
     {
         let Failing { room, wall } = self.first(clues)?;
         let len = self.room(room).write(wall, buffer);

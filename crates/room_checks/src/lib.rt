@@ -50,7 +50,7 @@ impl CluedBoard<'_, '_> {
         ensures value { result ≡ counted_of (rooms_in self.entry.borders.grid self.entry.given.now self.entry.clues.now self.entry.borders.states.now) }
         ensures buffer_after { buffer.new ≡ leaves (rooms_in self.entry.borders.grid self.entry.given.now self.entry.clues.now self.entry.borders.states.now) buffer.old }
     {
-        let Borders { grid, states, .. } = self.borders;
+        let grid = self.borders.grid;
         let n = grid.cell_count();
         let mut ids = [0u16; N];
         let mut sizes = [0u16; N];
@@ -66,7 +66,12 @@ impl CluedBoard<'_, '_> {
             starts: &starts[..count],
             flat: &flat,
         };
-        Rooms::new(groups, states, &marks).count(self.clues, buffer)
+        let rooms = Rooms {
+            borders: self.borders,
+            marks: &marks,
+            groups,
+        };
+        rooms.count(self.clues, buffer)
     }
 
     // The counts of the clued rooms: the first that fails is listed. Where no room has a clue the rooms are not found. A small board has

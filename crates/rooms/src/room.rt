@@ -11,14 +11,14 @@ const EDGES: usize = 2048;
 
 // A room's cells in row order, on a board whose given walls have marks.
 #[derive(Clone, Copy)]
-pub struct Room<'a> {
-    pub borders: Borders<'a>,
+pub struct Room<'b, 'a> {
+    pub borders: Borders<'b>,
     pub marks: &'a [u8],
     pub cells: &'a [u16],
     ghost housed: { Housed borders.grid marks.now borders.states.now cells.now },
 }
 
-impl Room<'_> {
+impl Room<'_, '_> {
     ghost use Rattle.std.specs.Prelude.{◌≡◌, ◌*◌, ◌≤◌, length, Some, None};
     ghost use Rattle.std.proofs.lemmas.List.Edits.{sets};
     ghost use Rattle.lists.specs.Choice.{pick};

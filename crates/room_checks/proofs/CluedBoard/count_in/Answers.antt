@@ -39,10 +39,7 @@ returns g c =
     let b = c.args.self.borders in
     let l = places b.grid g.row.N c.requires.room.0 in
     let n = c.cell_count-n.ensures in
-    let e = c.new.ensures in
-    let ids = e.groups.1 ∙ ap (λ m. take m c.rooms_of-count.new.ids) n
+    let ids = ap (λ m. take m c.rooms_of-count.new.ids) n
     ∙ room_ids_are b.grid c.args.self.given.now c.args.self.walls l c.rooms_of-count.ensures _ _ l.ids_long l.sizes_long (rw n at c.put_in_turn.ensures.starts_after) (rw n at c.put_in_turn.ensures.flat_after) in
-    let marks = e.borders.1 ∙ c.put.ensures in
-    let same = rooms_same b.grid c.args.self.given.now c.args.self.walls marks b.states.now c.args.self.clues.now ids in
-    let k = rw (e.groups.0, e.borders.0) at c.count.ensures in
-    record { value = k.value ∙ ap counted_of same; buffer_after = k.buffer_after ∙ ap (λ f. leaves f c.args.buffer.now) same }
+    let same = rooms_same b.grid c.args.self.given.now c.args.self.walls c.put.ensures b.states.now c.args.self.clues.now ids in
+    record { value = c.count.ensures.value ∙ ap counted_of same; buffer_after = c.count.ensures.buffer_after ∙ ap (λ f. leaves f c.args.buffer.now) same }

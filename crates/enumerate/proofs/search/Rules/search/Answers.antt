@@ -14,5 +14,5 @@ pub returns : goal.returns
 unfolding no_entries
 returns c =
     let a = c.args in
-    let w = at_end a.self.grid a.self.given.now a.self.clues.now a.states.now a.cap a.boards.now _ _ _ (search rules) c.choose_border.ensures.boards_after in
+    let w = at_end a.self.grid a.self.given.now a.self.clues.now a.states.now a.cap a.boards.now _ _ _ _ (search rules) c.choose_border.ensures.boards_after in
     record { value = w.0; boards_after = w.1 }

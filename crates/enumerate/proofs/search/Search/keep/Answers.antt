@@ -8,7 +8,7 @@ use Rattle.enumerate.proofs.search.Search.keep.Goals as goal
 pub returns-then-self-clause-boards_after : goal.returns-then-self-clause-boards_after
 returns-then-self-clause-boards_after c =
     let w = written_in c.args.self.now in
-    ap (written _) (placed w c.args.board.now c.requires c.if-self.true c.copy_from_slice.new.self (search rules)) ∙ sym (add_below w c.args.board.now c.if-self.true)
+    ap (written _ _) (placed w c.args.board.now c.requires c.if-self.true c.copy_from_slice.new.self (search rules)) ∙ sym (add_below w c.args.board.now c.if-self.true)
 
 pub returns-clause-boards_after : goal.returns-clause-boards_after
 returns-clause-boards_after c = sym (add_met (written_in c.args.self.now) c.args.board.now c.if-self.false)

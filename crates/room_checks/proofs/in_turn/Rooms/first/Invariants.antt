@@ -9,5 +9,5 @@ use Rattle.room_checks.proofs.in_turn.Rooms.first.Given as goal
 
 abbrev pub invariant-loop-room : goal.invariant-loop-room
 invariant-loop-room l =
-    rest l.self.groups.grid (marked_in l.self.marks.now) (cells_of l.self.groups.grid l.self.groups.ids.now) l.clues (state_of l.self.states.now) l.room
-    ≡ rooms_fault l.self.groups.grid (marked_in l.self.marks.now) (cells_of l.self.groups.grid l.self.groups.ids.now) l.clues (state_of l.self.states.now)
+    rest l.self.borders.grid (marked_in l.self.marks.now) (cells_of l.self.borders.grid l.self.groups.ids.now) l.clues (state_of l.self.borders.states.now) l.room
+    ≡ rooms_fault l.self.borders.grid (marked_in l.self.marks.now) (cells_of l.self.borders.grid l.self.groups.ids.now) l.clues (state_of l.self.borders.states.now)

@@ -2,7 +2,10 @@
 use Rattle.room_checks.proofs.Housed.{room_housed}
 use Rattle.room_checks.proofs.in_turn.Rooms.room.Goals as goal
 
-pub invariant_of-result-2 : goal.invariant_of-result-2
-invariant_of-result-2 c =
+pub invariant_of-result : goal.invariant_of-result
+invariant_of-result c =
     let r = c.args.self in
-    record { housed = room_housed r.groups.grid r.marks.now r.states.now r.groups.ids.now c.cells.result.now c.args.room r.fits r.marked c.cells.ensures.cells_are }
+    record { housed = room_housed r.borders.grid r.marks.now r.borders.states.now r.groups.ids.now c.cells.result.now c.args.room r.borders.fits r.marked (rw r.one_board at c.cells.ensures.cells_are) }
+
+pub returns-clause-cells : goal.returns-clause-cells
+returns-clause-cells c = rw c.args.self.one_board at c.cells.ensures.cells_are
