@@ -1,4 +1,5 @@
 -- `path::Trace::look` meets its contract: one law of `Trace` for each way out. Assumes nothing.
+use mathlib.Core.Path.{sym, ◌∙◌}
 use native.Mathlib.Omega.{arith}
 use Rattle.grid.proofs.Told.{not_told}
 use Rattle.path.proofs.Looks.{border_fits, entry_fits, cell_small, queue_fits, look_end, look_apart, look_old, look_new}
@@ -19,17 +20,26 @@ offset_bounds-self-next c = omega (arith, cell_small c.requires _ c.step.ensures
 pub bounds-self-next : goal.bounds-self-next
 bounds-self-next c = cell_small c.requires _ c.step.ensures c.in-Some.is
 
-pub returns-then-self-next-ne-NEW : goal.returns-then-self-next-ne-NEW
-returns-then-self-next-ne-NEW c =
-    look_old c.requires _ c.step.ensures c.in-Some.is c.if-states-border-ne1.false c.if-self-next-ne-NEW.true
+pub offset_bounds-self-next-2 : goal.offset_bounds-self-next-2
+offset_bounds-self-next-2 c = omega (arith, cell_small c.requires _ c.step.ensures c.in-Some.is)
+
+pub bounds-self-next-2 : goal.bounds-self-next-2
+bounds-self-next-2 c = cell_small c.requires _ c.step.ensures c.in-Some.is
+
+pub overflow_cast-self-2 : goal.overflow_cast-self-2
+overflow_cast-self-2 c = omega (arith, cell_small c.requires _ c.step.ensures c.in-Some.is)
+
+pub returns-then-is_some : goal.returns-then-is_some
+returns-then-is_some c =
+    look_old c.requires _ c.step.ensures c.in-Some.is c.if-states-border-ne1.false (sym c.is_some.ensures ∙ c.if-is_some.true)
 
 pub entry-requires : goal.entry-requires
 entry-requires c = entry_fits c.requires _ c.step.ensures c.in-Some.is
 
 pub bounds-self-self : goal.bounds-self-self
 bounds-self-self c =
-    omega (arith, queue_fits c.requires _ c.step.ensures c.in-Some.is c.if-states-border-ne1.false c.if-self-next-ne-NEW.false, c.requires.looking.kept.queue_long)
+    omega (arith, queue_fits c.requires _ c.step.ensures c.in-Some.is c.if-states-border-ne1.false (sym c.is_some.ensures ∙ c.if-is_some.false), c.requires.looking.kept.queue_long)
 
 pub returns : goal.returns
 returns c =
-    look_new c.requires _ c.step.ensures c.in-Some.is c.if-states-border-ne1.false c.if-self-next-ne-NEW.false c.entry.ensures
+    look_new c.requires _ c.step.ensures c.in-Some.is c.if-states-border-ne1.false (sym c.is_some.ensures ∙ c.if-is_some.false) c.entry.ensures

@@ -5,7 +5,7 @@ use Rattle.path.proofs.Loop.{Going}
 use Rattle.path.proofs.Trace.search_from.Given as goal
 
 abbrev pub invariant-loop-head : goal.invariant-loop-head
-invariant-loop-head l = Going l.b.grid l.b.states.now l.start l.target l.self.finders.now l.self.entries.now l.self.queue.now l.head l.self.tail
+invariant-loop-head l = Going l.b.grid l.b.states.now l.start l.target l.self.found.now l.self.queue.now l.head l.self.tail
 
 abbrev pub decreases-loop-head : goal.decreases-loop-head
 decreases-loop-head l = cells l.b.grid - l.head
