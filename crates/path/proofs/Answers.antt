@@ -1,7 +1,7 @@
 -- From the arrays that a search leaves to the answer. Assumes nothing.
 use Prim.Native.Nat.{ℕ, ◌*◌, ◌≤◌, ◌<◌}
 use mathlib.Core.Path.{◌≡◌, refl, ap, sym, ◌∙◌}
-use mathlib.Core.Logic.{◌≢◌, ⊎_elim}
+use mathlib.Core.Logic.{⊎_elim}
 use mathlib.Core.Bool.{true, false}
 use mathlib.Core.List.{List, [], ◌∷◌}
 use mathlib.Core.Option.{Option, none, some, none-ne-some}
@@ -16,7 +16,7 @@ use Rattle.grid.specs.Grid.{cells, Cell}
 use Rattle.grid.proofs.Geometry.{cells_le}
 use Rattle.board.specs.declared.Board.{Board}
 use Rattle.board.specs.Board.{size_of, board_code}
-use Rattle.std.specs.Prelude.{Result, Ok, Err, not, is_some, Some, None, Option as Maybe}
+use Rattle.std.specs.Prelude.{Result, Ok, Err, not, is_some, None, Option as Maybe}
 use Rattle.std.specs.Result.{result_unwrap_or}
 use Rattle.answers.specs.declared.Plain.{Plain}
 use Rattle.answers.specs.declared.Refusal.{Refusal}

@@ -8,7 +8,6 @@ use mathlib.Core.Option.{Option, none, some, none-ne-some}
 use native.Mathlib.Omega.{arith}
 use native.Mathlib.Numerals.{add-one}
 use borrow.Author.Tests.{eq-eqb, ne_eqb}
-use lib.Dec.{eqb}
 use lib.ListN.{get_or, length, set, take, length-set}
 use lib.Seq.{slice, take_all, take-suc, take-suc-set, drop-append-le, length-take-le, get_or-set_same, get_or-set_other}
 use Rattle.limits.specs.Limits.{most_cells, most_borders}

@@ -20,7 +20,7 @@ use Rattle.path.specs.Trace.{Notes, Traced, Kept, Looking, LooksFrom, Follows, A
 use Rattle.path.proofs.Found.{Found, blank_set, blank_all, none_at, marked_cases}
 use Rattle.path.proofs.Search.{Searching, taken, starts}
 use Rattle.path.proofs.Looks.{slice_more, by}
-use Rattle.std.specs.Prelude.{Some, None}
+use Rattle.std.specs.Prelude.{None}
 
 pub record Going (g : Grid) (states : List ℕ) (start target : ℕ) (f : Notes) (q : List ℕ) (head tail : ℕ) : Type 0 where
   pub s : Search

@@ -26,6 +26,7 @@ struct FoundBy {
 // What is kept of a search: how each found cell was found, and the found cells, `tail` of them, as they come into the queue.
 #[derive(Drop)]
 struct Trace<'a> {
+    borders: Borders<'a>,
     found: &'a mut [Option<FoundBy>; CELLS],
     queue: &'a mut [u16; CELLS],
     tail: usize,
@@ -33,11 +34,12 @@ struct Trace<'a> {
 
 impl Trace<'_> {
     // A cell looks in a direction: a new cell over a Connected border is marked with its finder and entry, and put at the queue's end.
-    fn look(&mut self, b: Borders<'_>, cell: usize, direction: Direction)
-        requires { LooksFrom b.grid b.states.now cell self.old.found.now self.old.queue.now self.old.tail }
-        ensures { Follows b.entry.grid cell (λ p s. look_of b.entry.grid b.entry.states.now cell p direction s) self.old.found.now self.old.queue.now self.old.tail self.new.found.now self.new.queue.now self.new.tail }
+    fn look(&mut self, cell: usize, direction: Direction)
+        requires { LooksFrom self.old.borders.grid self.old.borders.states.now cell self.old.found.now self.old.queue.now self.old.tail }
+        ensures same { self.new.borders ≡ self.old.borders }
+        ensures follows { Follows self.old.borders.grid cell (λ p s. look_of self.old.borders.grid self.old.borders.states.now cell p direction s) self.old.found.now self.old.queue.now self.old.tail self.new.found.now self.new.queue.now self.new.tail }
     {
-        let Borders { grid, states, .. } = b;
+        let Borders { grid, states, .. } = self.borders;
         let Some(Neighbour { cell: next, border }) = grid.step(cell, direction) else {
             return;
         };
@@ -56,20 +58,21 @@ impl Trace<'_> {
     }
 
     // A cell, taken out of the queue, looks up, down, left and right.
-    fn look_round(&mut self, b: Borders<'_>, cell: usize)
-        requires { LooksFrom b.grid b.states.now cell self.old.found.now self.old.queue.now self.old.tail }
-        ensures { Follows b.entry.grid cell (λ p s. look_all b.entry.grid b.entry.states.now cell p s) self.old.found.now self.old.queue.now self.old.tail self.new.found.now self.new.queue.now self.new.tail }
+    fn look_round(&mut self, cell: usize)
+        requires { LooksFrom self.old.borders.grid self.old.borders.states.now cell self.old.found.now self.old.queue.now self.old.tail }
+        ensures same { self.new.borders ≡ self.old.borders }
+        ensures follows { Follows self.old.borders.grid cell (λ p s. look_all self.old.borders.grid self.old.borders.states.now cell p s) self.old.found.now self.old.queue.now self.old.tail self.new.found.now self.new.queue.now self.new.tail }
     {
         for direction in grid::AROUND {
-            self.look(b, cell, direction);
+            self.look(cell, direction);
         }
     }
 
     // Searches from `start` until the target is taken out or nothing waits.
-    fn search_from(&mut self, b: Borders<'_>, start: usize, target: usize)
-        requires cells { Cell b.grid start × Cell b.grid target }
+    fn search_from(&mut self, start: usize, target: usize)
+        requires cells { Cell self.old.borders.grid start × Cell self.old.borders.grid target }
         requires fresh { Fresh self.old.found.now self.old.queue.now }
-        ensures { Traced b.entry.grid (search_of b.entry.grid b.entry.states.now start target) self.new.found.now }
+        ensures { Traced self.old.borders.grid (search_of self.old.borders.grid self.old.borders.states.now start target) self.new.found.now }
     {
         self.found[start] = Some(FoundBy {
             finder: start as u16,
@@ -84,7 +87,7 @@ impl Trace<'_> {
                 return;
             }
             head += 1;
-            self.look_round(b, cell);
+            self.look_round(cell);
         }
     }
 
@@ -117,11 +120,12 @@ fn list(b: Borders<'_>, start: usize, target: usize, buffer: &mut [u16]) -> Resu
     let mut found = [None; CELLS];
     let mut queue = [0; CELLS];
     let mut trace = Trace {
+        borders: b,
         found: &mut found,
         queue: &mut queue,
         tail: 0,
     };
-    trace.search_from(b, start, target);
+    trace.search_from(start, target);
     if trace.found[target].is_none() {
         return Err(Refusal::NotJoined);
     }

@@ -1,5 +1,5 @@
 -- `path::list` meets its contract: the search's arrays say whether the target was found, and lead back by its list. Assumes nothing.
-use mathlib.Core.Path.{ap, sym, ◌∙◌}
+use mathlib.Core.Path.{ap, ◌∙◌}
 use mathlib.Core.Bool.{not}
 use native.Mathlib.Omega.{arith}
 use Rattle.grid.proofs.Geometry.{cells_le}
