@@ -10,8 +10,7 @@ use lib.ListN.{get_or, length}
 use lib.Dec.{eqb}
 use lib.Bits.{bit_or, or_zero_r, or_add_and, and_le_r}
 use mir.Val.{bool_byte}
-use Rattle.lists.specs.Choice.{either}
-use Rattle.lists.proofs.ChoiceLaws.{both_true, true_both}
+use Rattle.lists.proofs.ChoiceLaws.{both_true, true_both, either_false}
 use Rattle.grid.specs.declared.Direction.{Direction}
 use Rattle.grid.specs.declared.Grid.{Grid}
 use Rattle.grid.specs.Grid.{cells, Cell, goes_on, next, border}
@@ -84,10 +83,6 @@ module _ (g : Grid) (states : List ℕ) (p : Bool) where
 pub passes_told : (p : Bool) (s : ℕ) → eqb (bit_or s (bool_byte p)) 1 ≡ passes p s
 unfolding passes
 passes_told false s = rw (or_zero_r s) (sym (either_false (eqb s 1)))
-  where
-    either_false : (b : Bool) → either b false ≡ b
-    either_false true = refl
-    either_false false = refl
 passes_told true zero = refl
 passes_told true (suc zero) = refl
 passes_told true (suc (suc n)) =

@@ -14,7 +14,7 @@ use Rattle.limits.specs.Limits.{most_cells}
 use Rattle.lists.specs.Choice.{both, pick}
 use Rattle.lists.specs.Lists.{count_from, range, all}
 use Rattle.lists.proofs.Cases.{le_or_lt}
-use Rattle.lists.proofs.ChoiceLaws.{both_true, same_truth}
+use Rattle.lists.proofs.ChoiceLaws.{both_true, both_false, same_truth}
 use Rattle.lists.proofs.ListLaws.{all_step, all_end, all_true, all_not, true_all, range_in, in_range, in_get_d, get_d_in}
 use Rattle.grid.specs.declared.Grid.{Grid}
 use Rattle.grid.specs.Grid.{cells, sizes_ok, Limits}
@@ -125,7 +125,7 @@ front_exist n count ids h =
     (all_same (exists count (take n ids)) (exists count ids) (range n)
     (λ c m. rw (get_or-take n ids c 0 (in_range n c m)) refl))
 
-pub by_exists : (count : ℕ) (ids : List ℕ) {t : Bool} → t ≡ all (λ x. ltb x count) ids → t ≡ groups_exist (length ids) count ids
+by_exists : (count : ℕ) (ids : List ℕ) {t : Bool} → t ≡ all (λ x. ltb x count) ids → t ≡ groups_exist (length ids) count ids
 unfolding groups_exist
 by_exists count ids e = e ∙ all_places (λ x. ltb x count) ids
 
@@ -179,10 +179,6 @@ module _ (i : GroupInfo) where
   pub holds_code : Holds i → info_code i ≡ 0
   holds_code w = rw (limits_ok i.grid w.limits, le-leb i.count (cells i.grid) w.few, w.rise, w.exist)
 
-never : (t : Bool) → both t false ≡ false
-never true = refl
-never false = refl
-
 -- what the code tests, once the sizes are right: is there a group, are there no more than cells, and then the starts and the ids
 module _ (i : GroupInfo) (right : sizes_ok i.grid ≡ true) where
   none_exists : i.count ≡ 0 → groups_exist (cells i.grid) i.count i.ids ≡ false
@@ -192,23 +188,23 @@ module _ (i : GroupInfo) (right : sizes_ok i.grid ≡ true) where
       (le-ltb (get_or i.ids 0 0) i.count (omega (arith, z)))
 
   pub without_groups : i.count ≡ 0 → 2 ≡ info_code i
-  without_groups z = rw (right, none_exists z, never (starts_rise (cells i.grid) i.count i.starts), never (leb i.count (cells i.grid))) refl
+  without_groups z = rw (right, none_exists z, both_false (starts_rise (cells i.grid) i.count i.starts), both_false (leb i.count (cells i.grid))) refl
 
-  module _ {n : ℕ} (all : n ≡ cells i.grid) where
+  module _ {n : ℕ} (whole : n ≡ cells i.grid) where
     pub too_many : n < i.count → 2 ≡ info_code i
-    too_many h = rw (right, lt-leb i.count (cells i.grid) (rw all at h)) refl
+    too_many h = rw (right, lt-leb i.count (cells i.grid) (rw whole at h)) refl
 
     module _ (starts_long : most_cells ≤ length i.starts) (ids_long : most_cells ≤ length i.ids) (some : i.count ≢ 0) (few : i.count ≤ n)
         {s : Bool} (told : s ≡ starts_rise n (length (take i.count i.starts)) (take i.count i.starts)) where
-      pub by_exist : {e : Bool} → e ≡ groups_exist (length (take n i.ids)) i.count (take n i.ids) → info_code i ≡ pick (both s e) 0 2
+      pub by_exist : {e : Bool} → e ≡ all (λ x. ltb x i.count) (take n i.ids) → info_code i ≡ pick (both s e) 0 2
       by_exist b =
           let fit : cells i.grid ≤ most_cells = cells_le i.grid (limits i.grid right) in
-          let rises = (rw all at told) ∙ front_rises (cells i.grid) i.count i.starts (omega (arith, fit, few, all)) (omega arith) in
-          let exist = (rw all at b) ∙ front_exist (cells i.grid) i.count i.ids (omega (arith, fit)) in
-          rw (right, le-leb i.count (cells i.grid) (rw all at few), rises, exist) refl
+          let rises = (rw whole at told) ∙ front_rises (cells i.grid) i.count i.starts (omega (arith, fit, few, whole)) (omega arith) in
+          let exist = (rw whole at (by_exists i.count (take n i.ids) b)) ∙ front_exist (cells i.grid) i.count i.ids (omega (arith, fit)) in
+          rw (right, le-leb i.count (cells i.grid) (rw whole at few), rises, exist) refl
 
       pub by_rise : s ≡ false → info_code i ≡ 2
-      by_rise f = rw f at (by_exist refl)
+      by_rise f = rw f at (by_exist {e = all (λ x. ltb x i.count) (take n i.ids)} refl)
 
 -- starts that rise: each group has a cell, and ends at the last cell or before it
 module _ (n count : ℕ) (starts : List ℕ) (rise : starts_rise n count starts ≡ true) where

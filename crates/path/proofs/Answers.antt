@@ -1,11 +1,12 @@
 -- From the arrays that a search leaves to the answer. Assumes nothing.
 use Prim.Native.Nat.{ℕ, ◌*◌, ◌≤◌, ◌<◌}
 use mathlib.Core.Path.{◌≡◌, refl, ap, sym, ◌∙◌}
-use mathlib.Core.Logic.{◌≢◌, ⊎_elim}
+use mathlib.Core.Logic.{⊎_elim}
+use mathlib.Core.Bool.{true, false}
 use mathlib.Core.List.{List, [], ◌∷◌}
 use mathlib.Core.Option.{Option, none, some, none-ne-some}
 use native.Mathlib.Omega.{arith}
-use borrow.Author.Tests.{eq-eqb, ne_eqb, lt-ltb, le-leb}
+use borrow.Author.Tests.{lt-ltb, le-leb}
 use lib.ListN.{get_or, length, replicate, length-replicate, get_or-replicate, get_or-eq_default}
 use lib.Seq.{sets}
 use Rattle.limits.specs.Limits.{most_cells}
@@ -15,14 +16,15 @@ use Rattle.grid.specs.Grid.{cells, Cell}
 use Rattle.grid.proofs.Geometry.{cells_le}
 use Rattle.board.specs.declared.Board.{Board}
 use Rattle.board.specs.Board.{size_of, board_code}
-use Rattle.std.specs.Prelude.{Result, Ok, Err}
+use Rattle.std.specs.Prelude.{Result, Ok, Err, not, is_some, None, Option as Maybe}
 use Rattle.std.specs.Result.{result_unwrap_or}
 use Rattle.answers.specs.declared.Plain.{Plain}
 use Rattle.answers.specs.declared.Refusal.{Refusal}
 use Rattle.answers.specs.Refusals.{number_of, Lists as Answered}
 use Rattle.borders.specs.Fits.{Fits}
 use Rattle.path.specs.Path.{Lists, search, path_of}
-use Rattle.path.specs.Trace.{Traced, Asks, Fresh, Back, Walks}
+use Rattle.path.specs.declared.FoundBy.{FoundBy}
+use Rattle.path.specs.Trace.{Notes, Traced, Asks, Fresh, Back, Walks}
 use Rattle.path.specs.Answer.{joined, path_outcome}
 use Rattle.answers.specs.Answers.{Outcome, refused, listed, list_of, written}
 use Rattle.answers.proofs.RefusalLaws.{some_number}
@@ -35,16 +37,15 @@ asks f k = record { limits = f.limits; states_long = f.borders; start_cell = k.0
 
 -- THE SEARCH'S ARRAYS
 
-pub fresh : Fresh (replicate most_cells most_cells) (replicate most_cells 0) (replicate most_cells 0)
+pub fresh : Fresh (replicate most_cells None) (replicate most_cells 0)
 fresh =
     record {
-      finders_long = length-replicate {A = ℕ} most_cells most_cells;
-      entries_long = length-replicate {A = ℕ} most_cells 0;
+      found_long = length-replicate {A = Maybe FoundBy} most_cells None;
       queue_long = length-replicate {A = ℕ} most_cells 0;
-      new = λ x h. get_or-replicate most_cells x most_cells 0 h;
+      new = λ x h. get_or-replicate {A = Maybe FoundBy} most_cells x None None h;
     }
 
-module _ {g : Grid} {states : List ℕ} {start target : ℕ} (a : Asks g states start target) {f e : List ℕ} (t : Traced g (search g states start target) f e) where
+module _ {g : Grid} {states : List ℕ} {start target : ℕ} (a : Asks g states start target) {f : Notes} (t : Traced g (search g states start target) f) where
   xs : Lists
   xs = search g states start target
 
@@ -57,7 +58,7 @@ module _ {g : Grid} {states : List ℕ} {start target : ℕ} (a : Asks g states 
       (le_or_lt (length xs) x)
 
   -- the arrays lead back by the lists
-  traced_back : (x : ℕ) (p : List ℕ) → get_or xs x none ≡ some p → Back start f e x p
+  traced_back : (x : ℕ) (p : List ℕ) → get_or xs x none ≡ some p → Back start f x p
   unfolding xs
   traced_back x [] w = leads_nowhere g start ((ended g states start target a.start_cell).way x [] w).0 refl
   traced_back x (b ∷ p) w =
@@ -67,28 +68,27 @@ module _ {g : Grid} {states : List ℕ} {start target : ℕ} (a : Asks g states 
             let q : ◌≡◌ {A = ℕ} 0 1 = cc in
             omega arith,
         omega (arith, found_cell x (b ∷ p) w, cells_le g a.limits),
-        o.0,
-        traced_back (get_or f x 0) p o.1,
+        (o.0, o.1, traced_back o.0 p o.2),
       )
 
-  pub not_found : get_or f target 0 ≡ most_cells → path_of g states start target ≡ none
+  pub not_found : is_some (get_or f target None) ≡ false → path_of g states start target ≡ none
   unfolding path_of
-  not_found z = new_none _ (t.new target a.target_cell ∙ eq-eqb (get_or f target 0) most_cells z)
+  not_found z = new_none _ (t.new target a.target_cell ∙ ap not z)
 
-  module _ (z : get_or f target 0 ≢ most_cells) where
+  module _ (z : is_some (get_or f target None) ≡ true) where
     pub found : (p : List ℕ) × (path_of g states start target ≡ some p)
     unfolding path_of
-    found = old_some _ (t.new target a.target_cell ∙ ne_eqb (get_or f target 0) most_cells z)
+    found = old_some _ (t.new target a.target_cell ∙ ap not z)
 
-    pub found_back : Back start f e target found.0
+    pub found_back : Back start f target found.0
     unfolding path_of xs
     found_back = traced_back target found.0 found.1
 
-    pub walks : (buffer : List ℕ) → cells g ≤ length buffer → Walks start target f e buffer
+    pub walks : (buffer : List ℕ) → cells g ≤ length buffer → Walks start target f buffer
     walks buffer h =
         record {
-          finders_long = t.finders_long;
-          entries_long = t.entries_long;
+          found_long = t.found_long;
+          begins = omega (arith, a.start_cell, cells_le g a.limits);
           p = found.0;
           back = found_back;
           fits = omega (arith, path_short g states start target a.start_cell found.0 found.1);

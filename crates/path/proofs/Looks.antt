@@ -8,7 +8,6 @@ use mathlib.Core.Option.{Option, none, some, none-ne-some}
 use native.Mathlib.Omega.{arith}
 use native.Mathlib.Numerals.{add-one}
 use borrow.Author.Tests.{eq-eqb, ne_eqb}
-use lib.Dec.{eqb}
 use lib.ListN.{get_or, length, set, take, length-set}
 use lib.Seq.{slice, take_all, take-suc, take-suc-set, drop-append-le, length-take-le, get_or-set_same, get_or-set_other}
 use Rattle.limits.specs.Limits.{most_cells, most_borders}
@@ -16,6 +15,7 @@ use Rattle.lists.proofs.Cases.{eq_or_ne}
 use Rattle.grid.specs.declared.Direction.{Direction}
 use Rattle.grid.specs.declared.Direction.TheVariants.{Up}
 use Rattle.std.specs.Prelude as std
+use Rattle.std.specs.Prelude.{not, is_some, Some, None}
 use Rattle.grid.specs.declared.Neighbour.{Neighbour}
 use Rattle.grid.specs.Neighbours.{neighbour_in}
 use Rattle.grid.specs.declared.Grid.{Grid}
@@ -25,7 +25,8 @@ use Rattle.grid.proofs.Geometry.{goes_step, border_lt, border_count_le, cells_le
 use Rattle.borders.specs.Entry.{entry_of}
 use Rattle.borders.specs.Border.{state_of, state_at, stands}
 use Rattle.path.specs.Path.{Search, is_new, mark, finds, look, looks}
-use Rattle.path.specs.Trace.{blank, Traced, Looking, LooksFrom, Follows}
+use Rattle.path.specs.declared.FoundBy.{FoundBy}
+use Rattle.path.specs.Trace.{Notes, blank, Traced, Looking, LooksFrom, Follows}
 use Rattle.path.proofs.Found.{blank_set, new_none, marked_cases}
 use Rattle.grid.proofs.Told.{some_told}
 
@@ -34,10 +35,14 @@ pub slice_more : (f t : ℕ) (q : List ℕ) (x : ℕ) → f ≤ t → t < length
 slice_more f t q x h l =
     rw (add-one t, take-suc-set q t x l) (sym (drop-append-le f (take t q) (x ∷ []) (rw (length-take-le t q (omega arith)) h)))
 
+-- a note of a finder and an entry
+abbrev pub by : ℕ → ℕ → std.Option FoundBy
+by c r = Some (record { finder = c; entry = r })
+
 cons_parts : (e e' : ℕ) (p p' : List ℕ) → ◌≡◌ {A = Option (List ℕ)} (some (e ∷ p)) (some (e' ∷ p')) → (e ≡ e') × (p ≡ p')
 cons_parts e e' p p' q = (cc, cc)
 
-module _ (g : Grid) (limits : Limits g) (c : ℕ) (cell : Cell g c) (p : List ℕ) (head : ℕ) (s : Search) (f e q : List ℕ) (t : ℕ) (k : Looking g c p head s f e q t) where
+module _ (g : Grid) (limits : Limits g) (c : ℕ) (cell : Cell g c) (p : List ℕ) (head : ℕ) (s : Search) (f : Notes) (q : List ℕ) (t : ℕ) (k : Looking g c p head s f q t) where
   small : cells g ≤ most_cells
   small = cells_le g limits
 
@@ -59,34 +64,32 @@ module _ (g : Grid) (limits : Limits g) (c : ℕ) (cell : Cell g c) (p : List �
     still : (y : ℕ) (v : List ℕ) → get_or s.found y none ≡ some v → get_or (set s.found x (some (r ∷ p))) y none ≡ some v
     still y v w = get_or-set_other s.found x y (some (r ∷ p)) none (not_x y v w) ∙ w
 
-    traced_mark : Traced g (set s.found x (some (r ∷ p))) (set f x c) (set e x r)
+    traced_mark : Traced g (set s.found x (some (r ∷ p))) (set f x (by c r))
     unfolding is_new
     traced_mark =
         let o = k.kept.traced in
         record {
           size = length-set s.found x (some (r ∷ p)) ∙ o.size;
-          finders_long = simp length-set o.finders_long;
-          entries_long = simp length-set o.entries_long;
+          found_long = simp length-set o.found_long;
           new = λ y l.
               ⊎_elim
               (λ (i : y ≡ x).
-              rw (i, get_or-set_same s.found x (some (r ∷ p)) none x_in, get_or-set_same f x c 0 (omega (arith, small, o.finders_long)))
-              (sym (ne_eqb c most_cells (λ (j : c ≡ most_cells). omega (arith, small)))))
-              (λ (i : y ≢ x). rw (get_or-set_other s.found x y (some (r ∷ p)) none i, get_or-set_other f x y c 0 i) (o.new y l))
+              rw (i, get_or-set_same s.found x (some (r ∷ p)) none x_in, get_or-set_same f x (by c r) None (omega (arith, small, o.found_long)))
+              refl)
+              (λ (i : y ≢ x). rw (get_or-set_other s.found x y (some (r ∷ p)) none i, get_or-set_other f x y (by c r) None i) (o.new y l))
               (eq_or_ne y x);
           back = λ y e' p' w.
               ⊎_elim
               (λ (i : (y ≡ x) × (some (r ∷ p) ≡ some (e' ∷ p'))).
               let u = cons_parts r e' p p' i.1 in
-              rw (i.0, get_or-set_same e x r 0 (omega (arith, small, o.entries_long)), get_or-set_same f x c 0 (omega (arith, small, o.finders_long)))
-              (u.0, still c p k.here ∙ ap some u.1))
+              (c, rw i.0 (get_or-set_same f x (by c r) None (omega (arith, small, o.found_long)) ∙ ap (λ n. by c n) u.0), still c p k.here ∙ ap some u.1))
               (λ (i : (y ≢ x) × (get_or s.found y none ≡ some (e' ∷ p'))).
               let u = o.back y e' p' i.1 in
-              rw (get_or-set_other e x y r 0 i.0, get_or-set_other f x y c 0 i.0) (u.0, still (get_or f y 0) p' u.1))
+              (u.0, get_or-set_other f x y (by c r) None i.0 ∙ u.1, still u.0 p' u.2))
               (marked_cases s.found x (r ∷ p) x_in y (e' ∷ p') w);
         }
 
-    pub looking_mark : Looking g c p head (mark x (r ∷ p) s) (set f x c) (set e x r) (set q t x) (t + 1)
+    pub looking_mark : Looking g c p head (mark x (r ∷ p) s) (set f x (by c r)) (set q t x) (t + 1)
     unfolding mark
     looking_mark =
         record {
@@ -102,16 +105,16 @@ module _ (g : Grid) (limits : Limits g) (c : ℕ) (cell : Cell g c) (p : List �
 
 -- A LOOK IN ONE DIRECTION
 
-module _ {g : Grid} {states : List ℕ} {c : ℕ} {f e q : List ℕ} {t : ℕ} (v : LooksFrom g states c f e q t) (d : Direction) where
+module _ {g : Grid} {states : List ℕ} {c : ℕ} {f : Notes} {q : List ℕ} {t : ℕ} (v : LooksFrom g states c f q t) (d : Direction) where
   -- what the look leaves in the arrays
-  abbrev pub Looked : List ℕ → List ℕ → List ℕ → ℕ → Type 0
-  Looked f' e' q' t' = Follows g c (λ p s. look g states c p d s) f e q t f' e' q' t'
+  abbrev pub Looked : Notes → List ℕ → ℕ → Type 0
+  Looked f' q' t' = Follows g c (λ p s. look g states c p d s) f q t f' q' t'
 
-  nothing : ((p : List ℕ) (head : ℕ) (s : Search) → Looking g c p head s f e q t → finds g states c d s ≡ false) → Looked f e q t
+  nothing : ((p : List ℕ) (head : ℕ) (s : Search) → Looking g c p head s f q t → finds g states c d s ≡ false) → Looked f q t
   unfolding look
   nothing z p head s k = rw (z p head s k) k
 
-  pub look_end : goes_on g d c ≡ false → Looked f e q t
+  pub look_end : goes_on g d c ≡ false → Looked f q t
   unfolding finds stands
   look_end z = nothing (λ p head s k. rw z)
 
@@ -132,16 +135,12 @@ module _ {g : Grid} {states : List ℕ} {c : ℕ} {f e q : List ℕ} {t : ℕ} (
     pub cell_small : x < most_cells
     cell_small = omega (arith, there.cell', cells_le g v.limits)
 
-    pub cell_fits : (x < length f) × (x < length e)
-    cell_fits =
-        (omega (arith, cell_small, v.looking.kept.traced.finders_long), omega (arith, cell_small, v.looking.kept.traced.entries_long))
-
-    pub look_apart : state_of states b ≢ 1 → Looked f e q t
+    pub look_apart : state_of states b ≢ 1 → Looked f q t
     unfolding finds stands state_at
     look_apart z = nothing (λ p head s k. rw (told.0, ne_eqb (state_of states (border g d c)) 1 (rw told.2 at z)))
 
     -- what the finder says of x in every search that the arrays keep
-    is_new_lem : (p : List ℕ) (head : ℕ) (s : Search) → Looking g c p head s f e q t → is_new (get_or s.found (next g d c) none) ≡ eqb (get_or f x 0) most_cells
+    is_new_lem : (p : List ℕ) (head : ℕ) (s : Search) → Looking g c p head s f q t → is_new (get_or s.found (next g d c) none) ≡ not (is_some (get_or f x None))
     is_new_lem p head s k = rw (← told.1) (k.kept.traced.new x there.cell')
 
     module _ (connected : state_of states b ≡ 1) where
@@ -149,30 +148,30 @@ module _ {g : Grid} {states : List ℕ} {c : ℕ} {f e q : List ℕ} {t : ℕ} (
       unfolding stands state_at
       stands_connected = rw told.0 (eq-eqb (state_of states (border g d c)) 1 (rw told.2 at connected))
 
-      pub look_old : get_or f x 0 ≢ most_cells → Looked f e q t
+      pub look_old : is_some (get_or f x None) ≡ true → Looked f q t
       unfolding finds
-      look_old z = nothing (λ p head s k. rw (stands_connected, is_new_lem p head s k, ne_eqb (get_or f x 0) most_cells z))
+      look_old z = nothing (λ p head s k. rw (stands_connected, is_new_lem p head s k, z))
 
-      module _ (new : get_or f x 0 ≡ most_cells) where
-        x_none : (p : List ℕ) (head : ℕ) (s : Search) → Looking g c p head s f e q t → get_or s.found x none ≡ none
-        x_none p head s k = new_none _ (k.kept.traced.new x there.cell' ∙ eq-eqb (get_or f x 0) most_cells new)
+      module _ (new : is_some (get_or f x None) ≡ false) where
+        x_none : (p : List ℕ) (head : ℕ) (s : Search) → Looking g c p head s f q t → get_or s.found x none ≡ none
+        x_none p head s k = new_none _ (k.kept.traced.new x there.cell' ∙ ap not new)
 
         pub queue_fits : t < length q
         queue_fits =
             let k = v.looking in
-            omega (arith, cells_le g v.limits, k.kept.queue_long, place g v.limits c v.cell v.p v.head v.s f e q t k x b there.cell' (x_none v.p v.head v.s k))
+            omega (arith, cells_le g v.limits, k.kept.queue_long, place g v.limits c v.cell v.p v.head v.s f q t k x b there.cell' (x_none v.p v.head v.s k))
 
-        pub look_new : {l : ℕ} → l ≡ entry_of false b → Looked (set f x c) (set e x l) (set q t x) (t + 1)
+        pub look_new : {l : ℕ} → l ≡ entry_of false b → Looked (set f x (by c l)) (set q t x) (t + 1)
         unfolding look finds
         look_new q' p head s k =
-            rw (stands_connected, is_new_lem p head s k, eq-eqb (get_or f x 0) most_cells new, ← told.1, ← told.2, q')
-            (looking_mark g v.limits c v.cell p head s f e q t k x (2 * b) there.cell' (x_none p head s k))
+            rw (stands_connected, is_new_lem p head s k, new, ← told.1, ← told.2, q')
+            (looking_mark g v.limits c v.cell p head s f q t k x (2 * b) there.cell' (x_none p head s k))
 
 -- A LOOK ROUND
 
-module _ {g : Grid} {states : List ℕ} {c : ℕ} {f e q : List ℕ} {t : ℕ} (v : LooksFrom g states c f e q t) where
+module _ {g : Grid} {states : List ℕ} {c : ℕ} {f : Notes} {q : List ℕ} {t : ℕ} (v : LooksFrom g states c f q t) where
   -- after a look there can be another
-  pub looks_on : {after : List ℕ → Search → Search} {f' e' q' : List ℕ} {t' : ℕ} → Follows g c after f e q t f' e' q' t' → LooksFrom g states c f' e' q' t'
+  pub looks_on : {after : List ℕ → Search → Search} {f' : Notes} {q' : List ℕ} {t' : ℕ} → Follows g c after f q t f' q' t' → LooksFrom g states c f' q' t'
   looks_on {after} w =
       record {
         limits = v.limits;
@@ -190,22 +189,22 @@ module _ (g : Grid) (states : List ℕ) (c : ℕ) where
   looks_more p [] d s = refl
   looks_more p (a ∷ ds) d s = looks_more p ds d (look g states c p a s)
 
--- from f e q t the arrays have come to f' e' q' t' by looks in the first i directions
-pub record Round (g : Grid) (states : List ℕ) (c : ℕ) (ds : List Direction) (f e q : List ℕ) (t i : ℕ) (f' e' q' : List ℕ) (t' : ℕ) : Type 0 where
-  pub follows : Follows g c (λ p s. looks g states c p (take i ds) s) f e q t f' e' q' t'
+-- from f q t the arrays have come to f' q' t' by looks in the first i directions
+pub record Round (g : Grid) (states : List ℕ) (c : ℕ) (ds : List Direction) (f : Notes) (q : List ℕ) (t i : ℕ) (f' : Notes) (q' : List ℕ) (t' : ℕ) : Type 0 where
+  pub follows : Follows g c (λ p s. looks g states c p (take i ds) s) f q t f' q' t'
 
-module _ {g : Grid} {states : List ℕ} {c : ℕ} {ds : List Direction} {f e q : List ℕ} {t : ℕ} where
-  pub round_start : Round g states c ds f e q t 0 f e q t
+module _ {g : Grid} {states : List ℕ} {c : ℕ} {ds : List Direction} {f : Notes} {q : List ℕ} {t : ℕ} where
+  pub round_start : Round g states c ds f q t 0 f q t
   unfolding looks
   round_start = record { follows = λ p head s k. k }
 
-  module _ {i : ℕ} {f' e' q' : List ℕ} {t' : ℕ} (k : Round g states c ds f e q t i f' e' q' t') where
-    pub round_on : i < length ds → {f1 e1 q1 : List ℕ} {t1 : ℕ} → Follows g c (λ p s. look g states c p (get_or ds i Up) s) f' e' q' t' f1 e1 q1 t1
-        → Round g states c ds f e q t (i + 1) f1 e1 q1 t1
+  module _ {i : ℕ} {f' : Notes} {q' : List ℕ} {t' : ℕ} (k : Round g states c ds f q t i f' q' t') where
+    pub round_on : i < length ds → {f1 : Notes} {q1 : List ℕ} {t1 : ℕ} → Follows g c (λ p s. look g states c p (get_or ds i Up) s) f' q' t' f1 q1 t1
+        → Round g states c ds f q t (i + 1) f1 q1 t1
     round_on h w =
         record {
           follows = λ p head s l. rw (add-one i, take-suc ds i Up h, looks_more g states c p (take i ds) (get_or ds i Up) s) (w p head _ (k.follows p head s l));
         }
 
-    pub round_end : length ds ≤ i → Follows g c (λ p s. looks g states c p ds s) f e q t f' e' q' t'
+    pub round_end : length ds ≤ i → Follows g c (λ p s. looks g states c p ds s) f q t f' q' t'
     round_end h p head s l = rw (take_all i ds h) at (k.follows p head s l)

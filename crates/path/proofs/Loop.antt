@@ -16,20 +16,21 @@ use Rattle.grid.specs.declared.Grid.{Grid}
 use Rattle.grid.specs.Grid.{cells, Cell}
 use Rattle.grid.proofs.Geometry.{cells_le}
 use Rattle.path.specs.Path.{Lists, Search, is_new, look_all, look_round, search_from, search}
-use Rattle.path.specs.Trace.{Traced, Kept, Looking, LooksFrom, Follows, Asks, Fresh}
+use Rattle.path.specs.Trace.{Notes, Traced, Kept, Looking, LooksFrom, Follows, Asks, Fresh}
 use Rattle.path.proofs.Found.{Found, blank_set, blank_all, none_at, marked_cases}
 use Rattle.path.proofs.Search.{Searching, taken, starts}
-use Rattle.path.proofs.Looks.{slice_more}
+use Rattle.path.proofs.Looks.{slice_more, by}
+use Rattle.std.specs.Prelude.{None}
 
-pub record Going (g : Grid) (states : List ℕ) (start target : ℕ) (f e q : List ℕ) (head tail : ℕ) : Type 0 where
+pub record Going (g : Grid) (states : List ℕ) (start target : ℕ) (f : Notes) (q : List ℕ) (head tail : ℕ) : Type 0 where
   pub s : Search
-  pub kept : Kept g head s f e q tail
+  pub kept : Kept g head s f q tail
   pub searching : Searching g states start (λ x. ⊥) (cells g - head) s.queue s.found
   pub left : search_from g states target (cells g - head) s.queue s.found ≡ search g states start target
 
 -- BEFORE THE FIRST TURN
 
-module _ {g : Grid} {states : List ℕ} {start target : ℕ} (a : Asks g states start target) {f e q : List ℕ} (fresh : Fresh f e q) where
+module _ {g : Grid} {states : List ℕ} {start target : ℕ} (a : Asks g states start target) {f : Notes} {q : List ℕ} (fresh : Fresh f q) where
   small : cells g ≤ most_cells
   small = cells_le g a.limits
 
@@ -42,20 +43,19 @@ module _ {g : Grid} {states : List ℕ} {start target : ℕ} (a : Asks g states 
   start_in : start < length {A = Option (List ℕ)} (replicate (cells g) none)
   start_in = omega (arith, all_long, a.start_cell)
 
-  traced_first : Traced g first (set f start start) e
+  traced_first : Traced g first (set f start (by start 0))
   unfolding first is_new
   traced_first =
       record {
         size = length-set (replicate (cells g) none) start (some []) ∙ all_long;
-        finders_long = simp length-set fresh.finders_long;
-        entries_long = fresh.entries_long;
+        found_long = simp length-set fresh.found_long;
         new = λ y l.
             ⊎_elim
             (λ (i : y ≡ start).
-            rw (i, get_or-set_same (replicate (cells g) none) start (some []) none start_in, get_or-set_same f start start 0 (omega (arith, small, fresh.finders_long, a.start_cell)))
-            (sym (ne_eqb start most_cells (λ (j : start ≡ most_cells). omega (arith, small, a.start_cell)))))
+            rw (i, get_or-set_same (replicate (cells g) none) start (some []) none start_in, get_or-set_same f start (by start 0) None (omega (arith, small, fresh.found_long, a.start_cell)))
+            refl)
             (λ (i : y ≢ start).
-            rw (get_or-set_other {A = Option (List ℕ)} (replicate (cells g) none) start y (some []) none i, none_at (cells g) y, get_or-set_other f start y start 0 i, fresh.new y (omega (arith, small))))
+            rw (get_or-set_other {A = Option (List ℕ)} (replicate (cells g) none) start y (some []) none i, none_at (cells g) y, get_or-set_other f start y (by start 0) None i, fresh.new y (omega (arith, small))) refl)
             (eq_or_ne y start);
         back = λ y r p w.
             absurd
@@ -65,7 +65,7 @@ module _ {g : Grid} {states : List ℕ} {start target : ℕ} (a : Asks g states 
             (marked_cases (replicate (cells g) none) start [] start_in y (r ∷ p) w));
       }
 
-  pub going_start : Going g states start target (set f start start) e (set q 0 start) 0 1
+  pub going_start : Going g states start target (set f start (by start 0)) (set q 0 start) 0 1
   unfolding first search
   going_start =
       record {
@@ -103,12 +103,12 @@ taken_out g states start target c fuel rest xs p here i k =
     let same : look_round g states c (record { queue = rest; found = xs }) ≡ look_all g states c p (record { queue = rest; found = xs }) = round_all g states c p (record { queue = rest; found = xs }) here in
     (rw same at (taken g states start c fuel rest xs k), rw (ne_eqb c target i, same))
 
-module _ {g : Grid} {states : List ℕ} {start target : ℕ} (a : Asks g states start target) {f e q : List ℕ} {head tail : ℕ} (k : Going g states start target f e q head tail) where
+module _ {g : Grid} {states : List ℕ} {start target : ℕ} (a : Asks g states start target) {f : Notes} {q : List ℕ} {head tail : ℕ} (k : Going g states start target f q head tail) where
   xs : Lists
   xs = k.s.found
 
   -- nothing waits any more
-  pub going_end : tail ≤ head → Traced g (search g states start target) f e
+  pub going_end : tail ≤ head → Traced g (search g states start target) f
   unfolding xs
   going_end h =
       let i : head ≡ tail = omega (arith, k.kept.order) in
@@ -149,7 +149,7 @@ module _ {g : Grid} {states : List ℕ} {start target : ℕ} (a : Asks g states 
     known = searching_c.queued c (inl refl)
 
     -- the target is taken out
-    pub going_found : get_or q head 0 ≡ target → Traced g (search g states start target) f e
+    pub going_found : get_or q head 0 ≡ target → Traced g (search g states start target) f
     unfolding search_from c xs
     going_found i =
         let same : xs ≡ search g states start target = rw (eq-eqb (get_or q head 0) target i) at left_c in
@@ -158,7 +158,7 @@ module _ {g : Grid} {states : List ℕ} {start target : ℕ} (a : Asks g states 
     abbrev after : Search
     after = record { queue = rest; found = xs }
 
-    looking_c : Looking g c known.1.0 (head + 1) after f e q tail
+    looking_c : Looking g c known.1.0 (head + 1) after f q tail
     unfolding rest xs
     looking_c =
         record {
@@ -172,7 +172,7 @@ module _ {g : Grid} {states : List ℕ} {start target : ℕ} (a : Asks g states 
           here = known.1.1;
         }
 
-    pub going_look : LooksFrom g states (get_or q head 0) f e q tail
+    pub going_look : LooksFrom g states (get_or q head 0) f q tail
     unfolding c
     going_look =
         record {
@@ -185,8 +185,8 @@ module _ {g : Grid} {states : List ℕ} {start target : ℕ} (a : Asks g states 
           looking = looking_c;
         }
 
-    pub going_on : get_or q head 0 ≢ target → {f' e' q' : List ℕ} {tail' : ℕ}
-        → Follows g (get_or q head 0) (λ p s. look_all g states (get_or q head 0) p s) f e q tail f' e' q' tail' → Going g states start target f' e' q' (head + 1) tail'
+    pub going_on : get_or q head 0 ≢ target → {f' : Notes} {q' : List ℕ} {tail' : ℕ}
+        → Follows g (get_or q head 0) (λ p s. look_all g states (get_or q head 0) p s) f q tail f' q' tail' → Going g states start target f' q' (head + 1) tail'
     unfolding c
     going_on i w =
         let p : List ℕ = known.1.0 in

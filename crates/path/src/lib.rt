@@ -16,82 +16,95 @@ use borders::Borders;
 use grid::{Direction, Neighbour};
 use limits::CELLS;
 
-// A cell that is not found yet has this finder, which is no cell.
-const NEW: usize = CELLS;
+// The cell that found another, and the entry of the border between.
+#[derive(Clone, Copy)]
+struct FoundBy {
+    finder: u16,
+    entry: u16,
+}
 
-// What is kept of a search: each found cell's finder and the entry of the border between, and the found cells, `tail` of them, as they
-// come into the queue.
+// What is kept of a search: how each found cell was found, and the found cells, `tail` of them, as they come into the queue.
 #[derive(Drop)]
 struct Trace<'a> {
-    finders: &'a mut [usize; CELLS],
-    entries: &'a mut [u16; CELLS],
-    queue: &'a mut [usize; CELLS],
+    borders: Borders<'a>,
+    found: &'a mut [Option<FoundBy>; CELLS],
+    queue: &'a mut [u16; CELLS],
     tail: usize,
 }
 
 impl Trace<'_> {
     // A cell looks in a direction: a new cell over a Connected border is marked with its finder and entry, and put at the queue's end.
-    fn look(&mut self, b: Borders<'_>, cell: usize, direction: Direction)
-        requires { LooksFrom b.grid b.states.now cell self.old.finders.now self.old.entries.now self.old.queue.now self.old.tail }
-        ensures { Follows b.entry.grid cell (λ p s. look_of b.entry.grid b.entry.states.now cell p direction s) self.old.finders.now self.old.entries.now self.old.queue.now self.old.tail self.new.finders.now self.new.entries.now self.new.queue.now self.new.tail }
+    fn look(&mut self, cell: usize, direction: Direction)
+        requires { LooksFrom self.old.borders.grid self.old.borders.states.now cell self.old.found.now self.old.queue.now self.old.tail }
+        ensures same { self.new.borders ≡ self.old.borders }
+        ensures follows { Follows self.old.borders.grid cell (λ p s. look_of self.old.borders.grid self.old.borders.states.now cell p direction s) self.old.found.now self.old.queue.now self.old.tail self.new.found.now self.new.queue.now self.new.tail }
     {
-        let Borders { grid, states, .. } = b;
+        let Borders { grid, states, .. } = self.borders;
         let Some(Neighbour { cell: next, border }) = grid.step(cell, direction) else {
             return;
         };
         if states[border] != 1 {
             return;
         }
-        if self.finders[next] != NEW {
+        if self.found[next].is_some() {
             return;
         }
-        self.finders[next] = cell;
-        self.entries[next] = borders::entry(border, false);
-        self.queue[self.tail] = next;
+        self.found[next] = Some(FoundBy {
+            finder: cell as u16,
+            entry: borders::entry(border, false),
+        });
+        self.queue[self.tail] = next as u16;
         self.tail += 1;
     }
 
     // A cell, taken out of the queue, looks up, down, left and right.
-    fn look_round(&mut self, b: Borders<'_>, cell: usize)
-        requires { LooksFrom b.grid b.states.now cell self.old.finders.now self.old.entries.now self.old.queue.now self.old.tail }
-        ensures { Follows b.entry.grid cell (λ p s. look_all b.entry.grid b.entry.states.now cell p s) self.old.finders.now self.old.entries.now self.old.queue.now self.old.tail self.new.finders.now self.new.entries.now self.new.queue.now self.new.tail }
+    fn look_round(&mut self, cell: usize)
+        requires { LooksFrom self.old.borders.grid self.old.borders.states.now cell self.old.found.now self.old.queue.now self.old.tail }
+        ensures same { self.new.borders ≡ self.old.borders }
+        ensures follows { Follows self.old.borders.grid cell (λ p s. look_all self.old.borders.grid self.old.borders.states.now cell p s) self.old.found.now self.old.queue.now self.old.tail self.new.found.now self.new.queue.now self.new.tail }
     {
         for direction in grid::AROUND {
-            self.look(b, cell, direction);
+            self.look(cell, direction);
         }
     }
 
     // Searches from `start` until the target is taken out or nothing waits.
-    fn search_from(&mut self, b: Borders<'_>, start: usize, target: usize)
-        requires cells { Cell b.grid start × Cell b.grid target }
-        requires fresh { Fresh self.old.finders.now self.old.entries.now self.old.queue.now }
-        ensures { Traced b.entry.grid (search_of b.entry.grid b.entry.states.now start target) self.new.finders.now self.new.entries.now }
+    fn search_from(&mut self, start: usize, target: usize)
+        requires cells { Cell self.old.borders.grid start × Cell self.old.borders.grid target }
+        requires fresh { Fresh self.old.found.now self.old.queue.now }
+        ensures { Traced self.old.borders.grid (search_of self.old.borders.grid self.old.borders.states.now start target) self.new.found.now }
     {
-        self.finders[start] = start;
-        self.queue[0] = start;
+        self.found[start] = Some(FoundBy {
+            finder: start as u16,
+            entry: 0,
+        });
+        self.queue[0] = start as u16;
         self.tail = 1;
         let mut head = 0;
         while head < self.tail {
-            let cell = self.queue[head];
+            let cell = usize::from(self.queue[head]);
             if cell == target {
                 return;
             }
             head += 1;
-            self.look_round(b, cell);
+            self.look_round(cell);
         }
     }
 
-    // Writes the entries from the target back to the start, and returns how many they are.
+    // Writes the entries from the target back to the start, and returns how many they are. Each cell on the way is found.
     fn walk_back(self, start: usize, target: usize, buffer: &mut [u16]) -> usize
-        requires { Walks start target self.finders.now self.entries.now buffer.old }
-        ensures { (p : List ℕ) → Back start self.entry.finders.now self.entry.entries.now target p → (result ≡ length p) × (buffer.new ≡ sets buffer.old 0 p) }
+        requires { Walks start target self.found.now buffer.old }
+        ensures { (p : List ℕ) → Back start self.entry.found.now target p → (result ≡ length p) × (buffer.new ≡ sets buffer.old 0 p) }
     {
         let mut n = 0;
         let mut cell = target;
         while cell != start {
-            buffer[n] = self.entries[cell];
+            let Some(FoundBy { finder, entry }) = self.found[cell] else {
+                return n;
+            };
+            buffer[n] = entry;
             n += 1;
-            cell = self.finders[cell];
+            cell = usize::from(finder);
         }
         n
     }
@@ -104,17 +117,16 @@ fn list(b: Borders<'_>, start: usize, target: usize, buffer: &mut [u16]) -> Resu
     ensures value { Lists (joined (path_of b.entry.grid b.entry.states.now start target)) result }
     ensures buffer_after { buffer.new ≡ written (joined (path_of b.entry.grid b.entry.states.now start target)) buffer.old }
 {
-    let mut finders = [NEW; CELLS];
-    let mut entries = [0; CELLS];
+    let mut found = [None; CELLS];
     let mut queue = [0; CELLS];
     let mut trace = Trace {
-        finders: &mut finders,
-        entries: &mut entries,
+        borders: b,
+        found: &mut found,
         queue: &mut queue,
         tail: 0,
     };
-    trace.search_from(b, start, target);
-    if trace.finders[target] == NEW {
+    trace.search_from(start, target);
+    if trace.found[target].is_none() {
         return Err(Refusal::NotJoined);
     }
     Ok(trace.walk_back(start, target, buffer))

@@ -43,10 +43,9 @@ impl<'a> Stage<'a> {
             if marks[number] != 0 {
                 let outline = Outline {
                     borders: self.chart.borders,
-                    ids: self.potentials.ids,
+                    groups: self.potentials,
                     potential: true,
                     number,
-                    cells: self.potentials.cells(number),
                 };
                 outline.append(list);
             }
@@ -65,10 +64,9 @@ impl<'a> Stage<'a> {
         write_landings(self.trial(unit, marks), &mut list);
         let outline = Outline {
             borders: self.chart.borders,
-            ids: self.units.ids,
+            groups: self.units,
             potential: false,
             number: unit,
-            cells: self.units.cells(unit),
         };
         outline.append(&mut list);
         self.append_near(marks, &mut list);
