@@ -12,7 +12,7 @@ use lib.Seq.{length-take-le}
 use Rattle.std.specs.Prelude as std
 use Rattle.lists.specs.Choice.{give, or_else}
 use Rattle.lists.specs.Lists.{count_from, range, first}
-use Rattle.lists.proofs.ListLaws.{count_from_step, count_from_end}
+use Rattle.lists.proofs.ListLaws.{count_from_step, count_from_end, zeros_at}
 use Rattle.answers.specs.Answers.{Finds}
 use Rattle.grid.specs.declared.Grid.{Grid}
 use Rattle.grid.specs.Grid.{Limits, cells}
@@ -22,7 +22,6 @@ use Rattle.boundary.specs.Appended.{Appended}
 use Rattle.shape.specs.Shape.{UnitInfo, unit_of, failures, boundaries, unit_fault}
 use Rattle.offsets.specs.declared.table.CellInfo.{CellInfo}
 use Rattle.offsets.specs.Table.{Table, units_in, potentials_in, Filled}
-use Rattle.cell_words.proofs.OwnLaws.{get_d_zeros}
 use Rattle.adjacency.specs.Adjacency.{Unmarked}
 use Rattle.unit_check.specs.Find.{unit_cells, fits_in, FirstUnfit}
 use Rattle.unit_check.specs.Write.{list_at}
@@ -86,7 +85,7 @@ module _ (g : Grid) (states : List ℕ) (table : List CellInfo) {n : ℕ} (count
 -- ARRAYS OF ZEROS
 
 pub none_marked : (n : ℕ) → Unmarked (replicate n 0)
-none_marked = get_d_zeros
+none_marked = zeros_at
 
 pub lent : (n m : ℕ) → n ≤ m → Lent n (replicate m 0) (replicate m 0) (replicate m 0)
 lent n m h = record { ids_long = simp length-replicate h; starts_long = simp length-replicate h; flat_long = simp length-replicate h }

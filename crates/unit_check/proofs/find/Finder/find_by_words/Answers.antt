@@ -3,7 +3,7 @@ use mathlib.Core.Path.{◌∙◌}
 use native.Mathlib.Omega.{arith}
 use lib.ListN.{length-replicate}
 use Rattle.grid.proofs.Geometry.{cells_le}
-use Rattle.cell_words.proofs.OwnLaws.{get_d_zeros}
+use Rattle.lists.proofs.ListLaws.{zeros_at}
 use Rattle.unit_check.proofs.FindLaws.{fit_on, fit_there, pending_first, pending_next, unfit_none, unfit_some, still_less}
 use Rattle.unit_check.proofs.FinderLaws.{kept_all, kept_then}
 use Rattle.unit_check.proofs.HeldLaws.{units_held, fits_held}
@@ -11,7 +11,7 @@ use Rattle.unit_check.proofs.RoomLaws.{asking}
 use Rattle.unit_check.proofs.find.Finder.find_by_words.Goals as goal
 
 pub fill-requires-clause-unfilled : goal.fill-requires-clause-unfilled
-fill-requires-clause-unfilled g c = get_d_zeros 132
+fill-requires-clause-unfilled g c = zeros_at 132
 
 pub loop-next-init : goal.loop-next-init
 loop-next-init g c =
