@@ -14,11 +14,7 @@ fn side_word(states: &[u8], state: u8) -> u64
     requires { length states.now ≤ 32 }
     ensures { Only (length states.now) (λ x. eqb (get_or states.now x 0) state) result }
 {
-    let mut word = 0;
-    for (x, &here) in states.iter().enumerate() {
-        word = words::with_bit(word, here == state, 32 + x);
-    }
-    word
+    words::row(states.len(), |x| states[x] == state)
 }
 
 // The words of the borders right of each row's cells, from place `at` on.

@@ -25,7 +25,7 @@ use Rattle.cell_words.proofs.OwnLaws.{cell_at}
 abbrev pub marked_at : List CellInfo → List ℕ → ℕ → Bool
 marked_at table marks c = not (eqb (get_or marks (potential_in table c) 0) 0)
 
-some_is : {a b : ℕ} → ◌≡◌ {A = Option ℕ} (Some a) (Some b) → a ≡ b
+pub some_is : {a b : ℕ} → ◌≡◌ {A = Option ℕ} (Some a) (Some b) → a ≡ b
 some_is e = cc
 
 -- no row's word stands for a potential unit yet

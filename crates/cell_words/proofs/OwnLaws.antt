@@ -8,13 +8,13 @@ use native.Mathlib.Omega.{arith}
 use native.Mathlib.Nat.{mul-le-mul, suc-mul, le_refl, div-add-mod'}
 use borrow.Author.Tests.{eq-eqb, ne_eqb, eqb-true}
 use lib.Dec.{eqb}
-use lib.ListN.{get_or, length, set, length-set, drop, drop_of_length-le, replicate, length-replicate, get_or-replicate, get_or-eq_default}
+use lib.ListN.{get_or, length, set, length-set, drop, drop_of_length-le, replicate, length-replicate}
 use lib.Seq.{get_or-set_same, get_or-set_other}
 use Rattle.lists.specs.Choice.{both, either}
 use Rattle.lists.specs.Lists.{In, any}
-use Rattle.lists.proofs.Cases.{le_or_lt, eq_or_ne}
+use Rattle.lists.proofs.Cases.{eq_or_ne}
 use Rattle.lists.proofs.ChoiceLaws.{both_true, true_both, same_truth}
-use Rattle.lists.proofs.ListLaws.{get_d_in, any_true, true_any}
+use Rattle.lists.proofs.ListLaws.{get_d_in, any_true, true_any, zeros_at}
 use Rattle.grid.specs.declared.Grid.{Grid}
 use Rattle.grid.specs.Grid.{Limits, Cell, row, col}
 use Rattle.grid.proofs.Geometry.{coords, row_lt, col_lt}
@@ -27,23 +27,15 @@ use Rattle.offsets.specs.Trial.{Unit}
 use Rattle.offsets.proofs.ReachLaws.{next_cell}
 use Rattle.words.specs.Words.{bit}
 use Rattle.words.proofs.WordLaws.{bit_zero}
-use Rattle.words.proofs.AnyLaws.{either_assoc, either_false}
+use Rattle.lists.proofs.ChoiceLaws.{either_assoc, either_false}
 use Rattle.cell_words.specs.Cells.{Blank, Inside}
 
 -- the cells of a row are cells
 pub cell_at : (g : Grid) (y x : ℕ) → y < g.height → x < g.width → Cell g (y * g.width + x)
 cell_at g y x h k = omega (arith, mul-le-mul h (le_refl g.width), suc-mul y g.width)
 
--- an array of zeros
-pub get_d_zeros : (n k : ℕ) → ◌≡◌ {A = ℕ} (get_or (replicate n 0) k 0) 0
-get_d_zeros n k =
-    ⊎_elim
-    (λ (h : n ≤ k). get_or-eq_default (replicate n 0) 0 {n = k} (simp length-replicate h))
-    (λ (h : k < n). get_or-replicate n k 0 0 h)
-    (le_or_lt n k)
-
 pub blank : {g : Grid} → Limits g → Blank g (replicate 32 0)
-blank l = record { clear = get_d_zeros 32; long = simp length-replicate l.height_fits }
+blank l = record { clear = zeros_at 32; long = simp length-replicate l.height_fits }
 
 -- cell c has bit j of row y's word
 abbrev stands_at : List CellInfo → ℕ → ℕ → ℕ → Bool

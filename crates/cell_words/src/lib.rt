@@ -41,14 +41,11 @@ impl Marked<'_> {
         requires { y < self.grid.height }
         ensures { Says self.entry.grid.width (λ x. not (eqb (get_or self.entry.marks.now (potential_in self.entry.table.now (y * self.entry.grid.width + x)) 0) 0)) result }
     {
-        let width = self.grid.width;
-        let from = y * width;
-        let mut word = 0;
-        for x in 0..width {
+        let from = y * self.grid.width;
+        words::row(self.grid.width, |x| {
             let potential = usize::from(self.table[from + x].potential);
-            word = words::with_bit(word, self.marks[potential] != 0, 32 + x);
-        }
-        word
+            self.marks[potential] != 0
+        })
     }
 }
 

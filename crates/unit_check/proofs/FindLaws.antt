@@ -32,6 +32,7 @@ use Rattle.offsets.proofs.NoneLaws.{is_none, good_pick}
 use Rattle.offsets.proofs.TrialLaws.{head_in}
 use Rattle.adjacency.specs.Adjacency.{Adjacency, Marking, MarksOf, Unmarked}
 use Rattle.adjacency.proofs.ListingLaws.{marking}
+use Rattle.cell_words.proofs.NearLaws.{some_is}
 use Rattle.unit_check.specs.Stage.{Finding}
 use Rattle.unit_check.specs.Find.{unit_cells, own_of, fits_in, tries_all, AllFit, FirstUnfit, MarkedFor, Sought, Unfit}
 
@@ -172,9 +173,6 @@ module _ {g : Grid} (states : List ℕ) (table : List CellInfo) {n : ℕ} {start
 
 -- WHAT IS FOUND
 
-some_one : {a b : ℕ} → ◌≡◌ {A = Option ℕ} (Some a) (Some b) → a ≡ b
-some_one e = cc
-
 some_none : {a : ℕ} {P : Type 0} → ◌≡◌ {A = Option ℕ} (Some a) None → P
 some_none e = absurd (let z : ◌≡◌ {A = ℕ} 0 1 = cc in omega arith)
 
@@ -194,17 +192,17 @@ module _ {g : Grid} {states : List ℕ} {table : List CellInfo} {n : ℕ} where
   sought_some {from} {u} {marks} f h a m t =
       record {
         none = λ e. some_none e;
-        some = λ k e. rw (← some_one e) (f, h);
-        before = λ k e. rw (← some_one e) a;
-        marked = λ k e. rw (← some_one e) m;
-        there = λ s k e. rw (← some_one e) (t s);
+        some = λ k e. rw (← some_is e) (f, h);
+        before = λ k e. rw (← some_is e) a;
+        marked = λ k e. rw (← some_is e) m;
+        there = λ s k e. rw (← some_is e) (t s);
       }
 
   pub unfit_none : {marks : List ℕ} → AllFit (fits_in g states table) n n → Unfit g states table n marks None
   unfit_none a = record { none = λ e. fit_all a (omega arith); some = λ k e. some_none (sym e); first = λ k e. some_none (sym e); marked = λ k e. some_none (sym e) }
 
   pub unfit_some : {u : ℕ} {marks : List ℕ} → u < n → FirstUnfit (fits_in g states table) n u → MarkedFor g states table u marks → Unfit g states table n marks (Some u)
-  unfit_some {u} h a m = record { none = λ e. some_none e; some = λ k e. rw (← some_one e) h; first = λ k e. rw (← some_one e) a; marked = λ k e. rw (← some_one e) m }
+  unfit_some {u} h a m = record { none = λ e. some_none e; some = λ k e. rw (← some_is e) h; first = λ k e. rw (← some_is e) a; marked = λ k e. rw (← some_is e) m }
 
 -- each unit so far fits somewhere, and the next one to look at has its marks
 pub record Pending (g : Grid) (states : List ℕ) (table : List CellInfo) (n : ℕ) (marks : List ℕ) (next : Option ℕ) : Type 0 where
@@ -215,7 +213,7 @@ pub record Pending (g : Grid) (states : List ℕ) (table : List CellInfo) (n : �
 
 module _ {g : Grid} {states : List ℕ} {table : List CellInfo} {n : ℕ} where
   pub pending_first : {u : ℕ} {marks : List ℕ} → u < n → AllFit (fits_in g states table) n u → MarkedFor g states table u marks → Pending g states table n marks (Some u)
-  pending_first h a m = record { none = λ e. some_none e; some = λ k e. rw (← some_one e) h; before = λ k e. rw (← some_one e) a; marked = λ k e. rw (← some_one e) m }
+  pending_first h a m = record { none = λ e. some_none e; some = λ k e. rw (← some_is e) h; before = λ k e. rw (← some_is e) a; marked = λ k e. rw (← some_is e) m }
 
   pub pending_next : {from : ℕ} {marks : List ℕ} {next : Option ℕ} → Sought g states table n from marks next → Pending g states table n marks next
   pending_next s = record { none = s.none; some = λ k e. (s.some k e).1; before = s.before; marked = s.marked }

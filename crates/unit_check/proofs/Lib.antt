@@ -1,5 +1,6 @@
 pub mod SoonLaws
 pub mod FindLaws
+pub mod FinderLaws
 pub mod HeldLaws
 pub mod RestLaws
 pub mod RoomLaws

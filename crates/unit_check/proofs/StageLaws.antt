@@ -12,7 +12,7 @@ use lib.Seq.{length-take-le}
 use Rattle.std.specs.Prelude as std
 use Rattle.lists.specs.Choice.{give, or_else}
 use Rattle.lists.specs.Lists.{count_from, range, first}
-use Rattle.lists.proofs.ListLaws.{count_from_step, count_from_end}
+use Rattle.lists.proofs.ListLaws.{count_from_step, count_from_end, zeros_at}
 use Rattle.answers.specs.Answers.{Finds}
 use Rattle.grid.specs.declared.Grid.{Grid}
 use Rattle.grid.specs.Grid.{Limits, cells}
@@ -21,12 +21,11 @@ use Rattle.groups.proofs.Theorems.{made_ids, made_starts_fit}
 use Rattle.boundary.specs.Appended.{Appended}
 use Rattle.shape.specs.Shape.{UnitInfo, unit_of, failures, boundaries, unit_fault}
 use Rattle.offsets.specs.declared.table.CellInfo.{CellInfo}
-use Rattle.offsets.specs.Table.{units_in, potentials_in, Filled}
-use Rattle.cell_words.proofs.OwnLaws.{get_d_zeros}
+use Rattle.offsets.specs.Table.{Table, units_in, potentials_in, Filled}
 use Rattle.adjacency.specs.Adjacency.{Unmarked}
 use Rattle.unit_check.specs.Find.{unit_cells, fits_in, FirstUnfit}
 use Rattle.unit_check.specs.Write.{list_at}
-use Rattle.unit_check.specs.Units.{unit_stage}
+use Rattle.unit_check.specs.Units.{unit_stage, first_list}
 use Rattle.unit_check.proofs.FindLaws.{unit_is}
 
 -- THE FIRST UNIT THAT FITS NOWHERE
@@ -67,10 +66,26 @@ module _ (g : Grid) (states : List ℕ) (table : List CellInfo) (n k : ℕ) (w :
   unfolding first or_else
   stage_some h = sym (skip fault n k w.within passed) ∙ rw (count_from_step n k h, this h)
 
+module _ (g : Grid) (states : List ℕ) (table : List CellInfo) {n : ℕ} (count : ℕ) where
+  pub finds_nothing : FirstUnfit (fits_in g states table) n n → (b : List ℕ) → Finds (first_list g states table count n) b b std.None
+  finds_nothing q b =
+      let z : first_list g states table count n ≡ none = stage_none g states table n n q count (omega arith) in
+      rw z record { answer = refl; stored = refl }
+
+  pub finds_list : Limits g → Table g table → {starts flat : List ℕ} → InTurn g (units_in g table) n starts flat → {k : ℕ} → k < n → FirstUnfit (fits_in g states table) n k → {b b' : List ℕ} {r : ℕ}
+      → Appended b 0 (list_at g states table count (unit_cells g table k)) b' r → Finds (first_list g states table count n) b b' (std.Some r)
+  finds_list limits t turns {k} h q {r = r} v =
+      let L : List ℕ = list g states table n k q count in
+      let z : first_list g states table count n ≡ some L = stage_some g states table n k q count h in
+      let e : list_at g states table count (unit_cells g table k) ≡ L = rw (unit_is limits t turns h) in
+      let v' = rw e at v in
+      let j : r ≡ length L = omega (arith, v'.place) in
+      rw z record { answer = rw j; stored = v'.stored }
+
 -- ARRAYS OF ZEROS
 
 pub none_marked : (n : ℕ) → Unmarked (replicate n 0)
-none_marked = get_d_zeros
+none_marked = zeros_at
 
 pub lent : (n m : ℕ) → n ≤ m → Lent n (replicate m 0) (replicate m 0) (replicate m 0)
 lent n m h = record { ids_long = simp length-replicate h; starts_long = simp length-replicate h; flat_long = simp length-replicate h }
@@ -79,23 +94,10 @@ lent n m h = record { ids_long = simp length-replicate h; starts_long = simp len
 
 module _ {g : Grid} {states ids pids₀ pstarts₀ pflat₀ pids pstarts pflat : List ℕ} {count : ℕ} (l : Lent (cells g) pids₀ pstarts₀ pflat₀)
     (w : Grouped g states true pids₀ pstarts₀ pflat₀ pids pstarts pflat count) {table : List CellInfo} (f : Filled g ids (take (cells g) pids) table) where
-  stage_is : (n : ℕ) → unit_stage g states ids n ≡ first (unit_fault g states (units_in g table) (potentials_in g table) (length (take count pstarts))) (range n)
+  stage_is : (n : ℕ) → unit_stage g states ids n ≡ first_list g states table (length (take count pstarts)) n
   stage_is n =
       let k : length (take count pstarts) ≡ count = length-take-le count pstarts (made_starts_fit l w) in
       rw (f.units, f.potentials, made_ids l w, k, w.count_is)
 
-  pub finds_nothing : {n : ℕ} → FirstUnfit (fits_in g states table) n n → (b : List ℕ) → Finds (unit_stage g states ids n) b b std.None
-  finds_nothing {n} q b =
-      let z : unit_stage g states ids n ≡ none = stage_is n ∙ stage_none g states table n n q (length (take count pstarts)) (omega arith) in
-      rw z record { answer = refl; stored = refl }
-
-  pub finds_list : Limits g → {n : ℕ} {starts flat : List ℕ} → InTurn g (units_in g table) n starts flat → {k : ℕ} → k < n → FirstUnfit (fits_in g states table) n k → {b b' : List ℕ} {r : ℕ}
-      → Appended b 0 (list_at g states table (length (take count pstarts)) (unit_cells g table k)) b' r → Finds (unit_stage g states ids n) b b' (std.Some r)
-  finds_list limits {n} turns {k} h q {r = r} v =
-      let m : ℕ = length (take count pstarts) in
-      let L : List ℕ = list g states table n k q m in
-      let z : unit_stage g states ids n ≡ some L = stage_is n ∙ stage_some g states table n k q m h in
-      let e : list_at g states table m (unit_cells g table k) ≡ L = rw (unit_is limits f.table_of turns h) in
-      let v' = rw e at v in
-      let j : r ≡ length L = omega (arith, v'.place) in
-      rw z record { answer = rw j; stored = v'.stored }
+  pub stage_finds : (n : ℕ) {b b' : List ℕ} {r : std.Option ℕ} → Finds (first_list g states table (length (take count pstarts)) n) b b' r → Finds (unit_stage g states ids n) b b' r
+  stage_finds n v = rw (stage_is n) v

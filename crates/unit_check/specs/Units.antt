@@ -6,6 +6,8 @@ use Rattle.grid.specs.declared.Grid.{Grid}
 use Rattle.grid.specs.Grid.{cells}
 use Rattle.groups.specs.Groups.{group_ids, group_count}
 use Rattle.shape.specs.Shape.{unit_fault}
+use Rattle.offsets.specs.declared.table.CellInfo.{CellInfo}
+use Rattle.offsets.specs.Table.{units_in, potentials_in}
 
 -- the fault of the first unit that has one, of n units (SPEC 4.11)
 abbrev pub unit_stage : Grid → List ℕ → List ℕ → ℕ → Option (List ℕ)
@@ -16,3 +18,7 @@ pub record Checked (g g₁ : Grid) (ids : List ℕ) (room : ℕ) : Type 0 where
   pub units_of : g₁ ≡ g
   pub ids_long : length ids ≡ cells g
   pub enough : 9 * cells g ≤ room
+
+-- the list of the first of n units that fits nowhere, on a board of so many potential units, where the table tells both
+abbrev pub first_list : Grid → List ℕ → List CellInfo → ℕ → ℕ → Option (List ℕ)
+first_list g states table count n = first (unit_fault g states (units_in g table) (potentials_in g table) count) (range n)

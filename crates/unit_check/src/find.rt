@@ -2,6 +2,8 @@
 ghost use Rattle.std.specs.Prelude.{◌≡◌, ◌*◌, ◌<◌, ◌≤◌, length};
 ghost use Rattle.grid.specs.Grid.{cells as cells_of};
 ghost use Rattle.adjacency.specs.Adjacency.{Unmarked};
+ghost use Rattle.answers.specs.Answers.{Finds};
+ghost use Rattle.unit_check.specs.Units.{first_list};
 ghost use Rattle.unit_check.specs.Find.{unit_cells, own_of, fits_in, AllFit, MarkedFor, Sought, Unfit};
 
 use crate::soon;
@@ -10,9 +12,17 @@ use cell_words::Near;
 use offsets::trial::Trial;
 use offsets::unit::UnitCells;
 
+// A search among a stage's units, which sets the marks of one unit after the other. There is a mark for each potential unit.
+#[derive(Drop)]
+pub struct Finder<'a, 'm> {
+    pub stage: Stage<'a>,
+    pub marks: &'m mut [u8],
+    ghost marks_long: { length stage.potentials.starts.now ≤ length marks.now },
+}
+
 impl<'a> Stage<'a> {
     // A unit with its marks, to be tried.
-    pub fn trial(self, unit: usize, marks: &'a [u8]) -> Trial<'a>
+    fn trial(self, unit: usize, marks: &'a [u8]) -> Trial<'a>
         requires unit_exists { unit < length self.units.starts.now }
         requires marks_long { length self.potentials.starts.now ≤ length marks.now }
         requires marked { MarkedFor self.chart.borders.grid self.chart.borders.states.now self.chart.table.now unit marks.now }
@@ -38,40 +48,77 @@ impl<'a> Stage<'a> {
         usize::from(self.chart.table[usize::from(first)].potential)
     }
 
-    // Marks the potential units adjacent to a unit's own one, and no others, before its offsets begin.
-    fn mark(self, unit: usize, marks: &mut [u8])
-        requires unit_exists { unit < length self.units.starts.now }
+    // How long the list is of the first unit that fits nowhere, if there is one. No mark is set before, and the arrays of codes have room for
+    // those of any unit.
+    pub fn list_first<const CELLS: usize, const BORDERS: usize>(
+        self,
+        marks: &mut [u8],
+        buffer: &mut [u16],
+    ) -> Option<usize>
         requires marks_long { length self.potentials.starts.now ≤ length marks.old }
         requires unmarked { Unmarked marks.old }
-        ensures { MarkedFor self.entry.chart.borders.grid self.entry.chart.borders.states.now self.entry.chart.table.now unit marks.new }
+        requires room { (cells_of self.chart.borders.grid ≤ CELLS) × (6 * cells_of self.chart.borders.grid ≤ BORDERS) }
+        requires arrays_small { (CELLS ≤ 1024) × (BORDERS ≤ 6144) }
+        requires enough { 9 * cells_of self.chart.borders.grid ≤ length buffer.old }
+        ensures { Finds (first_list self.entry.chart.borders.grid self.entry.chart.borders.states.now self.entry.chart.table.now (length self.entry.potentials.starts.now) (length self.entry.units.starts.now)) buffer.old buffer.new result }
     {
-        self.near.mark(self.own(unit), marks);
+        let mut finder = Finder { stage: self, marks };
+        let unit = finder.find::<CELLS, BORDERS>()?;
+        Some(finder.write_list(unit, buffer))
+    }
+}
+
+impl Finder<'_, '_> {
+    ghost use Rattle.unit_check.specs.Finder.{Kept};
+
+    // A unit with the marks of the search.
+    pub fn trial(&self, unit: usize) -> Trial<'_>
+        requires unit_exists { unit < length self.now.stage.units.starts.now }
+        requires marked { MarkedFor self.now.stage.chart.borders.grid self.now.stage.chart.borders.states.now self.now.stage.chart.table.now unit self.now.marks.now }
+        ensures grid_is { result.unit.chart.borders.grid ≡ self.now.stage.chart.borders.grid }
+        ensures states_are { result.unit.chart.borders.states.now ≡ self.now.stage.chart.borders.states.now }
+        ensures table_is { result.unit.chart.table.now ≡ self.now.stage.chart.table.now }
+        ensures cells_are { result.unit.cells.now ≡ unit_cells self.now.stage.chart.borders.grid self.now.stage.chart.table.now unit }
+    {
+        self.stage.trial(unit, &*self.marks)
+    }
+
+    // Marks the potential units adjacent to a unit's own one, and no others, before its offsets begin.
+    fn mark(&mut self, unit: usize)
+        requires unit_exists { unit < length self.old.stage.units.starts.now }
+        requires unmarked { Unmarked self.old.marks.now }
+        ensures kept { Kept self.old self.new }
+        ensures marked { MarkedFor self.old.stage.chart.borders.grid self.old.stage.chart.borders.states.now self.old.stage.chart.table.now unit self.new.marks.now }
+    {
+        let own = self.stage.own(unit);
+        self.stage.near.mark(own, self.marks);
     }
 
     // Takes these marks away again, before the next unit's are set.
-    fn unmark(self, unit: usize, marks: &mut [u8])
-        requires unit_exists { unit < length self.units.starts.now }
-        requires marks_long { length self.potentials.starts.now ≤ length marks.old }
-        requires marked { MarkedFor self.chart.borders.grid self.chart.borders.states.now self.chart.table.now unit marks.old }
-        ensures { Unmarked marks.new }
+    fn unmark(&mut self, unit: usize)
+        requires unit_exists { unit < length self.old.stage.units.starts.now }
+        requires marked { MarkedFor self.old.stage.chart.borders.grid self.old.stage.chart.borders.states.now self.old.stage.chart.table.now unit self.old.marks.now }
+        ensures kept { Kept self.old self.new }
+        ensures unmarked { Unmarked self.new.marks.now }
     {
-        self.near.unmark(self.own(unit), marks);
+        let own = self.stage.own(unit);
+        self.stage.near.unmark(own, self.marks);
     }
 
     // The first unit from one on that fits at none of the places that are tried soon, for which the marks are left set. On a small board it fits
     // nowhere.
-    fn find_soon(self, from: usize, marks: &mut [u8]) -> Option<usize>
-        requires marks_long { length self.potentials.starts.now ≤ length marks.old }
-        requires unmarked { Unmarked marks.old }
-        requires all_fit { AllFit (fits_in self.chart.borders.grid self.chart.borders.states.now self.chart.table.now) (length self.units.starts.now) from }
-        ensures { Sought self.entry.chart.borders.grid self.entry.chart.borders.states.now self.entry.chart.table.now (length self.entry.units.starts.now) from marks.new result }
+    fn find_soon(&mut self, from: usize) -> Option<usize>
+        requires unmarked { Unmarked self.old.marks.now }
+        requires all_fit { AllFit (fits_in self.old.stage.chart.borders.grid self.old.stage.chart.borders.states.now self.old.stage.chart.table.now) (length self.old.stage.units.starts.now) from }
+        ensures kept { Kept self.old self.new }
+        ensures sought { Sought self.old.stage.chart.borders.grid self.old.stage.chart.borders.states.now self.old.stage.chart.table.now (length self.old.stage.units.starts.now) from self.new.marks.now result }
     {
-        for unit in from..self.units.len() {
-            self.mark(unit, marks);
-            if !soon::fits_soon(self.trial(unit, marks)) {
+        for unit in from..self.stage.units.len() {
+            self.mark(unit);
+            if !soon::fits_soon(self.trial(unit)) {
                 return Some(unit);
             }
-            self.unmark(unit, marks);
+            self.unmark(unit);
         }
         None
     }
@@ -79,53 +126,52 @@ impl<'a> Stage<'a> {
     // The first unit from one on that fits nowhere, for which the marks are left set. The unit to begin with has its marks, and fits at none of
     // the places that are tried soon. The arrays of codes have room for those of any unit.
     fn find_by_words<const CELLS: usize, const BORDERS: usize>(
-        self,
+        &mut self,
         from: usize,
-        marks: &mut [u8],
     ) -> Option<usize>
-        requires marks_long { length self.potentials.starts.now ≤ length marks.old }
-        requires room { (cells_of self.chart.borders.grid ≤ CELLS) × (6 * cells_of self.chart.borders.grid ≤ BORDERS) }
+        requires room { (cells_of self.old.stage.chart.borders.grid ≤ CELLS) × (6 * cells_of self.old.stage.chart.borders.grid ≤ BORDERS) }
         requires arrays_small { (CELLS ≤ 1024) × (BORDERS ≤ 6144) }
-        requires from_exists { from < length self.units.starts.now }
-        requires all_fit { AllFit (fits_in self.chart.borders.grid self.chart.borders.states.now self.chart.table.now) (length self.units.starts.now) from }
-        requires marked { MarkedFor self.chart.borders.grid self.chart.borders.states.now self.chart.table.now from marks.old }
-        ensures { Unfit self.entry.chart.borders.grid self.entry.chart.borders.states.now self.entry.chart.table.now (length self.entry.units.starts.now) marks.new result }
+        requires from_exists { from < length self.old.stage.units.starts.now }
+        requires all_fit { AllFit (fits_in self.old.stage.chart.borders.grid self.old.stage.chart.borders.states.now self.old.stage.chart.table.now) (length self.old.stage.units.starts.now) from }
+        requires marked { MarkedFor self.old.stage.chart.borders.grid self.old.stage.chart.borders.states.now self.old.stage.chart.table.now from self.old.marks.now }
+        ensures kept { Kept self.old self.new }
+        ensures unfit { Unfit self.old.stage.chart.borders.grid self.old.stage.chart.borders.states.now self.old.stage.chart.table.now (length self.old.stage.units.starts.now) self.new.marks.now result }
     {
         let mut words = [0; 132];
-        border_words::fill(self.chart.borders, &mut words);
-        let full = words::full_word(self.chart.borders.grid.width);
+        border_words::fill(self.stage.chart.borders, &mut words);
+        let full = words::full_word(self.stage.chart.borders.grid.width);
         let mut near = Near::unmade();
         let mut codes = [0; CELLS];
         let mut borders = [0; BORDERS];
         let mut next = Some(from);
         while let Some(unit) = next {
-            let trial = self.trial(unit, marks);
+            let trial = self.trial(unit);
             if !row_trials::fits(trial, full, &words, &mut codes, &mut borders, &mut near) {
                 return next;
             }
-            self.unmark(unit, marks);
-            next = self.find_soon(unit + 1, marks);
+            self.unmark(unit);
+            next = self.find_soon(unit + 1);
         }
         None
     }
 
     // The first unit that fits nowhere, for which the marks are left set. A unit that is the whole board fits nowhere. Words are made only once a
     // unit fits at none of the offsets that are tried soon.
-    pub fn find<const CELLS: usize, const BORDERS: usize>(self, marks: &mut [u8]) -> Option<usize>
-        requires marks_long { length self.potentials.starts.now ≤ length marks.old }
-        requires room { (cells_of self.chart.borders.grid ≤ CELLS) × (6 * cells_of self.chart.borders.grid ≤ BORDERS) }
+    pub fn find<const CELLS: usize, const BORDERS: usize>(&mut self) -> Option<usize>
+        requires room { (cells_of self.old.stage.chart.borders.grid ≤ CELLS) × (6 * cells_of self.old.stage.chart.borders.grid ≤ BORDERS) }
         requires arrays_small { (CELLS ≤ 1024) × (BORDERS ≤ 6144) }
-        requires unmarked { Unmarked marks.old }
-        ensures { Unfit self.entry.chart.borders.grid self.entry.chart.borders.states.now self.entry.chart.table.now (length self.entry.units.starts.now) marks.new result }
+        requires unmarked { Unmarked self.old.marks.now }
+        ensures kept { Kept self.old self.new }
+        ensures unfit { Unfit self.old.stage.chart.borders.grid self.old.stage.chart.borders.states.now self.old.stage.chart.table.now (length self.old.stage.units.starts.now) self.new.marks.now result }
     {
-        if self.units.len() == 1 {
-            self.mark(0, marks);
+        if self.stage.units.len() == 1 {
+            self.mark(0);
             return Some(0);
         }
-        let unit = self.find_soon(0, marks)?;
-        if soon::tries_all(self.chart.borders.grid) {
+        let unit = self.find_soon(0)?;
+        if soon::tries_all(self.stage.chart.borders.grid) {
             return Some(unit);
         }
-        self.find_by_words::<CELLS, BORDERS>(unit, marks)
+        self.find_by_words::<CELLS, BORDERS>(unit)
     }
 }

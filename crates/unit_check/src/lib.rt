@@ -63,8 +63,7 @@ fn check_in<'a, const CELLS: usize, const STARTS: usize, const NEAR: usize, cons
             list: &near,
         },
     };
-    let unit = stage.find::<CELLS, BORDERS>(&mut marks)?;
-    Some(stage.write_list(unit, &marks, buffer))
+    stage.list_first::<CELLS, BORDERS>(&mut marks, buffer)
 }
 
 // The units of a board: how long the list is of the first that fits nowhere, if there is one.

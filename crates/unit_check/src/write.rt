@@ -7,6 +7,7 @@ ghost use Rattle.shape.specs.Shape.{entry_of};
 ghost use Rattle.unit_check.specs.Find.{unit_cells, MarkedFor};
 ghost use Rattle.unit_check.specs.Write.{failures_at, near_boundaries, list_at};
 
+use crate::find::Finder;
 use crate::stage::Stage;
 use boundary::{Entries, Outline};
 use offsets::trial::Trial;
@@ -32,18 +33,23 @@ fn write_landings(trial: Trial<'_>, list: &mut Entries<'_>)
     }
 }
 
-impl<'a> Stage<'a> {
+impl Finder<'_, '_> {
     // Appends the boundary lists of all marked potential units, in rising number.
-    fn append_near(self, marks: &[u8], list: &mut Entries<'_>)
-        requires marks_long { length self.potentials.starts.now ≤ length marks.now }
-        requires room { list.old.len + length (near_boundaries self.chart.borders.grid self.chart.borders.states.now self.potentials.ids.now marks.now (length self.potentials.starts.now)) ≤ length list.old.buffer.now }
-        ensures { Writes (near_boundaries self.entry.chart.borders.grid self.entry.chart.borders.states.now self.entry.potentials.ids.now marks.now (length self.entry.potentials.starts.now)) list.old list.new }
+    fn append_near(&self, list: &mut Entries<'_>)
+        requires { list.old.len + length (near_boundaries self.now.stage.chart.borders.grid self.now.stage.chart.borders.states.now self.now.stage.potentials.ids.now self.now.marks.now (length self.now.stage.potentials.starts.now)) ≤ length list.old.buffer.now }
+        ensures { Writes (near_boundaries self.now.stage.chart.borders.grid self.now.stage.chart.borders.states.now self.now.stage.potentials.ids.now self.now.marks.now (length self.now.stage.potentials.starts.now)) list.old list.new }
     {
-        for number in 0..self.potentials.len() {
+        let Stage {
+            chart,
+            potentials,
+            ..
+        } = self.stage;
+        let marks = &*self.marks;
+        for number in 0..potentials.len() {
             if marks[number] != 0 {
                 let outline = Outline {
-                    borders: self.chart.borders,
-                    groups: self.potentials,
+                    borders: chart.borders,
+                    groups: potentials,
                     potential: true,
                     number,
                 };
@@ -53,23 +59,23 @@ impl<'a> Stage<'a> {
     }
 
     // The whole list of a unit, whose adjacent potential units are marked; returns its length.
-    pub fn write_list(self, unit: usize, marks: &'a [u8], buffer: &mut [u16]) -> usize
-        requires unit_exists { unit < length self.units.starts.now }
-        requires marks_long { length self.potentials.starts.now ≤ length marks.now }
-        requires marked { MarkedFor self.chart.borders.grid self.chart.borders.states.now self.chart.table.now unit marks.now }
-        requires enough { 9 * cells_of self.chart.borders.grid ≤ length buffer.old }
-        ensures { Appended buffer.old 0 (list_at self.entry.chart.borders.grid self.entry.chart.borders.states.now self.entry.chart.table.now (length self.entry.potentials.starts.now) (unit_cells self.entry.chart.borders.grid self.entry.chart.table.now unit)) buffer.new result }
+    pub fn write_list(&self, unit: usize, buffer: &mut [u16]) -> usize
+        requires unit_exists { unit < length self.now.stage.units.starts.now }
+        requires marked { MarkedFor self.now.stage.chart.borders.grid self.now.stage.chart.borders.states.now self.now.stage.chart.table.now unit self.now.marks.now }
+        requires enough { 9 * cells_of self.now.stage.chart.borders.grid ≤ length buffer.old }
+        ensures { Appended buffer.old 0 (list_at self.now.stage.chart.borders.grid self.now.stage.chart.borders.states.now self.now.stage.chart.table.now (length self.now.stage.potentials.starts.now) (unit_cells self.now.stage.chart.borders.grid self.now.stage.chart.table.now unit)) buffer.new result }
     {
         let mut list = Entries { buffer, len: 0 };
-        write_landings(self.trial(unit, marks), &mut list);
+        write_landings(self.trial(unit), &mut list);
+        let Stage { chart, units, .. } = self.stage;
         let outline = Outline {
-            borders: self.chart.borders,
-            groups: self.units,
+            borders: chart.borders,
+            groups: units,
             potential: false,
             number: unit,
         };
         outline.append(&mut list);
-        self.append_near(marks, &mut list);
+        self.append_near(&mut list);
         list.len
     }
 }

@@ -4,22 +4,7 @@ use mathlib.Core.Bool.{Bool, true, false}
 use mathlib.Core.List.{List, [], ◌∷◌, ◌++◌}
 use Rattle.lists.specs.Choice.{both, either, when}
 use Rattle.lists.specs.Lists.{all, any, gather}
-
-pub either_assoc : (a b c : Bool) → either (either a b) c ≡ either a (either b c)
-either_assoc true b c = refl
-either_assoc false b c = refl
-
-pub either_false : (a : Bool) → either a false ≡ a
-either_false true = refl
-either_false false = refl
-
-pub both_assoc : (a b c : Bool) → both (both a b) c ≡ both a (both b c)
-both_assoc true b c = refl
-both_assoc false b c = refl
-
-pub both_right : (a : Bool) → both a true ≡ a
-both_right true = refl
-both_right false = refl
+use Rattle.lists.proofs.ChoiceLaws.{either_assoc, either_false, both_assoc, both_right}
 
 module _ {A : Type 0} (p : A → Bool) where
   pub any_append : (xs ys : List A) → any p (xs ++ ys) ≡ either (any p xs) (any p ys)

@@ -1,6 +1,6 @@
 -- A row's word that is set bit by bit. Assumes nothing.
 use Prim.Native.Nat.{ℕ, ◌+◌, ◌-◌, ◌≤◌, ◌<◌}
-use mathlib.Core.Path.{◌≡◌, refl, sym, ap, ◌∙◌}
+use mathlib.Core.Path.{◌≡◌, sym, ap, ◌∙◌}
 use mathlib.Core.Logic.{⊎_elim, ◌≢◌}
 use mathlib.Core.Bool.{Bool, true, false}
 use native.Mathlib.Omega.{arith}
@@ -8,14 +8,9 @@ use borrow.Author.Tests.{eq-eqb, ne_eqb, le-leb, lt-leb, lt-ltb, le-ltb, ltb-tru
 use lib.Dec.{eqb, leb, ltb}
 use Rattle.lists.specs.Choice.{both, either}
 use Rattle.lists.proofs.Cases.{le_or_lt, eq_or_ne}
-use Rattle.lists.proofs.ChoiceLaws.{same_truth}
+use Rattle.lists.proofs.ChoiceLaws.{both_false, both_right, either_false, same_truth}
 use Rattle.words.specs.Words.{bit, Says, Only, Full}
-use Rattle.words.proofs.AnyLaws.{either_false, both_right}
 use Rattle.words.proofs.WordLaws.{bit_zero}
-
-both_false : (a : Bool) → both a false ≡ false
-both_false true = refl
-both_false false = refl
 
 module _ (P : ℕ → Bool) (w : ℕ) where
   -- the bits of the columns before x are set as P says, and no others
@@ -55,9 +50,9 @@ module _ (P : ℕ → Bool) (w : ℕ) where
   pub set_only : (word x : ℕ) → w ≤ x → SetWalk word x → Only w P word
   set_only word x h k = let e : x ≡ w = omega (arith, k.inside) in rw e at k.so_far
 
-  pub set_says : (word x : ℕ) → w ≤ x → SetWalk word x → Says w P word
-  set_says word x h k z l = k.so_far (32 + z) ∙ rw (le-leb 32 (32 + z) (omega arith), lt-ltb (32 + z) (32 + x) (omega arith)) (ap P (let e : 32 + z - 32 ≡ z = omega arith in e))
+  pub only_says : (word : ℕ) → Only w P word → Says w P word
+  only_says word k z l = k (32 + z) ∙ rw (le-leb 32 (32 + z) (omega arith), lt-ltb (32 + z) (32 + w) (omega arith)) (ap P (let e : 32 + z - 32 ≡ z = omega arith in e))
 
 -- all of a row
-pub set_full : (w word x : ℕ) → w ≤ x → SetWalk (λ z. true) w word x → Full w word
-set_full w word x h k j = k.so_far j ∙ ap (both (leb 32 j)) (both_right (ltb j (32 + x)) ∙ ap (λ (n : ℕ). ltb j (32 + n)) (let l = k.inside in let e : x ≡ w = omega arith in e))
+pub only_full : (w word : ℕ) → Only w (λ z. true) word → Full w word
+only_full w word k j = k j ∙ ap (both (leb 32 j)) (both_right (ltb j (32 + w)))

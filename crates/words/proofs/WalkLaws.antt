@@ -12,7 +12,8 @@ use Rattle.lists.specs.Choice.{both, either}
 use Rattle.lists.specs.Lists.{all, any}
 use Rattle.lists.proofs.ListLaws.{get_d_in}
 use Rattle.words.specs.Words.{bit, Readable}
-use Rattle.words.proofs.AnyLaws.{both_assoc, both_right, any_append, all_append, any_one, all_one}
+use Rattle.lists.proofs.ChoiceLaws.{both_assoc, both_right}
+use Rattle.words.proofs.AnyLaws.{any_append, all_append, any_one, all_one}
 use Rattle.words.proofs.WordLaws.{bit_and_lem, bit_or_lem, bit_zero}
 
 -- what a turn reads

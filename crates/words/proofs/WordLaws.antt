@@ -2,7 +2,7 @@
 use Prim.Native.Nat.{ℕ, zero, suc, ◌+◌, ◌-◌, ◌*◌, ◌/◌, ◌%◌, ◌^◌, ◌≤◌, ◌<◌, min}
 use mathlib.Core.Path.{◌≡◌, refl, sym, ap, ap₂, ◌∙◌, subst}
 use mathlib.Core.Logic.{⊎_elim, ◌≢◌}
-use mathlib.Core.Bool.{true, false}
+use mathlib.Core.Bool.{Bool, true, false}
 use native.Mathlib.Nat.{zero-div, div-one, div-eq_of_lt, mod-lt, zero-lt-suc, add_comm, mul-mod_left, one-mul, div-add-mod', zero-min}
 use native.Mathlib.Numerals.{add-one}
 use native.Mathlib.Omega.{arith}
@@ -19,37 +19,29 @@ use Rattle.words.specs.Words.{bit}
 two_pos : zero < 2
 two_pos = zero-lt-suc 1
 
--- on single digits
-and_digits : (p q : ℕ) → p < 2 → q < 2 → eqb (bit_and p q) 1 ≡ both (eqb p 1) (eqb q 1)
-and_digits zero zero h k = refl
-and_digits zero (suc zero) h k = refl
-and_digits (suc zero) zero h k = refl
-and_digits (suc zero) (suc zero) h k = refl
-and_digits zero (suc (suc q)) h k = absurd (omega arith)
-and_digits (suc zero) (suc (suc q)) h k = absurd (omega arith)
-and_digits (suc (suc p)) q h k = absurd (omega arith)
-
-or_digits : (p q : ℕ) → p < 2 → q < 2 → eqb (bit_or p q) 1 ≡ either (eqb p 1) (eqb q 1)
-or_digits zero zero h k = refl
-or_digits zero (suc zero) h k = refl
-or_digits (suc zero) zero h k = refl
-or_digits (suc zero) (suc zero) h k = refl
-or_digits zero (suc (suc q)) h k = absurd (omega arith)
-or_digits (suc zero) (suc (suc q)) h k = absurd (omega arith)
-or_digits (suc (suc p)) q h k = absurd (omega arith)
+-- on single digits an operation is that of tests where it is so at the four pairs
+digits : (f : ℕ → ℕ → ℕ) (t : Bool → Bool → Bool) → eqb (f 0 0) 1 ≡ t false false → eqb (f 0 1) 1 ≡ t false true → eqb (f 1 0) 1 ≡ t true false → eqb (f 1 1) 1 ≡ t true true
+    → (p q : ℕ) → p < 2 → q < 2 → eqb (f p q) 1 ≡ t (eqb p 1) (eqb q 1)
+digits f t a b c d zero zero h k = a
+digits f t a b c d zero (suc zero) h k = b
+digits f t a b c d (suc zero) zero h k = c
+digits f t a b c d (suc zero) (suc zero) h k = d
+digits f t a b c d zero (suc (suc q)) h k = absurd (omega arith)
+digits f t a b c d (suc zero) (suc (suc q)) h k = absurd (omega arith)
+digits f t a b c d (suc (suc p)) q h k = absurd (omega arith)
 
 module _ (a b j : ℕ) where
   pub bit_and_lem : bit (bit_and a b) j ≡ both (bit a j) (bit b j)
   unfolding bit
   bit_and_lem =
       ap (λ (n : ℕ). eqb (n % 2) 1) (and_shr a b j) ∙ ap (λ (n : ℕ). eqb n 1) (and_mod (a / 2 ^ j) (b / 2 ^ j) 1)
-      ∙ and_digits (a / 2 ^ j % 2) (b / 2 ^ j % 2) (mod-lt (a / 2 ^ j) two_pos) (mod-lt (b / 2 ^ j) two_pos)
+      ∙ digits bit_and both refl refl refl refl (a / 2 ^ j % 2) (b / 2 ^ j % 2) (mod-lt (a / 2 ^ j) two_pos) (mod-lt (b / 2 ^ j) two_pos)
 
   pub bit_or_lem : bit (bit_or a b) j ≡ either (bit a j) (bit b j)
   unfolding bit
   bit_or_lem =
       ap (λ (n : ℕ). eqb (n % 2) 1) (or_shr a b j) ∙ ap (λ (n : ℕ). eqb n 1) (or_mod (a / 2 ^ j) (b / 2 ^ j) 1)
-      ∙ or_digits (a / 2 ^ j % 2) (b / 2 ^ j % 2) (mod-lt (a / 2 ^ j) two_pos) (mod-lt (b / 2 ^ j) two_pos)
+      ∙ digits bit_or either refl refl refl refl (a / 2 ^ j % 2) (b / 2 ^ j % 2) (mod-lt (a / 2 ^ j) two_pos) (mod-lt (b / 2 ^ j) two_pos)
 
 -- "bit x of a moved word = bit x + k of the word"
 pub bit_moved : (word k x : ℕ) → bit (word / 2 ^ k) x ≡ bit word (x + k)

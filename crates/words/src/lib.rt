@@ -2,10 +2,10 @@
 // one shift.
 #![tactic(auto)]
 
-ghost use Rattle.std.specs.Prelude.{◌≡◌, ℕ, ◌+◌, ◌%◌, ◌≤◌, ◌<◌, eqb};
+ghost use Rattle.std.specs.Prelude.{◌≡◌, ℕ, Bool, ◌+◌, ◌%◌, ◌≤◌, ◌<◌, eqb};
 ghost use Rattle.lists.specs.Choice.{both, either};
 ghost use Rattle.lists.specs.Lists.{all, any};
-ghost use Rattle.words.specs.Words.{bit, Full, reads, Readable};
+ghost use Rattle.words.specs.Words.{bit, Full, Only, reads, Readable};
 
 // A word with a bit more, if it is to be set.
 pub fn with_bit(word: u64, set: bool, j: usize) -> u64
@@ -15,16 +15,26 @@ pub fn with_bit(word: u64, set: bool, j: usize) -> u64
     if set { word | (1 << j) } else { word }
 }
 
+// The word of a row, of whose columns these are set.
+#[inline(always)]
+pub fn row<F: Fn(usize) -> bool>(width: usize, is_set: F) -> u64
+    requires narrow { width ≤ 32 }
+    requires callable { (x : ℕ) → x < width → F.pre is_set x }
+    ensures { (P : ℕ → Bool) → ((x : ℕ) (set : Bool) → x < width → F.post is_set x set → set ≡ P x) → Only width P result }
+{
+    let mut word = 0;
+    for x in 0..width {
+        word = with_bit(word, is_set(x), 32 + x);
+    }
+    word
+}
+
 // The word of a whole row.
 pub fn full_word(width: usize) -> u64
     requires { width ≤ 32 }
     ensures { Full width result }
 {
-    let mut word = 0;
-    for x in 0..width {
-        word = with_bit(word, true, 32 + x);
-    }
-    word
+    row(width, |_| true)
 }
 
 // The bits that any of the codes reads.

@@ -4,7 +4,7 @@ use mathlib.Core.Path.{sym, ap, ◌∙◌}
 use lib.Bits.{bit_or}
 use Rattle.lists.specs.Choice.{either}
 use Rattle.words.specs.Words.{bit}
-use Rattle.words.proofs.AnyLaws.{either_false}
+use Rattle.lists.proofs.ChoiceLaws.{either_false}
 use Rattle.words.proofs.WordLaws.{bit_or_lem, bit_one, one_shifted}
 use Rattle.words.proofs.with_bit.Goals as goal
 
