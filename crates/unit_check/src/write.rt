@@ -49,9 +49,10 @@ impl Finder<'_, '_> {
             if marks[number] != 0 {
                 let outline = Outline {
                     borders: chart.borders,
-                    groups: potentials,
+                    ids: potentials.ids,
                     potential: true,
                     number,
+                    cells: potentials.cells(number),
                 };
                 outline.append(list);
             }
@@ -70,9 +71,10 @@ impl Finder<'_, '_> {
         let Stage { chart, units, .. } = self.stage;
         let outline = Outline {
             borders: chart.borders,
-            groups: units,
+            ids: units.ids,
             potential: false,
             number: unit,
+            cells: units.cells(unit),
         };
         outline.append(&mut list);
         self.append_near(&mut list);

@@ -28,9 +28,9 @@ unfolding blank_places
 invariant_of-groups c =
     record { turns = rw c.cell_count-n.ensures (made (arrays_lent c.borders-borders.result.fits.limits) c.group_cells-count.ensures) }
 
-pub invariant_of-outline-clause-exists : goal.invariant_of-outline-clause-exists
+pub cells-requires : goal.cells-requires
 unfolding blank_places
-invariant_of-outline-clause-exists c =
+cells-requires c =
     rw (length-take-le _ _ (made_starts_fit (arrays_lent c.borders-borders.result.fits.limits) c.group_cells-count.ensures)) c.if-count-number.false
 
 pub append-requires : goal.append-requires

@@ -7,5 +7,5 @@ use Rattle.boundary.proofs.Outline.append_around.Given as goal
 
 abbrev pub invariant-loop-direction : goal.invariant-loop-direction
 invariant-loop-direction l =
-    let f = listed_at l.self.borders.grid l.self.borders.states.now l.self.groups.ids.now l.self.number l.cell l.kind in
+    let f = listed_at l.self.borders.grid l.self.borders.states.now l.self.ids.now l.self.number l.cell l.kind in
     Leaves l.initial.list (gather f l.fn.order) l.list (gather f (drop l.direction-index l.fn.order))
