@@ -20,56 +20,41 @@ pub struct Plain {
 // Why a call is refused: the question that its input does not pass (SPEC 3). Its number is what other languages get.
 #[derive(Clone, Copy, Debug, PartialEq, Eq)]
 pub enum Refusal {
-    // 1: a size outside its limits.
-    Size,
-    // 2: a record that does not hold together.
-    Record,
-    // 3: a cell, border, vertex, edge or group that does not exist.
-    Missing,
-    // 4: a border that is decided already.
-    Decided,
-    // 5: nothing that an undo could take back.
-    NothingToUndo,
-    // 6: a buffer with too few places.
-    ShortBuffer,
-    // 7: given walls that do not rise.
-    Unsorted,
-    // 8: not one clue for each room.
-    ClueCount,
-    // 9: a clue above its room's size.
-    LargeClue,
-    // 10: cells that no Connected borders join.
-    NotJoined,
-    // 11: an unsound case file.
-    UnsoundFile,
-    // 12: too many undecided borders for a search.
-    ManyUndecided,
-    // 13: the seed 0.
-    ZeroSeed,
-    // 14: a border that stands twice in a stroke.
-    Repeated,
+    // A size outside its limits.
+    Size = 1,
+    // A record that does not hold together.
+    Record = 2,
+    // A cell, border, vertex, edge or group that does not exist.
+    Missing = 3,
+    // A border that is decided already.
+    Decided = 4,
+    // Nothing that an undo could take back.
+    NothingToUndo = 5,
+    // A buffer with too few places.
+    ShortBuffer = 6,
+    // Given walls that do not rise.
+    Unsorted = 7,
+    // Not one clue for each room.
+    ClueCount = 8,
+    // A clue above its room's size.
+    LargeClue = 9,
+    // Cells that no Connected borders join.
+    NotJoined = 10,
+    // An unsound case file.
+    UnsoundFile = 11,
+    // Too many undecided borders for a search.
+    ManyUndecided = 12,
+    // The seed 0.
+    ZeroSeed = 13,
+    // A border that stands twice in a stroke.
+    Repeated = 14,
 }
 
 impl From<Refusal> for u8 {
     ghost from_gives = { λ refusal number. number ≡ number_of refusal };
 
     fn from(refusal: Refusal) -> u8 {
-        match refusal {
-            Refusal::Size => 1,
-            Refusal::Record => 2,
-            Refusal::Missing => 3,
-            Refusal::Decided => 4,
-            Refusal::NothingToUndo => 5,
-            Refusal::ShortBuffer => 6,
-            Refusal::Unsorted => 7,
-            Refusal::ClueCount => 8,
-            Refusal::LargeClue => 9,
-            Refusal::NotJoined => 10,
-            Refusal::UnsoundFile => 11,
-            Refusal::ManyUndecided => 12,
-            Refusal::ZeroSeed => 13,
-            Refusal::Repeated => 14,
-        }
+        refusal as u8
     }
 }
 

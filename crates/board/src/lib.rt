@@ -34,11 +34,7 @@ impl Board {
     {
         Board {
             grid,
-            book: Book {
-                states: [0u8; limits::BORDERS],
-                names: [0u16; limits::BORDERS],
-                len: 0,
-            },
+            book: Book::new(),
         }
     }
 

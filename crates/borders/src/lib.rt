@@ -2,6 +2,7 @@
 #![tactic(auto)]
 
 ghost use Rattle.std.specs.Prelude.{◌≡◌, ◌<◌};
+ghost use Rattle.lists.specs.Choice.{pick};
 ghost use Rattle.borders.specs.Entry.{entry_of};
 ghost use Rattle.borders.specs.Fits.{Fits};
 
@@ -20,8 +21,12 @@ pub fn entry(border: usize, wall: bool) -> u16
     requires { border < 1984 }
     ensures { result ≡ entry_of wall border }
 {
-    if wall {
-        return (2 * border + 1) as u16;
-    }
-    (2 * border) as u16
+    (2 * border + usize::from(wall)) as u16
+}
+
+// The state of a border that is a Wall (2) or Connected (1).
+pub fn state_of(wall: bool) -> u8
+    ensures { result ≡ pick wall 2 1 }
+{
+    1 + u8::from(wall)
 }

@@ -1,38 +1,55 @@
--- The three ways through the check: what is found and what the buffer then holds. Assumes nothing.
+-- What the check finds, and what the buffer then holds: the side that fails, or nothing. Assumes nothing.
 use Prim.Native.Nat.{ℕ}
-use mathlib.Core.Path.{◌≡◌, refl, ap}
-use mathlib.Core.Bool.{true, false}
+use mathlib.Core.Path.{◌≡◌, refl, ap, sym, ◌∙◌}
+use mathlib.Core.Bool.{Bool, true, false}
+use native.Mathlib.Omega.{arith}
 use mathlib.Core.List.{List}
 use mathlib.Core.Option.{Option, none, some}
 use lib.Dec.{ltb}
 use lib.ListN.{length}
 use lib.Seq.{sets}
-use Rattle.lists.specs.Choice.{give, or_else}
+use Rattle.lists.specs.Choice.{pick, give, or_else}
+use Rattle.std.specs.Prelude as std
 use Rattle.std.specs.Prelude.{Some, None}
 use Rattle.answers.specs.Answers.{Finds}
-use Rattle.borders.specs.Entry.{connected_entry, wall_entry}
-use Rattle.room_parts.specs.Graph.{Graph, joined_parts, tipped_of}
+use Rattle.ledger.specs.Ledger.{state_for}
+use Rattle.borders.specs.Entry.{entry_of}
+use Rattle.room_parts.specs.Graph.{Graph, joined_parts, tipped_of, failing_of}
 use Rattle.city_count.specs.Fault.{entries_of, room_fault}
 
-module _ (g : Graph) (count : ℕ) (s : ℕ → ℕ) (buffer : List ℕ) where
-  told : (o : Option (List ℕ)) (L : List ℕ) (n : ℕ) (buffer' : List ℕ) → o ≡ some L → n ≡ length L → buffer' ≡ sets buffer 0 L → Finds o buffer buffer' (Some n)
-  told o L n buffer' e en eb = rw e (record { answer = ap Some en; stored = eb })
+told : (o : Option (List ℕ)) (L : List ℕ) (buffer buffer' : List ℕ) (n : ℕ) → o ≡ some L → n ≡ length L → buffer' ≡ sets buffer 0 L → Finds o buffer buffer' (Some n)
+told o L buffer buffer' n e en eb = rw e (record { answer = ap Some en; stored = eb })
 
-  pub told_tipped : (n : ℕ) (buffer' : List ℕ) → tipped_of g count s ≡ true
-      → (n ≡ length (entries_of connected_entry 1 g.edges s)) × (buffer' ≡ sets buffer 0 (entries_of connected_entry 1 g.edges s))
-      → Finds (room_fault g count s) buffer buffer' (Some n)
-  unfolding room_fault give or_else
-  told_tipped n buffer' t o = told (room_fault g count s) (entries_of connected_entry 1 g.edges s) n buffer' (rw t) o.0 o.1
+quiet : (o : Option (List ℕ)) (buffer : List ℕ) → o ≡ none → Finds o buffer buffer None
+quiet o buffer e = rw e (record { answer = refl; stored = refl })
 
-  pub told_many : (n : ℕ) (buffer' : List ℕ) → tipped_of g count s ≡ false → ltb count (joined_parts g s) ≡ true
-      → (n ≡ length (entries_of wall_entry 2 g.edges s)) × (buffer' ≡ sets buffer 0 (entries_of wall_entry 2 g.edges s))
-      → Finds (room_fault g count s) buffer buffer' (Some n)
-  unfolding room_fault give or_else
-  told_many n buffer' t h o = told (room_fault g count s) (entries_of wall_entry 2 g.edges s) n buffer' (rw (t, h)) o.0 o.1
+module _ (g : Graph) (count : ℕ) (s : ℕ → ℕ) where
+  -- the entries of a side
+  side : Bool → List ℕ
+  side wall = entries_of (entry_of wall) (state_for wall) g.edges s
 
-  pub told_none : tipped_of g count s ≡ false → ltb count (joined_parts g s) ≡ false → Finds (room_fault g count s) buffer buffer None
-  unfolding room_fault give or_else
-  told_none t h = go (room_fault g count s) (rw (t, h))
-    where
-      go : (o : Option (List ℕ)) → o ≡ none → Finds o buffer buffer None
-      go o e = rw e (record { answer = refl; stored = refl })
+  fault_by : (t u : Bool) → Option (List ℕ)
+  fault_by t u = or_else (give t (side false)) (give u (side true))
+
+  side_fails : (t u wall : Bool) → pick t (Some false) (pick u (Some true) None) ≡ Some wall → fault_by t u ≡ some (side wall)
+  unfolding fault_by or_else give
+  side_fails true u wall q = let e : false ≡ wall = cc in rw e refl
+  side_fails false true wall q = let e : true ≡ wall = cc in rw e refl
+  side_fails false false wall q = absurd (let z : ◌≡◌ {A = ℕ} 0 1 = cc in omega arith)
+
+  none_fails : (t u : Bool) → pick t (Some false) (pick u (Some true) None) ≡ None → fault_by t u ≡ none
+  unfolding fault_by or_else give
+  none_fails true u q = absurd (let z : ◌≡◌ {A = ℕ} 0 1 = cc in omega arith)
+  none_fails false true q = absurd (let z : ◌≡◌ {A = ℕ} 0 1 = cc in omega arith)
+  none_fails false false q = refl
+
+  module _ (buffer : List ℕ) (r : std.Option Bool) (e : r ≡ failing_of g count s) where
+    pub told_side : (wall : Bool) (n : ℕ) (buffer' : List ℕ) → r ≡ Some wall → n ≡ length (entries_of (entry_of wall) (state_for wall) g.edges s)
+        → buffer' ≡ sets buffer 0 (entries_of (entry_of wall) (state_for wall) g.edges s) → Finds (room_fault g count s) buffer buffer' (Some n)
+    unfolding room_fault failing_of fault_by side
+    told_side wall n buffer' q en eb =
+        told (room_fault g count s) (side wall) buffer buffer' n (side_fails (tipped_of g count s) (ltb count (joined_parts g s)) wall (sym e ∙ q)) en eb
+
+    pub told_none : r ≡ None → Finds (room_fault g count s) buffer buffer None
+    unfolding room_fault failing_of fault_by side
+    told_none q = quiet (room_fault g count s) buffer (none_fails (tipped_of g count s) (ltb count (joined_parts g s)) (sym e ∙ q))

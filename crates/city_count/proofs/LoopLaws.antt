@@ -1,20 +1,18 @@
 -- One turn and the end of the loop that looks at a graph's ends. Assumes nothing.
-use Prim.Native.Nat.{ℕ, ◌+◌, ◌≤◌, ◌<◌}
+use Prim.Native.Nat.{ℕ, ◌≤◌, ◌<◌}
 use mathlib.Core.Path.{◌≡◌, refl, sym, ◌∙◌}
-use mathlib.Core.Bool.{Bool, true, false}
+use mathlib.Core.Bool.{Bool, true}
 use mathlib.Core.List.{List}
 use native.Mathlib.Omega.{arith}
-use borrow.Author.Tests.{ltb-true, lt-ltb, le-ltb}
+use borrow.Author.Tests.{ltb-true, lt-ltb}
 use lib.Dec.{ltb}
-use native.Mathlib.Numerals.{add-one}
-use lib.ListN.{get_or, length, take, drop, drop_of_length-le}
-use lib.Seq.{drop-cons}
+use lib.ListN.{get_or, length, take}
 use Rattle.std.proofs.lemmas.List.{get_or-take, length-take-le}
 use Rattle.limits.specs.Limits.{most_borders}
 use Rattle.lists.specs.Choice.{both}
 use Rattle.lists.specs.Lists.{range, all}
 use Rattle.lists.proofs.ChoiceLaws.{both_true, true_both, same_truth}
-use Rattle.lists.proofs.ListLaws.{all_not, all_true, true_all, range_in, in_range, in_get_d, get_d_in}
+use Rattle.lists.proofs.ListLaws.{all_true, true_all, range_in, in_range, in_get_d, get_d_in}
 use Rattle.city_count.specs.Room.{below, ends_exist}
 
 -- a test of two is two tests
@@ -29,25 +27,9 @@ all_both p q xs =
     let o = both_true (all p xs) (all q xs) e in
     true_all (λ x. both (p x) (q x)) xs (λ x m. true_both (p x) (q x) (all_true p xs o.0 x m) (all_true q xs o.1 x m)))
 
--- `fine` tells whether the numbers before i are below n, and the rest is left to test
 module _ (n : ℕ) (xs : List ℕ) where
   abbrev pub small : ℕ → Bool
   small x = ltb x n
-
-  abbrev pub Testing : Bool → ℕ → Type 0
-  Testing fine i = both fine (all small (drop i xs)) ≡ all small xs
-
-  pub testing_in : (fine : Bool) (i : ℕ) → i < length xs → get_or xs i 0 < n → Testing fine i → Testing fine (i + 1)
-  unfolding all
-  testing_in fine i h l w = rw (add-one i) (rw (drop-cons xs i 0 h, lt-ltb (get_or xs i 0) n l) at w)
-
-  pub testing_out : (i : ℕ) → i < length xs → n ≤ get_or xs i 0 → Testing false (i + 1)
-  testing_out i h l = sym (all_not small xs (get_or xs i 0) (get_d_in 0 xs i h) (le-ltb (get_or xs i 0) n l))
-
-  pub testing_all : (fine : Bool) (i : ℕ) → length xs ≤ i → Testing fine i → fine ≡ all small xs
-  unfolding all
-  testing_all true i l w = rw (drop_of_length-le xs {i = i} l) at w
-  testing_all false i l w = w
 
   -- by their places
   pub small_places : all small xs ≡ all (below n xs) (range (length xs))

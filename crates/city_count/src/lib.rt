@@ -50,11 +50,7 @@ impl CityCountConstraint {
             us: [0; limits::BORDERS],
             vs: [0; limits::BORDERS],
             count,
-            book: Book {
-                states: [0; limits::BORDERS],
-                names: [0; limits::BORDERS],
-                len: 0,
-            },
+            book: Book::new(),
         }
     }
 
@@ -160,7 +156,7 @@ fn list(states: &[u8], wall: bool, buffer: &mut [u16]) -> usize
     ensures value { result ≡ length (entries_of (entry_of wall) (state_for wall) (length states.now) (states_in states.now)) }
     ensures buffer_after { buffer.new ≡ sets buffer.old 0 (entries_of (entry_of wall) (state_for wall) (length states.now) (states_in states.now)) }
 {
-    let kind = if wall { 2 } else { 1 };
+    let kind = borders::state_of(wall);
     let mut n = 0;
     for (i, &state) in states.iter().enumerate() {
         if state == kind {
@@ -177,28 +173,8 @@ fn find(graph: RoomGraph<'_>, count: usize, buffer: &mut [u16]) -> Option<usize>
     ensures { Finds (room_fault (graph_of graph.entry.vertices graph.entry.us.now graph.entry.vs.now graph.entry.states.now) count
         (states_in graph.entry.states.now)) buffer.old buffer.new result }
 {
-    if graph.tipped(count) {
-        return Some(list(graph.states, false, buffer));
-    }
-    if graph.outnumbers(count) {
-        return Some(list(graph.states, true, buffer));
-    }
-    None
-}
-
-// Is each number below `n`? The loop has no way out before its end, so that it is compiled to take many numbers at a time.
-fn all_below(n: usize, xs: &[u16]) -> bool
-    requires { n ≤ most_cells }
-    ensures { result ≡ all (λ x. ltb x n) xs.now }
-{
-    let end = n as u16;
-    let mut fine = true;
-    for &x in xs {
-        if end <= x {
-            fine = false;
-        }
-    }
-    fine
+    let wall = graph.failing(count)?;
+    Some(list(graph.states, wall, buffer))
 }
 
 // Is each end of the edges one of the `n` vertices?
@@ -206,7 +182,7 @@ fn ends_exist(n: usize, us: &[u16], vs: &[u16]) -> bool
     requires { (n ≤ most_cells) × (length us.now ≡ length vs.now) }
     ensures { result ≡ ends_exist n (length us.now) us.now vs.now }
 {
-    all_below(n, us) && all_below(n, vs)
+    lists::all_below(us, n) && lists::all_below(vs, n)
 }
 
 // A making as a record: of zeros where it is refused.

@@ -7,12 +7,13 @@ use mathlib.Core.List.{List, [], ◌∷◌, ◌++◌}
 use native.Mathlib.Omega.{arith}
 use borrow.Author.Tests.{eq-eqb, ne_eqb}
 use lib.Dec.{eqb}
-use lib.ListN.{length, get_or, set, take, drop, replicate, length-set, length-replicate, length-append, get_or-replicate, get_or-eq_default}
+use lib.ListN.{length, get_or, set, take, drop, replicate, length-set, length-replicate, length-append, get_or-replicate}
 use lib.Seq.{sets, length-sets, sets-eq, get_or-set_same, get_or-set_other, ext_get_or, length-take-le, take_at, take-append-le}
 use Rattle.limits.specs.Limits.{most_borders}
 use Rattle.lists.specs.Lists.{count}
 use Rattle.lists.proofs.Cases.{le_or_lt, eq_or_ne}
 use Rattle.lists.proofs.CountLaws.{count_here, count_other}
+use Rattle.lists.proofs.ListLaws.{zeros_at}
 use Rattle.lists.proofs.SetsLaws.{sets_out, sets_in}
 use Rattle.ledger.specs.Ledger.{Decision, state_for, state_in, borders}
 use Rattle.ledger.specs.declared.Book.{Book}
@@ -22,11 +23,7 @@ use Rattle.ledger.specs.Moves.{GivenMarks}
 
 pub zero_at : (e : ℕ) → get_or zeros e 0 ≡ 0
 unfolding zeros
-zero_at e =
-    ⊎_elim
-    (λ (h : most_borders ≤ e). get_or-eq_default (replicate most_borders 0) 0 {n = e} (rw (length-replicate {A = ℕ} most_borders 0) h))
-    (λ (h : e < most_borders). get_or-replicate most_borders e 0 0 h)
-    (le_or_lt most_borders e)
+zero_at e = zeros_at most_borders e
 
 pub zeros_length : length zeros ≡ most_borders
 unfolding zeros

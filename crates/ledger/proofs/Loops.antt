@@ -1,7 +1,7 @@
 -- One turn and the end of each loop over a ledger and its marks. Assumes nothing.
 use Prim.Native.Nat.{ℕ, ◌+◌, ◌-◌, ◌≤◌, ◌<◌}
 use mathlib.Core.Path.{◌≡◌, refl, ap, sym, ◌∙◌}
-use mathlib.Core.Bool.{Bool, true, false}
+use mathlib.Core.Bool.{Bool, true, false, ◌&&◌}
 use mathlib.Core.List.{List, [], ◌∷◌}
 use native.Mathlib.Omega.{arith}
 use native.Mathlib.Numerals.{add-one}
@@ -10,18 +10,10 @@ use lib.ListN.{length, get_or, take, drop, drop_of_length-le, length-map, get_or
 use lib.Seq.{drop-cons, get_or-take, length-take-le}
 use Rattle.lists.specs.Choice.{both, pick}
 use Rattle.lists.specs.Lists.{In, range, count_from, all}
-use Rattle.lists.proofs.ChoiceLaws.{same_truth}
+use Rattle.lists.proofs.ChoiceLaws.{same_truth, both_right}
 use Rattle.lists.proofs.ListLaws.{all_true, true_all, in_range, all_start, all_end}
 use Rattle.ledger.specs.Books.{half, borders_in}
 use Rattle.ledger.specs.Marks.{fits_of, fit_all}
-
-pub both_both : (a b c : Bool) → both (both a b) c ≡ both a (both b c)
-both_both true b c = refl
-both_both false b c = refl
-
-pub and_true : (t : Bool) → both t true ≡ t
-and_true true = refl
-and_true false = refl
 
 pub misfit_below : (t : Bool) → ltb (pick t 0 1) 1 ≡ t
 misfit_below true = refl
@@ -40,7 +32,7 @@ module _ (n : ℕ) (s m : List ℕ) where
     pub fits_end : n ≤ i
         → both (ltb worst 1) (all (λ e. fits_of (get_or s e 0) (get_or m e 0)) (count_from i (n - i))) ≡ fit_all n s m → ltb worst 1 ≡ fit_all n s m
     unfolding goes
-    fits_end h k = sym (and_true (ltb worst 1)) ∙ ap (both (ltb worst 1)) (sym (all_end goes n i h)) ∙ k
+    fits_end h k = sym (both_right (ltb worst 1)) ∙ ap (both (ltb worst 1)) (sym (all_end goes n i h)) ∙ k
 
 -- the first n states alone tell
 pub fits_front : (n : ℕ) (s m : List ℕ) → n ≤ length s → fit_all (length (take n s)) (take n s) m ≡ fit_all n s m
@@ -54,8 +46,9 @@ fits_front n s m h =
     (λ t. true_all goes (range n) (λ e i. sym (same e i) ∙ all_true front (range n) t e i))
     (λ t. true_all front (range n) (λ e i. same e i ∙ all_true goes (range n) t e i)))
 
-pub new_or_not : (t f rest : Bool) → both f (pick t rest false) ≡ both (both t f) rest
-new_or_not true f rest = refl
+pub new_or_not : (t f rest : Bool) → both f (pick t rest false) ≡ both (f && t) rest
+new_or_not true true rest = refl
+new_or_not true false rest = refl
 new_or_not false true rest = refl
 new_or_not false false rest = refl
 

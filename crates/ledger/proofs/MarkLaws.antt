@@ -13,10 +13,10 @@ use Rattle.lists.specs.Choice.{both, pick}
 use Rattle.lists.specs.Lists.{range, In, count, all}
 use Rattle.lists.proofs.Cases.{eq_or_ne, le_or_lt}
 use Rattle.lists.proofs.ChoiceLaws.{both_true, true_both, either_true, left_either, right_either, same_truth}
-use Rattle.lists.proofs.ListLaws.{all_true, true_all, range_in, in_range}
+use Rattle.lists.proofs.ListLaws.{all_true, range_in}
 use Rattle.lists.proofs.CountLaws.{count_none, count_here, count_other, in_count, count_in}
 use Rattle.ledger.specs.Ledger.{holds_of}
-use Rattle.ledger.proofs.Question.{Kept, Question, holds_question, question_holds}
+use Rattle.ledger.proofs.Question.{Kept, Question, over, holds_question, question_holds}
 use Rattle.ledger.specs.Marks.{given_in, fits_of, new_names, mark_all, fit_all}
 
 -- the names are borders without a mark, each once
@@ -166,9 +166,6 @@ module _ (n : ℕ) (s m l : List ℕ) (long : n ≤ length m) (given : (e : ℕ)
       (unmarked_or_given e))
       (le_or_lt 1 (count e l))
 
-  over : (p : ℕ → Bool) → ((e : ℕ) → e < n → p e ≡ true) → all p (range n) ≡ true
-  over p q = true_all p (range n) (λ e i. q e (in_range n e i))
-
   case_new : (e : ℕ) → Case e → (1 ≤ count e l → get_or m e 0 ≡ 0) × (count e l ≤ 1)
   case_new e (undecided z c q) = (λ h. z, omega arith)
   case_new e (a_given z c q) = (λ h. absurd (omega arith), omega arith)
@@ -194,7 +191,7 @@ module _ (n : ℕ) (s m l : List ℕ) (long : n ≤ length m) (given : (e : ℕ)
       same_truth (holds_of n (given_in m) s l) (both (new_names n m l) (all fit (range n)))
       (λ q.
       let k = holds_question n (given_in m) s l q in
-      true_both (new_names n m l) (all fit (range n)) (names_new n m l long (question_new k)) (over fit (λ e h. case_fits e h (kept_case e (k.kept e h)))))
+      true_both (new_names n m l) (all fit (range n)) (names_new n m l long (question_new k)) (over n fit (λ e h. case_fits e h (kept_case e (k.kept e h)))))
       (λ q.
       let k = both_true (new_names n m l) (all fit (range n)) q in
       let f = new_names_lem n m l long k.0 in

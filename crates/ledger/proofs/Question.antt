@@ -24,6 +24,10 @@ due_le given s e = go (both (not (given e)) (not (eqb (get_or s e 0) 0)))
     go true = omega arith
     go false = omega arith
 
+-- a test of all that holds at each of the n places
+pub over : (n : ℕ) (p : ℕ → Bool) → ((e : ℕ) → e < n → p e ≡ true) → all p (range n) ≡ true
+over n p q = true_all p (range n) (λ e i. q e (in_range n e i))
+
 -- what question 2 says of one border
 pub record Kept (given : ℕ → Bool) (s l : List ℕ) (e : ℕ) : Type 0 where
   pub state : get_or s e 0 ≤ 2
@@ -63,13 +67,10 @@ module _ (n : ℕ) (given : ℕ → Bool) (s l : List ℕ) where
             };
       }
 
-  over : (p : ℕ → Bool) → ((e : ℕ) → e < n → p e ≡ true) → all p (range n) ≡ true
-  over p q = true_all p (range n) (λ e i. q e (in_range n e i))
-
   pub question_holds : Question n given s l → holds_of n given s l ≡ true
   unfolding holds_of
   question_holds q =
-      true_both _ _ (over (state_ok s) (λ e h. le-leb (get_or s e 0) 2 (q.kept e h).state))
+      true_both _ _ (over n (state_ok s) (λ e h. le-leb (get_or s e 0) 2 (q.kept e h).state))
       (true_both _ _
-      (true_both _ _ (true_all _ l (λ e i. lt-ltb e n (q.inside e i))) (over (named_once given s l) (λ e h. eq-eqb _ _ (q.kept e h).counted)))
-      (over (given_wall given s) (λ e h. (q.kept e h).wall)))
+      (true_both _ _ (true_all _ l (λ e i. lt-ltb e n (q.inside e i))) (over n (named_once given s l) (λ e h. eq-eqb _ _ (q.kept e h).counted)))
+      (over n (given_wall given s) (λ e h. (q.kept e h).wall)))

@@ -2,7 +2,7 @@
 use Prim.Native.Nat.{ℕ, ◌+◌, ◌-◌, ◌*◌, ◌≤◌, ◌<◌}
 use mathlib.Core.Path.{◌≡◌, refl, ap, sym, ◌∙◌}
 use mathlib.Core.Logic.{inl, inr, ⊎_elim}
-use mathlib.Core.Bool.{Bool, true, false}
+use mathlib.Core.Bool.{Bool, true, false, ◌&&◌}
 use mathlib.Core.List.{List, [], ◌∷◌, map}
 use native.Mathlib.Omega.{arith}
 use native.Mathlib.Numerals.{add-one}
@@ -11,47 +11,26 @@ use lib.Dec.{eqb, ltb}
 use lib.ListN.{length, get_or, drop, set, replicate, drop_of_length-le, length-map, get_or-map, length-set, length-replicate}
 use lib.Seq.{drop-cons, sets}
 use borrow.Rule.Slice.PartMut.{put_mid, mid_of, mid_len}
-use Rattle.std.specs.Prelude.{max, Option, MatchOption, IsTrue, fold}
-use Rattle.std.specs.List.{reduce}
+use Rattle.std.specs.Prelude.{max}
 use Rattle.limits.specs.Limits.{most_borders}
 use Rattle.lists.specs.Choice.{both, pick}
 use Rattle.lists.specs.Lists.{In, all, count_from}
 use Rattle.lists.proofs.Cases.{true_or_false, not_both}
-use Rattle.lists.proofs.ChoiceLaws.{both_true, true_both, same_truth}
+use Rattle.lists.proofs.ChoiceLaws.{both_right}
+use Rattle.lists.proofs.GreatestLaws.{greater_rest}
 use Rattle.lists.proofs.ListLaws.{all_true, true_all, get_d_in, all_step}
 use Rattle.lists.proofs.SetsLaws.{part_written}
 use Rattle.lists.proofs.Bridges.{filled}
 use Rattle.ledger.specs.declared.Book.{Book}
 use Rattle.ledger.specs.Ledger.{Decision, decision_of, decisions}
 use Rattle.ledger.specs.Books.{book, half, names_from, names_of, names_in, state_all, clear_all}
-use Rattle.ledger.specs.Marks.{fits_of, fit_all, all_below, new_names, mark_all, Marked, Named}
+use Rattle.ledger.specs.Marks.{fits_of, fit_all, new_names, mark_all, Marked, Named}
 use Rattle.ledger.proofs.MarkLaws.{new_names_lem}
-use Rattle.ledger.proofs.Loops.{new_or_not, misfit_below, both_both, and_true}
+use Rattle.ledger.proofs.Loops.{new_or_not, misfit_below}
 use Rattle.ledger.proofs.StrokeLoops.{states_end, names_end, clear_turn, clear_end}
-
--- the greatest so far and one more, of which `rest` is left to test
-greatest_below : (a b n : ℕ) → ltb (max a b) n ≡ both (ltb a n) (ltb b n)
-greatest_below a b n =
-    same_truth (ltb (max a b) n) (both (ltb a n) (ltb b n))
-    (λ q. let k = ltb-true (max a b) n q in true_both (ltb a n) (ltb b n) (lt-ltb a n (omega arith)) (lt-ltb b n (omega arith)))
-    (λ q. let k = both_true (ltb a n) (ltb b n) q in let x = ltb-true a n k.0 in let y = ltb-true b n k.1 in lt-ltb (max a b) n (omega arith))
-
-greatest_on : (a b n : ℕ) (rest : Bool) → both (ltb (max a b) n) rest ≡ both (ltb a n) (both (ltb b n) rest)
-greatest_on a b n rest = ap (λ t. both t rest) (greatest_below a b n) ∙ both_both (ltb a n) (ltb b n) rest
 
 next_of : {A : Type 0} (l : List A) (i : ℕ) (d : A) → i < length l → drop i l ≡ get_or l i d ∷ drop (i + 1) l
 next_of l i d h = rw (add-one, drop-cons l i d h)
-
--- NAMES BELOW n: the greatest is
-below_fold : (n x : ℕ) (l : List ℕ) → ltb (fold max x l) n ≡ both (ltb x n) (all_below n l)
-unfolding all_below all
-below_fold n x [] = sym (and_true (ltb x n))
-below_fold n x (y ∷ l) = below_fold n (max x y) l ∙ greatest_on x y n (all_below n l)
-
-pub below_greatest : (n : ℕ) (l : List ℕ) (m : Option ℕ) (r : Bool) → m ≡ reduce max l → MatchOption m (IsTrue r) (λ x. r ≡ ltb x n) → r ≡ all_below n l
-unfolding all_below all
-below_greatest n [] m r q k = rw q at k
-below_greatest n (x ∷ l) m r q k = (rw q at k) ∙ below_fold n x l
 
 -- THE STATES AND THEIR MARKS: `worst` is 1 where one of the first i does not go with its mark
 pub fits_on : (n : ℕ) (s m : List ℕ) (worst i next : ℕ) (mis : ℕ) → i < n → mis ≡ pick (fits_of (get_or s i 0) (get_or m i 0)) 0 1 → next ≡ max worst mis
@@ -61,7 +40,7 @@ fits_on n s m worst i next mis h p q k =
     let goes : ℕ → Bool = λ e. fits_of (get_or s e 0) (get_or m e 0) in
     let rest = all goes (count_from (i + 1) (n - (i + 1))) in
     let one : ltb mis 1 ≡ goes i = ap (λ x. ltb x 1) p ∙ misfit_below (goes i) in
-    ap (λ x. both (ltb x 1) rest) q ∙ greatest_on worst mis 1 rest ∙ ap (λ t. both (ltb worst 1) (both t rest)) one
+    ap (λ x. both (ltb x 1) rest) q ∙ greater_rest worst mis 1 rest ∙ ap (λ t. both (ltb worst 1) (both t rest)) one
     ∙ ap (both (ltb worst 1)) (sym (all_step goes n i h)) ∙ k
 
 -- A WALK over names: the marks m after the first i names, of marks m₀ at the start, and whether these were new
@@ -75,8 +54,7 @@ half_in (y ∷ l) x (inl q) = inl (ap half q)
 half_in (y ∷ l) x (inr k) = inr (half_in l x k)
 
 module _ (l : List ℕ) (n : ℕ) where
-  pub walk_out : (m : List ℕ) → n ≤ length m → all_below (2 * n) l ≡ false → Marked n m (map half l) false m
-  unfolding all_below
+  pub walk_out : (m : List ℕ) → n ≤ length m → all (λ x. ltb x (2 * n)) l ≡ false → Marked n m (map half l) false m
   walk_out m room o =
       let bs = map half l in
       let within : new_names n m bs ≡ true → (x : ℕ) → In x l → ltb x (2 * n) ≡ true =
@@ -84,7 +62,7 @@ module _ (l : List ℕ) (n : ℕ) where
       record {
         answer =
             ⊎_elim
-            (λ (t : new_names n m bs ≡ true). absurd (not_both (all_below (2 * n) l) (true_all (λ x. ltb x (2 * n)) l (within t)) o))
+            (λ (t : new_names n m bs ≡ true). absurd (not_both (all (λ x. ltb x (2 * n)) l) (true_all (λ x. ltb x (2 * n)) l (within t)) o))
             (λ (f : new_names n m bs ≡ false). sym f)
             (true_or_false (new_names n m bs));
         marks = λ t. absurd (not_both false t refl);
@@ -93,14 +71,13 @@ module _ (l : List ℕ) (n : ℕ) where
   next_half : (i : ℕ) → i < length l → drop i (map half l) ≡ half (get_or l i 0) ∷ drop (i + 1) (map half l)
   next_half i h = next_of (map half l) i 0 (simp length-map h) ∙ rw (get_or-map half l i 0)
 
-  pub border_below : (i : ℕ) → i < length l → all_below (2 * n) l ≡ true → half (get_or l i 0) < n
-  unfolding all_below
+  pub border_below : (i : ℕ) → i < length l → all (λ x. ltb x (2 * n)) l ≡ true → half (get_or l i 0) < n
   border_below i h b =
       let f : ltb (get_or l i 0) (2 * n) ≡ true = all_true (λ x. ltb x (2 * n)) l b (get_or l i 0) (get_d_in 0 l i h) in
       let k = ltb-true (get_or l i 0) (2 * n) f in omega arith
 
   pub walk_on : (m₀ m : List ℕ) (i e : ℕ) (new new' : Bool) → Walk l n m₀ m i new → i < length l → e ≡ half (get_or l i 0) → e < n
-      → new' ≡ both (eqb (get_or m e 0) 0) new → Walk l n m₀ (set m e 2) (i + 1) new'
+      → new' ≡ new && eqb (get_or m e 0) 0 → Walk l n m₀ (set m e 2) (i + 1) new'
   unfolding new_names mark_all
   walk_on m₀ m i e new new' w h q o k =
       let a = rw (next_half i h, ← q, lt-leb n e o) at w.answer in
@@ -113,7 +90,7 @@ module _ (l : List ℕ) (n : ℕ) where
   unfolding new_names mark_all
   walk_end m₀ m i new w h =
       let none : drop i (map half l) ≡ [] = drop_of_length-le (map half l) (simp length-map h) in
-      record { answer = sym (and_true new) ∙ (rw none at w.answer); marks = λ t. rw none at w.marks }
+      record { answer = sym (both_right new) ∙ (rw none at w.answer); marks = λ t. rw none at w.marks }
 
 -- a test of all decisions, by their entries
 pub all_entries : (p : Decision → Bool) (es : List ℕ) → all (λ x. p (decision_of x)) es ≡ all p (decisions es)

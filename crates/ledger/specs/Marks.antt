@@ -1,6 +1,6 @@
 -- The test of question 2 by marks: 1 for a given wall, 2 for a border that the ledger names; and what the ledger's functions ask of what they are lent.
 -- Assumes nothing.
-use Rattle.std.specs.Prelude.{ℕ, ◌/◌, ◌≤◌, ◌<◌, ◌≡◌, Bool, true, false, List, [], ◌∷◌, eqb, ltb, leb, length, get_or, set}
+use Rattle.std.specs.Prelude.{ℕ, ◌/◌, ◌≤◌, ◌<◌, ◌≡◌, Bool, true, false, List, [], ◌∷◌, eqb, leb, length, get_or, set}
 use Rattle.limits.specs.Limits.{most_borders}
 use Rattle.lists.specs.Choice.{pick, either}
 use Rattle.lists.specs.Lists.{range, all}
@@ -9,11 +9,6 @@ use Rattle.ledger.specs.Books.{half}
 
 abbrev pub given_in : List ℕ → ℕ → Bool
 given_in m e = eqb (get_or m e 0) 1
-
--- each of the names is a border
-unfoldable pub all_below : ℕ → List ℕ → Bool
-unfolding all
-all_below n l = all (λ e. ltb e n) l
 
 -- a state goes with a mark
 abbrev pub fits_of : ℕ → ℕ → Bool

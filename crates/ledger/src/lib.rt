@@ -5,10 +5,9 @@
 ghost use Rattle.std.specs.Prelude.{◌≡◌, true, ◌%◌, ◌+◌, ◌-◌, ◌≤◌, length, map, drop, replicate, eqb};
 ghost use Rattle.limits.specs.Limits.{most_borders};
 ghost use Rattle.answers.specs.Refusals.{code_of};
-ghost use Rattle.lists.specs.Choice.{both};
 ghost use Rattle.ledger.specs.Ledger.{decisions, state_for, borders, all_exist, none_twice, all_free, stroke_code, undo_code};
 ghost use Rattle.ledger.specs.Books.{half, state_at, first_starts, book_holds, name_of, start_of};
-ghost use Rattle.ledger.specs.Marks.{fits_of, Marked, fit_all, given_in, all_below, Unmarked, Named, Entry};
+ghost use Rattle.ledger.specs.Marks.{fits_of, Marked, fit_all, given_in, Unmarked, Named, Entry};
 
 use answers::Refusal;
 
@@ -25,7 +24,19 @@ pub struct Book {
 impl Book {
     ghost use Rattle.std.proofs.lemmas.List.Edits.{sets};
     ghost use Rattle.ledger.specs.Moves.{Held, HeldBook, GivenMarks, left};
-    ghost use Rattle.ledger.specs.Books.{book, names_in, names_of, state_all, clear_all, placed, taken};
+    ghost use Rattle.ledger.specs.Books.{zeros, fresh_book, book, names_in, names_of, state_all, clear_all, placed, taken};
+
+    // A book without a decision.
+    #[tactic(auto, unfolding(crate::specs::Books::zeros))]
+    pub fn new() -> Book
+        ensures { result ≡ fresh_book zeros }
+    {
+        Book {
+            states: [0; limits::BORDERS],
+            names: [0; limits::BORDERS],
+            len: 0,
+        }
+    }
 
     // Whether the first name starts a stroke, where there is one.
     fn first_starts(&self) -> bool
@@ -157,29 +168,18 @@ pub fn check_undo(len: usize) -> Result<(), Refusal>
     Ok(())
 }
 
-// Whether each name is a border: the greatest is.
-fn inside(names: &[u16], n: usize) -> bool
-    ensures { result ≡ all_below n names.now }
-{
-    names
-        .iter()
-        .copied()
-        .max()
-        .is_none_or(|top| usize::from(top) < n)
-}
-
 // Marks what the ledger names. False where a name is no border or is marked already.
 fn mark_names(names: &[u16], n: usize, marks: &mut [u8]) -> bool
     requires { (n ≤ length marks.old) × (n ≤ most_borders) }
     ensures { Marked n marks.old (map half names.now) result marks.new }
 {
-    if !inside(names, 2 * n) {
+    if !lists::all_below(names, 2 * n) {
         return false;
     }
     let mut new = true;
     for &name in names {
         let e = border_of(name);
-        new = free(marks[e], new);
+        new &= marks[e] == 0;
         marks[e] = 2;
     }
     new
@@ -249,26 +249,11 @@ fn all_free(states: &[u8], entries: &[u16]) -> bool
 fn fits(state: u8, mark: u8) -> bool
     ensures { result ≡ fits_of state mark }
 {
-    if mark == 0 {
-        return state == 0;
+    match mark {
+        0 => state == 0,
+        1 => state == 2,
+        _ => state == 1 || state == 2,
     }
-    if state == 2 {
-        return true;
-    }
-    if mark == 1 {
-        return false;
-    }
-    state == 1
-}
-
-// Whether a mark is free, and all before it were.
-fn free(mark: u8, before: bool) -> bool
-    ensures { result ≡ both (eqb mark 0) before }
-{
-    if mark != 0 {
-        return false;
-    }
-    before
 }
 
 // The border that a name or an entry names.
@@ -285,21 +270,14 @@ pub fn entry_of(border: usize, wall: bool) -> u16
     if limits::BORDERS <= border {
         return 65535;
     }
-    let twice = 2 * (border as u16);
-    if wall {
-        return twice + 1;
-    }
-    twice
+    borders::entry(border, wall)
 }
 
 // The state that an entry gives its border.
 fn state_of(entry: u16) -> u8
     ensures { result ≡ state_for (eqb (entry % 2) 1) }
 {
-    if entry % 2 == 1 {
-        return 2;
-    }
-    1
+    borders::state_of(entry % 2 == 1)
 }
 
 // The name of an entry's border at place i of its stroke: the first starts it.

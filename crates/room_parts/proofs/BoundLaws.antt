@@ -104,14 +104,10 @@ begun_blank E marks (suc n) w =
     (eq_or_ne (get_or marks n 0) 0)
 
 -- counting the vertices without a mark
-module _ (marks : List ℕ) (k i : ℕ) (e : k ≡ blank 0 i marks) where
-  pub blank_one : get_or marks i 0 ≡ 0 → k + 1 ≡ blank 0 (i + 1) marks
-  unfolding blank
-  blank_one q = rw (add-one i, eq-eqb (get_or marks i 0) 0 q) (omega (arith, e))
-
-  pub blank_same : get_or marks i 0 ≢ 0 → k ≡ blank 0 (i + 1) marks
-  unfolding blank
-  blank_same q = rw (add-one i, ne_eqb (get_or marks i 0) 0 q) (omega (arith, e))
+pub passing_blank : (n : ℕ) (marks : List ℕ) → passing (is_state 0) (states_in marks) n ≡ blank 0 n marks
+unfolding passing blank
+passing_blank zero marks = refl
+passing_blank (suc n) marks = rw (passing_blank n marks)
 
 -- what stands behind the vertices does not count
 blank_front : (k n : ℕ) (marks : List ℕ) → k ≤ n → blank 0 k (take n marks) ≡ blank 0 k marks

@@ -1,5 +1,5 @@
 -- Room graphs (SPEC 1.8) and the two counts of the room check (SPEC 4.14). Assumes nothing.
-use Rattle.std.specs.Prelude.{ℕ, zero, suc, ◌+◌, ◌≤◌, ◌<◌, Bool, not, List, [], ◌∷◌, eqb, ltb, get_or, length, set}
+use Rattle.std.specs.Prelude.{ℕ, zero, suc, ◌+◌, ◌≤◌, ◌<◌, Bool, true, false, not, Option, Some, None, List, [], ◌∷◌, eqb, ltb, get_or, length, set}
 use Rattle.limits.specs.Limits.{most_cells, most_borders}
 use Rattle.lists.specs.Choice.{both, pick}
 use Rattle.parts.specs.Parts.{Edge, edge, begun, root, merge}
@@ -61,6 +61,11 @@ tipped_of g count s = both (ltb (connected_parts g s) count) (ltb (connected_par
 -- the parts that the edges without the Walls make (SPEC 4.14)
 abbrev pub joined_parts : Graph → (ℕ → ℕ) → ℕ
 joined_parts g s = parts_if not_wall g s
+
+-- which side of the count fails (SPEC 4.14), Walls (true) or Connected edges: the Connected edges are looked at first
+unfoldable pub failing_of : Graph → ℕ → (ℕ → ℕ) → Option Bool
+unfolding tipped_of parts_if
+failing_of g count s = pick (tipped_of g count s) (Some false) (pick (ltb count (joined_parts g s)) (Some true) None)
 
 -- an edge of state k between u and v: where it is no Wall, its later end gets a mark
 abbrev pub later_marked : ℕ → ℕ → ℕ → List ℕ → List ℕ

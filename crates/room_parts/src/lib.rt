@@ -4,9 +4,8 @@
 #![tactic(auto)]
 
 ghost use Rattle.std.specs.Prelude.{◌≡◌, ◌≤◌, ◌<◌, length};
-ghost use Rattle.limits.specs.Limits.{most_cells};
-ghost use Rattle.parts.specs.Flood.{blank};
-ghost use Rattle.room_parts.specs.Graph.{Lent, later_marked};
+ghost use Rattle.limits.specs.Limits.{most_cells, most_borders};
+ghost use Rattle.room_parts.specs.Graph.{Lent, states_in, is_state, passing, later_marked};
 
 use arcs::ArcLists;
 use limits::CELLS;
@@ -23,8 +22,8 @@ pub struct RoomGraph<'a> {
 }
 
 impl RoomGraph<'_> {
-    ghost use Rattle.std.specs.Prelude.{ltb};
-    ghost use Rattle.room_parts.specs.Graph.{graph_of, states_in, is_state, passing, tipped_of, joined_parts};
+    ghost use Rattle.std.specs.Prelude.{ltb, get_or};
+    ghost use Rattle.room_parts.specs.Graph.{graph_of, tipped_of, joined_parts, failing_of};
 
     // Counts down from the vertices, one for each uniting Connected edge: does that go below the count? Where even one part less for
     // each Connected edge would not be below it, no edge is united.
@@ -32,7 +31,7 @@ impl RoomGraph<'_> {
         ensures { result ≡ tipped_of (graph_of self.entry.vertices self.entry.us.now self.entry.vs.now self.entry.states.now) count
             (states_in self.entry.states.now) }
     {
-        self.vertices.saturating_sub(self.in_state(1)) < count && self.counts_below(count)
+        self.vertices.saturating_sub(count_of(self.states, 1)) < count && self.counts_below(count)
     }
 
     // Do the parts joined without Walls outnumber the count? The walk counts them where bounds do not tell.
@@ -40,24 +39,31 @@ impl RoomGraph<'_> {
         ensures { result ≡ ltb count (joined_parts
             (graph_of self.entry.vertices self.entry.us.now self.entry.vs.now self.entry.states.now) (states_in self.entry.states.now)) }
     {
-        let open = self.states.len() - self.in_state(2);
+        let open = self.states.len() - count_of(self.states, 2);
         if count < self.vertices.saturating_sub(open) {
             return true;
         }
         count < self.most_parts() && count < self.joined_parts()
     }
 
-    // How many edges have the state `k`. The counter is narrow, so that the loop is compiled to take many states at a time.
-    fn in_state(self, k: u8) -> usize
-        ensures { result ≡ passing (is_state k) (states_in self.entry.states.now) (length self.entry.states.now) }
+    // Which side of the count fails, where one does: the Walls (true) or the Connected edges.
+    pub fn failing(self, count: usize) -> Option<bool>
+        ensures { result ≡ failing_of (graph_of self.entry.vertices self.entry.us.now self.entry.vs.now self.entry.states.now) count
+            (states_in self.entry.states.now) }
     {
-        let mut found = 0u16;
-        for &state in self.states {
-            if state == k {
-                found += 1;
-            }
+        if self.tipped(count) {
+            return Some(false);
         }
-        usize::from(found)
+        self.outnumbers(count).then_some(true)
+    }
+
+    // The vertices that edge `i` is between.
+    fn ends(self, i: usize) -> (usize, usize)
+        requires { i < length self.states.now }
+        ensures first { result.0 ≡ get_or self.entry.us.now i 0 }
+        ensures second { result.1 ≡ get_or self.entry.vs.now i 0 }
+    {
+        (usize::from(self.us[i]), usize::from(self.vs[i]))
     }
 
     // The countdown itself.
@@ -68,7 +74,8 @@ impl RoomGraph<'_> {
         let mut union = UnionFind::alone(self.vertices);
         let mut left = self.vertices;
         for (i, &state) in self.states.iter().enumerate() {
-            if state == 1 && union.join(usize::from(self.us[i]), usize::from(self.vs[i])) {
+            let (u, v) = self.ends(i);
+            if state == 1 && union.join(u, v) {
                 left -= 1;
                 if left < count {
                     return true;
@@ -85,14 +92,10 @@ impl RoomGraph<'_> {
     {
         let mut marks = [0u8; CELLS];
         for (i, &state) in self.states.iter().enumerate() {
-            mark_later(
-                &mut marks,
-                state,
-                usize::from(self.us[i]),
-                usize::from(self.vs[i]),
-            );
+            let (u, v) = self.ends(i);
+            mark_later(&mut marks, state, u, v);
         }
-        unmarked(&marks[..self.vertices])
+        count_of(&marks[..self.vertices], 0)
     }
 
     // How many parts there are when only Walls part vertices.
@@ -103,7 +106,8 @@ impl RoomGraph<'_> {
         let mut arcs = ArcLists::new(self.vertices);
         for (i, &state) in self.states.iter().enumerate() {
             if state != 2 {
-                arcs.link(usize::from(self.us[i]), usize::from(self.vs[i]));
+                let (u, v) = self.ends(i);
+                arcs.link(u, v);
             }
         }
         arcs.parts()
@@ -120,14 +124,14 @@ fn mark_later(marks: &mut [u8; CELLS], state: u8, u: usize, v: usize)
     }
 }
 
-// How many vertices have no mark.
-fn unmarked(marks: &[u8]) -> usize
-    requires { length marks.now ≤ most_cells }
-    ensures { result ≡ blank 0 (length marks.now) marks.now }
+// How many numbers are `k`. The counter is narrow, so that the loop is compiled to take many at a time.
+fn count_of(xs: &[u8], k: u8) -> usize
+    requires { length xs.now ≤ most_borders }
+    ensures { result ≡ passing (is_state k) (states_in xs.now) (length xs.now) }
 {
     let mut found = 0u16;
-    for &mark in marks {
-        if mark == 0 {
+    for &x in xs {
+        if x == k {
             found += 1;
         }
     }

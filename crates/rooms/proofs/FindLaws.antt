@@ -8,7 +8,6 @@ use native.Mathlib.Omega.{arith}
 use lib.Dec.{eqb, ltb}
 use lib.ListN.{length, get_or, take, length-map, length-replicate}
 use lib.Seq.{sets}
-use Rattle.std.proofs.lemmas.List.{length-take}
 use Rattle.limits.specs.Limits.{most_borders}
 use Rattle.lists.specs.Choice.{pick, when, give, or_else, through}
 use Rattle.lists.specs.Lists.{In, count_from, range, gather}
@@ -17,7 +16,7 @@ use Rattle.grid.specs.declared.Grid.{Grid}
 use Rattle.grid.proofs.Geometry.{border_count_le}
 use Rattle.borders.specs.Border.{state_of}
 use Rattle.borders.specs.Entry.{entry_of, connected_entry, wall_entry}
-use Rattle.room_parts.specs.Graph.{Graph, graph, graph_of, states_in, is_connected, not_wall, edges_if, parts_if, joined_parts, tipped_of, Lent}
+use Rattle.room_parts.specs.Graph.{Graph, graph, graph_of, states_in, is_connected, not_wall, edges_if, parts_if, joined_parts, tipped_of, failing_of, Lent}
 use Rattle.city_count.specs.Fault.{entries_of, room_fault}
 use Rattle.std.specs.Prelude.{Some, None}
 use Rattle.rooms.specs.RoomGraph.{Spot, spots, from_of, into_of, border_of, room_graph, room_borders, edge_state, on_board, room_list, side_of, kind_of, room_entries, side_list}
@@ -102,21 +101,11 @@ module _ (g : Grid) (marks states cs : List ℕ) (w : Housed g marks states cs) 
       (λ i h. let x = at_place ss i h in x.2 (λ s. get_or states (border_of g s) 0) ∙ ap (state_of states) (sym (x.2 (border_of g))))
       count)
 
-  -- the three answers
-  pub joined : (count : ℕ) (t : Bool) → t ≡ tipped_of (graph_of (length cs) (take m us) (take m vs) (take m here)) count (states_in (take m here)) → t ≡ true
-      → Some false ≡ side_of (room_graph g (marked_in marks) cs) count (edge_state (room_borders g (marked_in marks) cs) (state_of states))
-  unfolding side_of
-  joined count t q h = let e : Some false ≡ side_of (graph_of (length cs) (take m us) (take m vs) (take m here)) count (states_in (take m here)) = rw (sym q ∙ h) in e ∙ array_side count
-
-  module _ (count : ℕ) (t : Bool) (q : t ≡ tipped_of (graph_of (length cs) (take m us) (take m vs) (take m here)) count (states_in (take m here))) (h : t ≡ false) (u : Bool)
-      (p : u ≡ ltb count (joined_parts (graph_of (length cs) (take m us) (take m vs) (take m here)) (states_in (take m here)))) where
-    pub parted : u ≡ true → Some true ≡ side_of (room_graph g (marked_in marks) cs) count (edge_state (room_borders g (marked_in marks) cs) (state_of states))
-    unfolding side_of
-    parted k = let e : Some true ≡ side_of (graph_of (length cs) (take m us) (take m vs) (take m here)) count (states_in (take m here)) = rw (sym q ∙ h, sym p ∙ k) in e ∙ array_side count
-
-    pub neither : u ≡ false → None ≡ side_of (room_graph g (marked_in marks) cs) count (edge_state (room_borders g (marked_in marks) cs) (state_of states))
-    unfolding side_of
-    neither k = let e : None ≡ side_of (graph_of (length cs) (take m us) (take m vs) (take m here)) count (states_in (take m here)) = rw (sym q ∙ h, sym p ∙ k) in e ∙ array_side count
+  -- the side that fails of the room in the arrays is that of the room
+  pub sided : (count : ℕ) → failing_of (graph_of (length cs) (take m us) (take m vs) (take m here)) count (states_in (take m here))
+      ≡ side_of (room_graph g (marked_in marks) cs) count (edge_state (room_borders g (marked_in marks) cs) (state_of states))
+  unfolding failing_of side_of
+  sided count = array_side count
 
 -- WHAT IS LISTED
 gather_up : (f : ℕ → List ℕ) (a n : ℕ) → gather f (count_from (suc a) n) ≡ gather (λ i. f (suc i)) (count_from a n)

@@ -8,12 +8,12 @@ use native.Mathlib.Omega.{arith}
 use native.Mathlib.Numerals.{add-one}
 use borrow.Author.Tests.{eq-eqb, ne_eqb}
 use lib.Dec.{eqb}
-use lib.ListN.{length, get_or, drop, set, replicate, length-set, drop_of_length-le, length-replicate, get_or-replicate, get_or-eq_default}
+use lib.ListN.{length, get_or, drop, set, length-set, drop_of_length-le, length-replicate}
 use lib.Seq.{get_or-set_same, get_or-set_other, drop-cons}
 use Rattle.limits.specs.Limits.{most_cells}
 use Rattle.lists.specs.Choice.{pick}
 use Rattle.lists.specs.Lists.{In, any, count}
-use Rattle.lists.proofs.Cases.{le_or_lt, eq_or_ne, true_or_false}
+use Rattle.lists.proofs.Cases.{eq_or_ne, true_or_false}
 use Rattle.lists.proofs.ListLaws.{zeros_at}
 use Rattle.lists.proofs.CountLaws.{count_here, count_other, in_count}
 use Rattle.rooms.specs.RoomGraph.{is_in, place}

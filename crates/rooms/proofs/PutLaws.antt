@@ -8,12 +8,12 @@ use native.Mathlib.Omega.{arith}
 use native.Mathlib.Numerals.{add-one}
 use borrow.Author.Tests.{eq-eqb, ne_eqb}
 use lib.Dec.{eqb}
-use lib.ListN.{length, get_or, take, drop, set, replicate, length-set, drop_of_length-le, length-replicate, get_or-replicate, get_or-eq_default}
+use lib.ListN.{length, get_or, take, drop, set, replicate, length-set, drop_of_length-le, length-replicate}
 use lib.Seq.{get_or-set_same, get_or-set_other, drop-cons, sets, length-take-le}
 use Rattle.limits.specs.Limits.{most_borders}
 use Rattle.lists.specs.Choice.{either, pick}
 use Rattle.lists.specs.Lists.{In, any}
-use Rattle.lists.proofs.Cases.{le_or_lt, eq_or_ne}
+use Rattle.lists.proofs.Cases.{eq_or_ne}
 use Rattle.lists.proofs.ListLaws.{get_d_in, zeros_at}
 use Rattle.grid.specs.declared.Grid.{Grid}
 use Rattle.grid.specs.Grid.{Limits, cells, border_count}

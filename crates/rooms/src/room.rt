@@ -91,13 +91,7 @@ impl Room<'_, '_> {
             vs: &vs[..m],
             states: &states[..m],
         };
-        if graph.tipped(count) {
-            return Some(false);
-        }
-        if graph.outnumbers(count) {
-            return Some(true);
-        }
-        None
+        graph.failing(count)
     }
 
     // Writes the entries of the room's Walls, or of its Connected edges, to the buffer's front, and returns how many there are.

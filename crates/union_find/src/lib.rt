@@ -142,9 +142,7 @@ impl UnionFind {
         requires { self.now.n ≤ most_cells }
         ensures { result ≡ parents_exist self.now.n self.now.parent }
     {
-        self.parent[..self.n]
-            .iter()
-            .all(|&up| usize::from(up) < self.n)
+        lists::all_below(&self.parent[..self.n], self.n)
     }
 
     // Does every chain end? Each vertex is found in a copy of the union, so that no chain is walked twice.

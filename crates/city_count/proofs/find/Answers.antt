@@ -1,27 +1,15 @@
--- `city_count::find` meets its contract: one law for each of the three answers. Assumes nothing.
-use Rattle.std.proofs.Common.{sym, ◌∙◌}
+-- `city_count::find` meets its contract: the side that fails is listed, where one does. Assumes nothing.
 use Rattle.room_parts.specs.Graph.{graph_of, states_in}
-use Rattle.city_count.proofs.FindLaws.{told_tipped, told_many, told_none}
+use Rattle.city_count.proofs.FindLaws.{told_side, told_none}
 use Rattle.city_count.proofs.find.Goals as goal
 
-pub returns-then-tipped : goal.returns-then-tipped
-returns-then-tipped c =
+pub returns-in_err-wall : goal.returns-in_err-wall
+returns-in_err-wall c =
     let g = c.args.graph in
-    told_tipped (graph_of g.vertices g.us.now g.vs.now g.states.now) c.args.count (states_in g.states.now) c.args.buffer.now _ _
-    (sym c.tipped.ensures ∙ c.if-tipped.true)
-    (c.list.ensures.value, c.list.ensures.buffer_after)
-
-pub returns-then-outnumbers : goal.returns-then-outnumbers
-returns-then-outnumbers c =
-    let g = c.args.graph in
-    told_many (graph_of g.vertices g.us.now g.vs.now g.states.now) c.args.count (states_in g.states.now) c.args.buffer.now _ _
-    (sym c.tipped.ensures ∙ c.if-tipped.false)
-    (sym c.outnumbers.ensures ∙ c.if-outnumbers.true)
-    (c.list-then-outnumbers.ensures.value, c.list-then-outnumbers.ensures.buffer_after)
+    rw c.from_residual.ensures (told_none (graph_of g.vertices g.us.now g.vs.now g.states.now) c.args.count (states_in g.states.now) c.args.buffer.now c.failing.result c.failing.ensures c.in_err-wall.was)
 
 pub returns : goal.returns
 returns c =
     let g = c.args.graph in
-    told_none (graph_of g.vertices g.us.now g.vs.now g.states.now) c.args.count (states_in g.states.now) c.args.buffer.now
-    (sym c.tipped.ensures ∙ c.if-tipped.false)
-    (sym c.outnumbers.ensures ∙ c.if-outnumbers.false)
+    told_side (graph_of g.vertices g.us.now g.vs.now g.states.now) c.args.count (states_in g.states.now) c.args.buffer.now c.failing.result c.failing.ensures c.in_ok-wall.wall _ _
+    c.in_ok-wall.was c.list.ensures.value c.list.ensures.buffer_after

@@ -4,7 +4,7 @@ use Rattle.ledger.specs.Ledger.{state_for}
 use Rattle.room_parts.specs.Graph.{states_in}
 use Rattle.borders.specs.Entry.{entry_of}
 use Rattle.city_count.proofs.EntryLaws.{listing_none, listing_more, listing_same, listing_all}
-use Rattle.city_count.proofs.list.Goals.{then-wall, else-wall, then-state-kind, else-state-kind}
+use Rattle.city_count.proofs.list.Goals.{then-state-kind, else-state-kind}
 use Rattle.city_count.proofs.list.Goals as goal
 
 pub loop-i-init : goal.loop-i-init
@@ -13,8 +13,7 @@ loop-i-init c =
 
 pub loop-i-preserved : goal.loop-i-preserved
 loop-i-preserved c =
-    let kind : c.if-wall.kind ≡ state_for c.args.wall =
-    elim c.if-wall.branch [ then-wall w ↦ rw (w.kind-is, w.if-wall.true) | else-wall w ↦ rw (w.kind-is, w.if-wall.false) ] in
+    let kind : c.state_of-kind.result ≡ state_for c.args.wall = c.state_of-kind.ensures in
     elim c.if-state-kind.branch [
       | then-state-kind w ↦
           rw (w.buffer-is, w.n-is)

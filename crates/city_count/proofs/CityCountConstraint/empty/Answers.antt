@@ -5,4 +5,4 @@ use Rattle.city_count.proofs.CityCountConstraint.empty.Goals as goal
 
 pub returns : goal.returns
 unfolding zeros
-returns c = refl
+returns c = rw c.new.ensures refl

@@ -21,7 +21,7 @@ overflow_sub-left c =
     let e = rw w.same_n at c.join.ensures in
     let l = c.args.self.lent in
     let h = c.loop-i-test.true in
-    (join_turn w.taken c.if-state-eq1.true (l.us_exist _ h) (l.vs_exist _ h) c.from.ensures c.from-then-state-eq1.ensures e.value (ap (λ (u : UnionFind). u.parent) e.after)).some
+    (join_turn w.taken c.if-state-eq1.true (l.us_exist _ h) (l.vs_exist _ h) c.ends-u.ensures.first c.ends-u.ensures.second e.value (ap (λ (u : UnionFind). u.parent) e.after)).some
     c.if-join.true
 
 pub returns-then-left-count : goal.returns-then-left-count
@@ -30,7 +30,7 @@ returns-then-left-count c =
     let e = rw w.same_n at c.join.ensures in
     let l = c.args.self.lent in
     let h = c.loop-i-test.true in
-    (join_turn w.taken c.if-state-eq1.true (l.us_exist _ h) (l.vs_exist _ h) c.from.ensures c.from-then-state-eq1.ensures e.value (ap (λ (u : UnionFind). u.parent) e.after)).tips
+    (join_turn w.taken c.if-state-eq1.true (l.us_exist _ h) (l.vs_exist _ h) c.ends-u.ensures.first c.ends-u.ensures.second e.value (ap (λ (u : UnionFind). u.parent) e.after)).tips
     c.if-join.true h c.if-left-count.true
 
 pub loop-i-preserved : goal.loop-i-preserved
@@ -41,13 +41,13 @@ loop-i-preserved c =
     elim c.if-state-eq1.branch [
       | then-state-eq1+then-join+else-left-count w ↦
           let e = rw i.same_n at w.join.ensures in
-          let t = join_turn i.taken w.if-state-eq1.true (l.us_exist _ h) (l.vs_exist _ h) w.from.ensures w.from-then-state-eq1.ensures e.value (ap (λ (u : UnionFind). u.parent) e.after) in
+          let t = join_turn i.taken w.if-state-eq1.true (l.us_exist _ h) (l.vs_exist _ h) c.ends-u.ensures.first c.ends-u.ensures.second e.value (ap (λ (u : UnionFind). u.parent) e.after) in
           rw (w.union-is, w.left-is) (record { same_n = ap (λ (u : UnionFind). u.n) e.after; taken = t.less w.if-join.true w.if-left-count.false })
       | else-state-eq1 w ↦
           elim w.else-state-eq1.branch [
             | else-state-eq1-via-then-state-eq1+else-join v ↦
                 let e = rw i.same_n at v.join.ensures in
-                let t = join_turn i.taken v.if-state-eq1.true (l.us_exist _ h) (l.vs_exist _ h) v.from.ensures v.from-then-state-eq1.ensures e.value (ap (λ (u : UnionFind). u.parent) e.after) in
+                let t = join_turn i.taken v.if-state-eq1.true (l.us_exist _ h) (l.vs_exist _ h) c.ends-u.ensures.first c.ends-u.ensures.second e.value (ap (λ (u : UnionFind). u.parent) e.after) in
                 rw (w.union-is, w.left-is, v.union-is) (record { same_n = ap (λ (u : UnionFind). u.n) e.after; taken = t.same v.if-join.false })
             | else-state-eq1-via-else-state-eq1 v ↦
                 rw (w.union-is, w.left-is, v.union-is) (record { same_n = i.same_n; taken = skip_turn i.taken v.if-state-eq1.false })

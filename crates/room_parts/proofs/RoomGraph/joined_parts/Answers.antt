@@ -16,7 +16,7 @@ loop-i-preserved c =
     elim c.if-state-ne2.branch [
       | then-state-ne2 w ↦
           rw w.arcs-is
-          (linking_more (graph_of g.vertices g.us.now g.vs.now g.states.now) (states_in g.states.now) c.loop-i.invariant w.if-state-ne2.true w.from.ensures w.from-then-state-ne2.ensures w.link.ensures.held w.link.ensures.size)
+          (linking_more (graph_of g.vertices g.us.now g.vs.now g.states.now) (states_in g.states.now) c.loop-i.invariant w.if-state-ne2.true w.ends-u.ensures.first w.ends-u.ensures.second w.link.ensures.held w.link.ensures.size)
       | else-state-ne2 w ↦
           rw w.arcs-is
           (linking_skip (graph_of g.vertices g.us.now g.vs.now g.states.now) (states_in g.states.now) c.loop-i.invariant w.if-state-ne2.false)

@@ -2,7 +2,7 @@
 use Rattle.std.proofs.Common.{◌∙◌, arith}
 use Rattle.arcs.proofs.LinkLaws.{zeros}
 use Rattle.room_parts.specs.Graph.{graph_of, states_in}
-use Rattle.room_parts.proofs.BoundLaws.{marks_none, marks_more, marks_bound, blank_taken}
+use Rattle.room_parts.proofs.BoundLaws.{marks_none, marks_more, marks_bound, passing_blank, blank_taken}
 use Rattle.room_parts.proofs.RoomGraph.most_parts.Goals as goal
 
 pub loop-i-init : goal.loop-i-init
@@ -15,12 +15,12 @@ loop-i-preserved c =
     let g = c.args.self in
     rw c.mark_later.ensures
     (marks_more (graph_of g.vertices g.us.now g.vs.now g.states.now) (states_in g.states.now) c.loop-i.marks c.loop-i.i _ _ c.loop-i-test.true
-    c.from.ensures
-    c.from-in-loop-i.ensures
+    c.ends-u.ensures.first
+    c.ends-u.ensures.second
     c.loop-i.invariant)
 
 pub returns : goal.returns
 returns c =
     let g = c.args.self in
     marks_bound (graph_of g.vertices g.us.now g.vs.now g.states.now) (states_in g.states.now) c.loop-i.marks _ c.loop-i.invariant
-    (c.unmarked.ensures ∙ blank_taken _ _ (omega (arith, g.lent.few_vertices)))
+    (c.count_of.ensures ∙ passing_blank _ _ ∙ blank_taken _ _ (omega (arith, g.lent.few_vertices)))

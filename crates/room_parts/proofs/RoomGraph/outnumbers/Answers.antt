@@ -5,8 +5,8 @@ use Rattle.room_parts.proofs.BoundLaws.{passing_le, joined_least, above_least}
 use Rattle.room_parts.proofs.RoomGraph.outnumbers.Goals as goal
 
 pub overflow_sub-open : goal.overflow_sub-open
-overflow_sub-open c = omega (arith, passing_le (is_state 2) (states_in c.args.self.states.now) (length c.args.self.states.now), c.in_state.ensures)
+overflow_sub-open c = omega (arith, passing_le (is_state 2) (states_in c.args.self.states.now) (length c.args.self.states.now), c.count_of.ensures)
 
 pub returns-then-count-saturating_sub : goal.returns-then-count-saturating_sub
 returns-then-count-saturating_sub c =
-    above_least _ _ c.if-count-saturating_sub.true (joined_least _ _ _ _ _ c.args.self.lent _ _ c.saturating_sub.ensures c.in_state.ensures)
+    above_least _ _ c.if-count-saturating_sub.true (joined_least _ _ _ _ _ c.args.self.lent _ _ c.saturating_sub.ensures c.count_of.ensures)

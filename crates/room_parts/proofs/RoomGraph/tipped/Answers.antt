@@ -9,6 +9,6 @@ use Rattle.room_parts.proofs.RoomGraph.tipped.Goals as goal
 pub returns-else-saturating_sub-count : goal.returns-else-saturating_sub-count
 returns-else-saturating_sub-count c =
     let g = c.args.self in
-    let b = connected_least _ _ _ _ _ g.lent _ _ c.saturating_sub.ensures c.in_state.ensures in
+    let b = connected_least _ _ _ _ _ g.lent _ _ c.saturating_sub.ensures c.count_of.ensures in
     le-ltb _ _ c.if-saturating_sub-count.false
     ∙ not_tipped (graph_of g.vertices g.us.now g.vs.now g.states.now) c.args.count (states_in g.states.now) (omega (arith, b))
