@@ -22,7 +22,8 @@ use Rattle.rooms.specs.Rooms.{is_given}
 use Rattle.puzzle.specs.Puzzle.{no_clues, fresh_board, fresh_puzzle, zero_puzzle, answer, make_code, make_of, given_of, clues_of, states_of, fresh_state}
 use Rattle.rooms.specs.Lent.{unmarked, puts, Below}
 use Rattle.rooms.proofs.RoomLaws.{given_in_lem, rooms_few}
-use Rattle.rooms.proofs.PutLaws.{puts_length, puts_at, unmarked_at, unmarked_length}
+use Rattle.lists.proofs.ListLaws.{zeros_at}
+use Rattle.rooms.proofs.PutLaws.{puts_length, puts_at, unmarked_length}
 use Rattle.clues.specs.Clues.{lists_code}
 use Rattle.clues.proofs.Fitting.{Fit, lists_fit, rises_length}
 use Rattle.puzzle.proofs.Basics.{states_are}
@@ -79,9 +80,10 @@ module _ (h w : ℕ) (given clues : List ℕ) where
 
 -- 2 at each given wall of zeros: the states of a fresh board
 fresh_states : (given : List ℕ) → Below most_borders given → puts given 2 unmarked ≡ states_of most_borders (fresh_state given)
+unfolding unmarked
 fresh_states given w =
     states_are most_borders (fresh_state given) (puts given 2 unmarked) (puts_length given 2 unmarked ∙ unmarked_length)
-    (λ e h. puts_at given 2 unmarked (λ x m. rw unmarked_length (w x m)) e ∙ ap (pick (is_given given e) 2) (unmarked_at e))
+    (λ e h. puts_at given 2 unmarked (λ x m. rw unmarked_length (w x m)) e ∙ ap (pick (is_given given e) 2) (zeros_at most_borders e))
 
 -- WHAT MAKING ANSWERS
 pub board_is : (g : Grid) (given s : List ℕ) → Below most_borders given → s ≡ puts given 2 unmarked → ◌≡◌ {A = Board} (record { grid = g; book = book s zeros 0 }) (fresh_board g given)

@@ -64,11 +64,7 @@ impl Puzzle {
                     height: 0,
                     width: 0,
                 },
-                book: Book {
-                    states: [0u8; limits::BORDERS],
-                    names: [0u16; limits::BORDERS],
-                    len: 0,
-                },
+                book: Book::new(),
             },
             given: [0u16; limits::BORDERS],
             given_len: 0,

@@ -1,14 +1,12 @@
 -- One look from a cell of a room: a law for each way out, the places that are read, and what the answer tells. Assumes nothing.
 use Prim.Native.Nat.{ℕ, ◌<◌}
-use mathlib.Core.Path.{◌≡◌, refl, sym, ◌∙◌}
+use mathlib.Core.Path.{◌≡◌, sym, ◌∙◌}
 use mathlib.Core.Logic.{◌≢◌}
 use mathlib.Core.Bool.{Bool, true, false}
 use mathlib.Core.List.{List}
-use native.Mathlib.Omega.{arith}
 use borrow.Author.Tests.{eq-eqb, ne_eqb}
 use lib.ListN.{get_or}
 use Rattle.std.specs.Prelude.{Option, Some, None}
-use Rattle.lists.specs.Choice.{pick}
 use Rattle.grid.specs.declared.Direction.{Direction}
 use Rattle.grid.specs.declared.Neighbour.{Neighbour}
 use Rattle.grid.specs.declared.Grid.{Grid}
@@ -16,17 +14,9 @@ use Rattle.grid.specs.Grid.{Cell, cells, goes_on, next, border, border_count}
 use Rattle.grid.specs.Neighbours.{neighbour_in}
 use Rattle.grid.specs.Steps.{Step}
 use Rattle.grid.proofs.Geometry.{goes_step, border_lt}
-use Rattle.grid.proofs.Told.{some_told}
+use Rattle.grid.proofs.Told.{went, not_gone, some_told}
 use Rattle.rooms.specs.RoomGraph.{in_room}
 use Rattle.rooms.specs.Lent.{marked_in, edge_of}
-
-went : (t : Bool) (m n : Neighbour) → pick t (Some m) None ≡ Some n → (t ≡ true) × (n.cell ≡ m.cell) × (n.border ≡ m.border)
-went true m n q = let e : m ≡ n = cc in rw e (refl, refl, refl)
-went false m n q = absurd (let z : ◌≡◌ {A = ℕ} 0 1 = cc in omega arith)
-
-not_gone : (t : Bool) (m : Neighbour) → ((n : Neighbour) → pick t (Some m) None ≡ Some n → ⊥) → t ≡ false
-not_gone true m k = absurd (k m refl)
-not_gone false m k = refl
 
 module _ (g : Grid) (marks vertex : List ℕ) (c : ℕ) (d : Direction) where
   abbrev there : Bool

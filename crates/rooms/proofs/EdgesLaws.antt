@@ -10,6 +10,7 @@ use borrow.Author.Tests.{eq-eqb, ne_eqb}
 use lib.Dec.{eqb}
 use lib.ListN.{length, get_or, drop, set, length-set, drop_of_length-le}
 use lib.Seq.{sets, drop-cons}
+use Rattle.limits.specs.Limits.{most_cells}
 use Rattle.lists.specs.Choice.{pick, when}
 use Rattle.lists.specs.Lists.{gather}
 use Rattle.lists.proofs.Cases.{eq_or_ne}
@@ -134,11 +135,12 @@ module _ (g : Grid) (given : ℕ → Bool) (cs : List ℕ) where
           here_are = writes_one (λ s. get_or states (border_of g s) 0) here₀ here m i k h q c w.here_are;
         }
 
-    pub writing_all : 2 * length cs ≤ i → Written g given states cs us₀ vs₀ here₀ us vs here m
-    writing_all h =
+    pub writing_all : length cs ≤ most_cells → 2 * length cs ≤ i → Written g given states cs us₀ vs₀ here₀ us vs here m
+    writing_all l h =
         let none = rest_none i h w.within in
         record {
           count_is = omega (arith, w.counted, ap length none);
+          few = omega (arith, w.few, w.within);
           us_are = rw none at w.us_are.are;
           vs_are = rw none at w.vs_are.are;
           here_are = rw none at w.here_are.are;

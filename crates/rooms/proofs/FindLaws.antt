@@ -8,7 +8,6 @@ use native.Mathlib.Omega.{arith}
 use lib.Dec.{eqb, ltb}
 use lib.ListN.{length, get_or, take, length-map, length-replicate}
 use lib.Seq.{sets}
-use Rattle.std.proofs.lemmas.List.{length-take}
 use Rattle.limits.specs.Limits.{most_borders}
 use Rattle.lists.specs.Choice.{pick, when, give, or_else, through}
 use Rattle.lists.specs.Lists.{In, count_from, range, gather}
@@ -67,21 +66,6 @@ module _ (g : Grid) (marks states cs : List ℕ) (w : Housed g marks states cs) 
 
   here_are : take m here ≡ map (λ s. get_or states (border_of g s) 0) ss
   here_are = front_is (λ s. get_or states (border_of g s) 0) o.here_are
-
-  -- a place for each, and as many as there are edges
-  taken : (f : Spot → ℕ) {l : List ℕ} → l ≡ sets blank 0 (map f ss) → (m ≤ length l) × (m ≡ length (take m l))
-  taken f {l} e =
-      let n : length (take m l) ≡ m = rw (front_is f e) (length-map ss f ∙ sym o.count_is) in
-      (omega (arith, n, length-take m l), sym n)
-
-  pub us_taken : (m ≤ length us) × (m ≡ length (take m us))
-  us_taken = taken (from_of cs) o.us_are
-
-  pub vs_taken : (m ≤ length vs) × (m ≡ length (take m vs))
-  vs_taken = taken (into_of g cs) o.vs_are
-
-  pub states_taken : (m ≤ length here) × (m ≡ length (take m here))
-  states_taken = taken (λ s. get_or states (border_of g s) 0) o.here_are
 
   -- the ends of each edge are vertices
   end_lt : (f : Spot → ℕ) → ((s : Spot) → In s ss → f s < length cs) → (i : ℕ) → i < length ss → get_or (map f ss) i 0 < length cs

@@ -8,12 +8,13 @@ use native.Mathlib.Omega.{arith}
 use native.Mathlib.Numerals.{add-one}
 use borrow.Author.Tests.{eq-eqb, ne_eqb}
 use lib.Dec.{eqb}
-use lib.ListN.{length, get_or, drop, set, replicate, length-set, drop_of_length-le, length-replicate, get_or-replicate, get_or-eq_default}
+use lib.ListN.{length, get_or, drop, set, length-set, drop_of_length-le, length-replicate}
 use lib.Seq.{get_or-set_same, get_or-set_other, drop-cons}
 use Rattle.limits.specs.Limits.{most_cells}
 use Rattle.lists.specs.Choice.{pick}
 use Rattle.lists.specs.Lists.{In, any, count}
-use Rattle.lists.proofs.Cases.{le_or_lt, eq_or_ne, true_or_false}
+use Rattle.lists.proofs.Cases.{eq_or_ne, true_or_false}
+use Rattle.lists.proofs.ListLaws.{zeros_at}
 use Rattle.lists.proofs.CountLaws.{count_here, count_other, in_count}
 use Rattle.rooms.specs.RoomGraph.{is_in, place}
 use Rattle.rooms.specs.Lent.{nowhere, numbered, marked_in}
@@ -51,11 +52,7 @@ nowhere_length = length-replicate {A = ℕ} most_cells 0
 
 nowhere_at : (c : ℕ) → get_or nowhere c 0 ≡ 0
 unfolding nowhere
-nowhere_at c =
-    ⊎_elim
-    (λ (h : most_cells ≤ c). get_or-eq_default (replicate most_cells 0) 0 {n = c} (rw (length-replicate {A = ℕ} most_cells 0) h))
-    (λ (h : c < most_cells). get_or-replicate most_cells c 0 0 h)
-    (le_or_lt most_cells c)
+nowhere_at = zeros_at most_cells
 
 -- a cell has a vertex exactly if it is one of the room's, and then its place among them
 module _ (cs : List ℕ) (one : (c : ℕ) → count c cs ≤ 1) (small : (c : ℕ) → In c cs → c < most_cells) where

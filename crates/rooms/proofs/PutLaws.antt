@@ -8,13 +8,13 @@ use native.Mathlib.Omega.{arith}
 use native.Mathlib.Numerals.{add-one}
 use borrow.Author.Tests.{eq-eqb, ne_eqb}
 use lib.Dec.{eqb}
-use lib.ListN.{length, get_or, take, drop, set, replicate, length-set, drop_of_length-le, length-replicate, get_or-replicate, get_or-eq_default}
+use lib.ListN.{length, get_or, take, drop, set, replicate, length-set, drop_of_length-le, length-replicate}
 use lib.Seq.{get_or-set_same, get_or-set_other, drop-cons, sets, length-take-le}
 use Rattle.limits.specs.Limits.{most_borders}
 use Rattle.lists.specs.Choice.{either, pick}
 use Rattle.lists.specs.Lists.{In, any}
-use Rattle.lists.proofs.Cases.{le_or_lt, eq_or_ne}
-use Rattle.lists.proofs.ListLaws.{get_d_in}
+use Rattle.lists.proofs.Cases.{eq_or_ne}
+use Rattle.lists.proofs.ListLaws.{get_d_in, zeros_at}
 use Rattle.grid.specs.declared.Grid.{Grid}
 use Rattle.grid.specs.Grid.{Limits, cells, border_count}
 use Rattle.grid.proofs.Geometry.{border_count_le}
@@ -70,15 +70,6 @@ puts_at (x ∷ l) v xs h e =
         (λ (q : e ≢ x). rw (ne_eqb e x q) (get_or-set_other xs x e v 0 q))
         (eq_or_ne e x)
 
--- marks at the given walls alone
-pub unmarked_at : (e : ℕ) → get_or unmarked e 0 ≡ 0
-unfolding unmarked
-unmarked_at e =
-    ⊎_elim
-    (λ (h : most_borders ≤ e). get_or-eq_default (replicate most_borders 0) 0 {n = e} (rw (length-replicate {A = ℕ} most_borders 0) h))
-    (λ (h : e < most_borders). get_or-replicate most_borders e 0 0 h)
-    (le_or_lt most_borders e)
-
 pub unmarked_length : length unmarked ≡ most_borders
 unfolding unmarked
 unmarked_length = length-replicate {A = ℕ} most_borders 0
@@ -87,19 +78,17 @@ pub blank : (g : Grid) (n : ℕ) → border_count g ≤ n → Blank g (replicate
 blank g n h =
     record {
       long = rw (length-replicate {A = ℕ} n 0) h;
-      zeros = λ e.
-          ⊎_elim
-          (λ (l : n ≤ e). get_or-eq_default (replicate n 0) 0 {n = e} (rw (length-replicate {A = ℕ} n 0) l))
-          (λ (l : e < n). get_or-replicate n e 0 0 l)
-          (le_or_lt n e);
+      zeros = zeros_at n;
     }
 
 -- arrays with a place for each cell
 pub places : (g : Grid) (n : ℕ) → cells g ≤ n → Places g (replicate n 0) (replicate n 0)
 places g n h = let e : cells g ≤ length {A = ℕ} (replicate n 0) = rw (length-replicate {A = ℕ} n 0) h in record { ids_long = e; sizes_long = e }
 
+-- marks at the given walls alone
 pub unmarked_blank : (g : Grid) → Limits g → Blank g unmarked
-unmarked_blank g l = record { long = omega (arith, unmarked_length, border_count_le g l); zeros = unmarked_at }
+unfolding unmarked
+unmarked_blank g l = blank g most_borders (border_count_le g l)
 
 module _ (g : Grid) (given : List ℕ) (w : Given g given) where
   -- a board's given walls have their places

@@ -82,6 +82,7 @@ pub record Housed (g : Grid) (marks states cs : List ℕ) : Type 0 where
 -- the ends and states of a room's edges stand at the fronts; `count` is how many there are
 pub record Written (g : Grid) (given : ℕ → Bool) (states cs us vs here us' vs' here' : List ℕ) (count : ℕ) : Type 0 where
   pub count_is : count ≡ length (spots g given cs)
+  pub few : count ≤ 2048
   pub us_are : us' ≡ sets us 0 (map (from_of cs) (spots g given cs))
   pub vs_are : vs' ≡ sets vs 0 (map (into_of g cs) (spots g given cs))
   pub here_are : here' ≡ sets here 0 (map (λ s. get_or states (border_of g s) 0) (spots g given cs))

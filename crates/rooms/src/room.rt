@@ -100,7 +100,7 @@ impl Room<'_, '_> {
         ensures value { result ≡ length (room_entries self.entry.borders.grid (marked_in self.entry.marks.now) self.entry.cells.now wall (state_of self.entry.borders.states.now)) }
         ensures buffer_after { buffer.new ≡ sets buffer.old 0 (room_entries self.entry.borders.grid (marked_in self.entry.marks.now) self.entry.cells.now wall (state_of self.entry.borders.states.now)) }
     {
-        let kind = if wall { 2 } else { 1 };
+        let kind = borders::state_of(wall);
         let vertices = self.vertices();
         let mut n = 0;
         for &cell in self.cells {

@@ -1,7 +1,7 @@
 -- `Room::edges` meets its contract: one law of `EdgesLaws` a look. Assumes nothing.
 use Rattle.std.proofs.Common.{◌≡◌, ◌*◌, ◌+◌, ◌<◌, length, get_or, ap, arith}
 use Rattle.rooms.proofs.EdgesLaws.{writing_none, writing_skip, writing_one, writing_all}
-use Rattle.rooms.proofs.HouseLaws.{cell_there, look_none, look_seen}
+use Rattle.rooms.proofs.HouseLaws.{few, cell_there, look_none, look_seen}
 use Rattle.rooms.proofs.room.Room.edges.Goals.{in-Some, in_default}
 use Rattle.rooms.proofs.room.Room.edges.Goals as goal
 
@@ -55,4 +55,4 @@ loop-direction-preserved c =
     ]
 
 pub returns : goal.returns
-returns c = writing_all _ _ _ _ _ _ _ _ _ _ _ _ c.loop-cell.invariant (omega (arith, c.loop-cell-test.false))
+returns c = writing_all _ _ _ _ _ _ _ _ _ _ _ _ c.loop-cell.invariant (few _ _ _ _ c.args.self.housed) (omega (arith, c.loop-cell-test.false))

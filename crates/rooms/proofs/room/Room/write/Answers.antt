@@ -4,7 +4,7 @@ use Rattle.grid.proofs.Geometry.{border_count_le}
 use Rattle.rooms.specs.RoomGraph.{kind_of}
 use Rattle.rooms.proofs.EdgesLaws.{listing_none, listing_skip, listing_one, listing_other, listing_all}
 use Rattle.rooms.proofs.HouseLaws.{cell_there, look_none, look_seen}
-use Rattle.rooms.proofs.room.Room.write.Goals.{then-wall, else-wall, in-Some+then-self-border, in-Some+else-self-border, in_default}
+use Rattle.rooms.proofs.room.Room.write.Goals.{in-Some+then-self-border, in-Some+else-self-border, in_default}
 use Rattle.rooms.proofs.room.Room.write.Goals as goal
 
 pub loop-cell-init : goal.loop-cell-init
@@ -28,8 +28,7 @@ loop-direction-preserved c =
     let b = c.loop-direction.direction-index in
     let on : 2 * a + (b + 1) ≡ 2 * a + b + 1 = omega arith in
     let h : 2 * a + b < 2 * length c.args.self.cells.now = omega (arith, c.loop-cell-test.true, c.loop-direction-test.true) in
-    let kind : c.if-wall.kind ≡ kind_of c.args.wall =
-    elim c.if-wall.branch [ then-wall x ↦ rw (x.kind-is, x.if-wall.true) | else-wall x ↦ rw (x.kind-is, x.if-wall.false) ] in
+    let kind : c.state_of-kind.result ≡ kind_of c.args.wall = c.state_of-kind.ensures in
     elim c.match-edge.branch [
       | in-Some+then-self-border x ↦
           let o = look_seen _ _ _ _ w c.loop-cell-test.true c.loop-direction-test.true c.vertices-vertices.ensures c.from.ensures c.edge-edge.ensures x.in-Some.is in
