@@ -26,8 +26,8 @@ fn longest_run(cells: &[u16]) -> usize
 {
     let mut longest = 1;
     let mut run = 1;
-    for i in 1..cells.len() {
-        let follows = usize::from(cells[i - 1]) + 1 == usize::from(cells[i]);
+    for &[before, cell] in cells.array_windows::<2>() {
+        let follows = usize::from(before) + 1 == usize::from(cell);
         run = if follows { run + 1 } else { 1 };
         longest = longest.max(run);
     }
