@@ -60,7 +60,7 @@ impl From<Result<Layout, Refusal>> for Parts {
 fn kind_of(wall: bool) -> u8
     ensures { result ≡ pick wall 2 1 }
 {
-    if wall { 2 } else { 1 }
+    1 + u8::from(wall)
 }
 
 pub fn call_fields(call: Call, behind: usize) -> CallFields

@@ -7,7 +7,7 @@ use grid::Neighbour;
 
 // What lies beyond a cell: code 0 with the neighbour and the border, or with `ends` where the board ends; else refused.
 #[repr(C)]
-#[derive(Clone, Copy)]
+#[derive(Clone, Copy, Default)]
 pub struct Place {
     pub code: u8,
     pub ends: bool,
@@ -27,16 +27,12 @@ impl From<Result<Option<Neighbour>, Refusal>> for Place {
                 border,
             },
             Ok(None) => Place {
-                code: 0,
                 ends: true,
-                cell: 0,
-                border: 0,
+                ..Place::default()
             },
             Err(refusal) => Place {
                 code: u8::from(refusal),
-                ends: false,
-                cell: 0,
-                border: 0,
+                ..Place::default()
             },
         }
     }

@@ -5,22 +5,25 @@ use mathlib.Core.List.{List, [], ◌∷◌}
 use mathlib.Core.Option.{some}
 use mathlib.Core.Logic.{◌≢◌}
 use native.Mathlib.Omega.{arith}
-use borrow.Author.Tests.{le-leb, eq-eqb, ne_eqb}
+use borrow.Author.Tests.{le-leb, ne_eqb}
 use lib.ListN.{length, take, drop, length-replicate, length-drop, length-take, replicate}
 use lib.Seq.{sets, length-sets}
 use Rattle.answers.specs.Answers.{written}
 use Rattle.case_file.specs.declared.Layout.{Layout}
-use Rattle.std.specs.Prelude.{Ok}
+use Rattle.answers.specs.declared.Refusal.{Refusal}
+use Rattle.answers.specs.Refusals.{number_of}
+use Rattle.answers.proofs.RefusalLaws.{some_number}
+use Rattle.std.specs.Prelude.{Ok, Err}
 use Rattle.case_file.specs.Sound.{Case, words_of, decode_of}
 use Rattle.case_file.specs.declared.Span.{Span}
 use Rattle.case_file.specs.Layout.{numbers_at, numbers_into, span_of, layout_of, file_of}
 use Rattle.case_file.proofs.BackLaws.{parts}
 use Rattle.case_file.proofs.UseLaws.{accepted, walls_there, clues_there}
 use Rattle.puzzle.specs.declared.Made.{Made}
-use Rattle.puzzle.specs.Puzzle.{make_of}
+use Rattle.puzzle.specs.Puzzle.{make_of, made}
 use Rattle.lists.proofs.SetsLaws.{front}
 use Rattle.case_run.specs.declared.Opened.{Opened}
-use Rattle.case_run.specs.CaseRun.{opened, opened_as, opened_of}
+use Rattle.case_run.specs.CaseRun.{opened_as, opened_of, opened_in}
 
 -- the program's places for walls and for clues: as many as a file of 60,003 bytes can have
 unfoldable pub places : List ℕ
@@ -79,9 +82,8 @@ module _ (bs : List ℕ) (l : Layout) (q : Ok l ≡ file_of (decode_of bs)) wher
       → opened_as m l.calls.at l.calls.count ≡ opened_of (decode_of bs)
   made_file m walls clues x y e = made_in bs sound.0 sound.1 l sound.2 m (rw (x, y) at e) ∙ ap opened_of (sym sound.1)
 
--- a puzzle that is refused, and one that is made
-pub opened_refused : (m : Made) (at count : ℕ) {o : Opened} → m.code ≢ 0 → opened_as m at count ≡ o → opened m.code m.puzzle 0 0 ≡ o
-opened_refused m at count h e = rw (ne_eqb m.code 0 h) at e
-
-pub opened_made : (m : Made) (at count : ℕ) {o : Opened} → m.code ≡ 0 → opened_as m at count ≡ o → opened 0 m.puzzle at count ≡ o
-opened_made m at count h e = rw (eq-eqb m.code 0 h) at e
+-- a puzzle that is refused
+pub opened_refused : (e : Refusal) (at count : ℕ) {o : Opened} → opened_as (made (Err e)) at count ≡ o → opened_in (Err e) ≡ o
+opened_refused e at count q =
+    let h : number_of e ≢ 0 = λ (z : number_of e ≡ 0). omega (arith, some_number e) in
+    rw (ne_eqb (number_of e) 0 h) at q

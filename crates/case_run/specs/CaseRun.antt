@@ -1,6 +1,9 @@
 -- What a case file's puzzle is, and the line that each of its calls prints (SPEC 5.4, 5.5) in the run of demand 3 (6.4). Assumes nothing.
 use Rattle.std.specs.Prelude.{ℕ, zero, suc, ◌+◌, ◌*◌, ◌≤◌, ◌≡◌, List, [], ◌∷◌, ◌++◌, map, eqb, leb, length, take, replicate}
+use Rattle.std.specs.Prelude.{Result, Ok, Err}
 use Rattle.std.proofs.Math.Option.{Option, none, some}
+use Rattle.answers.specs.declared.Refusal.{Refusal}
+use Rattle.answers.specs.Refusals.{number_of}
 use Rattle.limits.specs.Limits.{most_entries, longest_line}
 use Rattle.lists.specs.Choice.{pick}
 use Rattle.hand_over.specs.Sorted.{sorted_once}
@@ -20,6 +23,8 @@ use Rattle.puzzle.specs.Answer.{Clear, Fault, Refused}
 use Rattle.puzzle.specs.Puzzle.{zero_puzzle, make_of}
 use Rattle.demand_3.specs.Run as puzzle
 use Rattle.demand_3.specs.Run.{puzzle_after, run, Reply, coded, asked, reply_to, replies}
+use Rattle.case_run.specs.declared.Remaining.{Remaining}
+use Rattle.case_run.specs.declared.Progress.{Progress}
 use Rattle.case_run.specs.declared.Opened.{Opened}
 use Rattle.case_run.specs.declared.Ran.{Ran}
 
@@ -35,6 +40,11 @@ opened_as m at count = pick (eqb m.code 0) (opened 0 m.puzzle at count) (opened 
 abbrev pub opened_of : Option Case → Opened
 opened_of none = opened 11 zero_puzzle 0 0
 opened_of (some f) = opened_as (make_of f.height f.width f.walls f.clues) (layout_of f).calls.at (length f.calls)
+
+-- what `open` answers
+abbrev pub opened_in : Result Remaining Refusal → Opened
+opened_in (Ok r) = opened 0 r.puzzle r.at r.count
+opened_in (Err e) = opened (number_of e) zero_puzzle 0 0
 
 -- THE CALLS of a file, as calls of demand 3's run: an ask is lent 9,216 zeros, as many as the largest board needs
 unfoldable pub blank : List ℕ
@@ -125,3 +135,12 @@ code_in count room = pick (leb (longest_line * count) room) 0 6
 -- the puzzle after the calls, the byte behind them, how many were done, and how many bytes their lines have
 abbrev pub ran_of : ℕ → Puzzle → ℕ → List Call → Ran
 ran_of code p at cs = record { code = code; puzzle = run_of p cs; at = at + bytes_of cs; done = length cs; len = length (printed_by p cs) }
+
+-- what `run_calls` answers, by the byte at which it began and the puzzle that it left
+abbrev pub ran_in : Result Progress Refusal → ℕ → Puzzle → Ran
+ran_in (Ok r) at p = record { code = 0; puzzle = p; at = r.at; done = r.done; len = r.len }
+ran_in (Err e) at p = record { code = number_of e; puzzle = p; at = at; done = 0; len = 0 }
+
+abbrev pub length_in : Result Progress Refusal → ℕ
+length_in (Ok r) = r.len
+length_in (Err e) = 0

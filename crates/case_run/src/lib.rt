@@ -2,7 +2,6 @@
 #![tactic(auto)]
 
 ghost use Rattle.std.specs.Prelude.{◌≡◌, [], ◌≤◌, length, drop};
-ghost use Rattle.std.proofs.Math.Option.{none};
 ghost use Rattle.std.proofs.lemmas.List.Edits.{sets};
 ghost use Rattle.limits.specs.Limits.{most_entries, longest_line};
 ghost use Rattle.hand_over.specs.Sorted.{sorted_once};
@@ -10,14 +9,30 @@ ghost use Rattle.case_file.specs.Sound.{decode_of};
 ghost use Rattle.case_file.specs.declared.Call.TheVariants.{Ask};
 ghost use Rattle.answers.specs.Refusals.{code_of};
 ghost use Rattle.lines.specs.Line.{line_of};
-ghost use Rattle.case_run.specs.CaseRun.{opened_of, check_line, code_line, line_by, printed_by, code_in, done_in, ran_of, Counts, Turned};
+ghost use Rattle.case_run.specs.CaseRun.{opened_of, opened_in, ran_in, length_in, check_line, code_line, line_by, printed_by, code_in, done_in, ran_of, Counts, Turned};
 
 use answers::Refusal;
 use case_file::Call;
 use lines::Line;
 use puzzle::{Check, Fault, Puzzle};
 
-// A file's puzzle, its first call's byte, and how many calls it has; or zeros, and the number that refuses the file (11) or its puzzle.
+// A file's puzzle, and the calls that remain to be run on it: the first one's byte, and how many they are.
+#[derive(Clone, Copy)]
+pub struct Remaining {
+    pub puzzle: Puzzle,
+    pub at: usize,
+    pub count: usize,
+}
+
+// How far calls came: the byte behind the last one that was done, how many were done, and how many bytes their lines have.
+#[derive(Clone, Copy)]
+pub struct Progress {
+    pub at: usize,
+    pub done: usize,
+    pub len: usize,
+}
+
+// The first as C gets it: code 0; or zeros, and the number that refuses the file (11) or its puzzle.
 #[repr(C)]
 #[derive(Clone, Copy)]
 pub struct Opened {
@@ -27,8 +42,7 @@ pub struct Opened {
     pub count: usize,
 }
 
-// What a list of calls left: the puzzle, the byte behind the last call, how many calls were done, and how many bytes their lines have;
-// code 6 where the buffer is too short for them.
+// The second as C gets it, with the puzzle; code 6 where the buffer is too short for the lines.
 #[repr(C)]
 #[derive(Clone, Copy)]
 pub struct Ran {
@@ -39,52 +53,73 @@ pub struct Ran {
     pub len: usize,
 }
 
-// An unsound file.
-fn unsound() -> Opened
-    ensures { result ≡ opened_of none }
-{
-    let made = puzzle::make(0, 0, &[], &[]);
-    Opened {
-        code: u8::from(Refusal::UnsoundFile),
-        puzzle: made.puzzle,
-        at: 0,
-        count: 0,
+impl From<Result<Remaining, Refusal>> for Opened {
+    ghost from_gives = { λ answer opened. opened ≡ opened_in answer };
+
+    fn from(answer: Result<Remaining, Refusal>) -> Opened {
+        match answer {
+            Ok(Remaining { puzzle, at, count }) => Opened {
+                code: 0,
+                puzzle,
+                at,
+                count,
+            },
+            Err(refusal) => Opened {
+                code: u8::from(refusal),
+                puzzle: puzzle::make(0, 0, &[], &[]).puzzle,
+                at: 0,
+                count: 0,
+            },
+        }
     }
 }
 
-// The puzzle that a file's size, given walls and clues make.
-pub fn open(file: &[u8]) -> Opened
-    ensures { result ≡ opened_of (decode_of file.now) }
+impl Ran {
+    // What a run answered that began at a byte, and the puzzle that it left.
+    pub fn new(answer: Result<Progress, Refusal>, at: usize, puzzle: Puzzle) -> Ran
+        ensures { result ≡ ran_in answer at puzzle }
+    {
+        match answer {
+            Ok(Progress { at, done, len }) => Ran {
+                code: 0,
+                puzzle,
+                at,
+                done,
+                len,
+            },
+            Err(refusal) => Ran {
+                code: u8::from(refusal),
+                puzzle,
+                at,
+                done: 0,
+                len: 0,
+            },
+        }
+    }
+}
+
+// The puzzle that a file's size, given walls and clues make. An unsound file is refused (11), and so is what makes no puzzle.
+pub fn open(file: &[u8]) -> Result<Remaining, Refusal>
+    ensures { opened_in result ≡ opened_of (decode_of file.now) }
 {
-    let Ok(layout) = case_file::decode(file) else {
-        return unsound();
-    };
+    let layout = case_file::decode(file)?;
     let mut walls = [0u16; 30000];
     let _ = case_file::numbers(file, layout.walls, &mut walls);
     let mut clues = [0u16; 30000];
     let _ = case_file::numbers(file, layout.clues, &mut clues);
     let wall_count = layout.walls.count;
     let clue_count = layout.clues.count;
-    let made = puzzle::make(
+    let puzzle = Puzzle::new(
         layout.height,
         layout.width,
         &walls[..wall_count],
         &clues[..clue_count],
-    );
-    if made.code != 0 {
-        return Opened {
-            code: made.code,
-            puzzle: made.puzzle,
-            at: 0,
-            count: 0,
-        };
-    }
-    Opened {
-        code: 0,
-        puzzle: made.puzzle,
+    )?;
+    Ok(Remaining {
+        puzzle,
         at: layout.calls.at,
         count: layout.calls.count,
-    }
+    })
 }
 
 // A line without entries.
@@ -162,41 +197,36 @@ fn do_call(puzzle: &mut Puzzle, call: Call, out: &mut [u8]) -> usize
 
 // Runs so many calls of the file, from a byte on, and writes their lines to the buffer's front. It ends early at a call that is
 // unsound, and is refused where the buffer has fewer than `limits::LINE` places for each call.
-pub fn run_calls(file: &[u8], at: usize, count: usize, p: Puzzle, out: &mut [u8]) -> Ran
-    ensures value { result ≡ ran_of (code_in count (length out.old)) p at (done_in count (drop at file.now) (length out.old)) }
-    ensures out_after { out.new ≡ sets out.old 0 (printed_by p (done_in count (drop at file.now) (length out.old))) }
-    ensures len_in_bounds { result.len ≤ length out.old }
+pub fn run_calls(
+    file: &[u8],
+    at: usize,
+    count: usize,
+    puzzle: &mut Puzzle,
+    out: &mut [u8],
+) -> Result<Progress, Refusal>
+    ensures value { ran_in result at puzzle.new ≡ ran_of (code_in count (length out.old)) puzzle.old at (done_in count (drop at file.now) (length out.old)) }
+    ensures out_after { out.new ≡ sets out.old 0 (printed_by puzzle.old (done_in count (drop at file.now) (length out.old))) }
+    ensures len_in_bounds { length_in result ≤ length out.old }
 {
     if out.len() / limits::LINE < count {
-        return Ran {
-            code: 6,
-            puzzle: p,
-            at,
-            done: 0,
-            len: 0,
-        };
+        return Err(Refusal::ShortBuffer);
     }
-    let mut puzzle = p;
     let mut next = at;
     let mut len = 0;
     for done in 0..count {
         let Some((call, behind)) = case_file::call_at(file, next) else {
-            return Ran {
-                code: 0,
-                puzzle,
+            return Ok(Progress {
                 at: next,
                 done,
                 len,
-            };
+            });
         };
-        len += do_call(&mut puzzle, call, &mut out[len..]);
+        len += do_call(puzzle, call, &mut out[len..]);
         next = behind;
     }
-    Ran {
-        code: 0,
-        puzzle,
+    Ok(Progress {
         at: next,
         done: count,
         len,
-    }
+    })
 }

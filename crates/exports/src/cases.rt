@@ -29,7 +29,7 @@ pub extern "C" fn sendai_case_generate(
 pub extern "C" fn sendai_case_open(file: &[u8]) -> Opened
     ensures { result ≡ opened_of (decode_of file.now) }
 {
-    case_run::open(file)
+    Opened::from(case_run::open(file))
 }
 
 #[unsafe(no_mangle)]
@@ -44,5 +44,7 @@ pub extern "C" fn sendai_case_run(
     ensures out_after { out.new ≡ sets out.old 0 (printed_by p (done_in count (drop at file.now) (length out.old))) }
     ensures len_in_bounds { result.len ≤ length out.old }
 {
-    case_run::run_calls(file, at, count, p, out)
+    let mut puzzle = p;
+    let answer = case_run::run_calls(file, at, count, &mut puzzle, out);
+    Ran::new(answer, at, puzzle)
 }

@@ -49,7 +49,7 @@ fn write_call(call: Call, file: &mut [u8], at: usize) -> usize
     match call {
         Call::Undo => lists::put(&[0], file, at),
         Call::Decide(border, wall) => {
-            let kind = if wall { 2 } else { 1 };
+            let kind = 1 + u8::from(wall);
             let [high, low] = (border as u16).to_be_bytes();
             lists::put(&[kind, high, low], file, at)
         }

@@ -5,7 +5,7 @@ ghost use Rattle.std.specs.Prelude.{◌≡◌, ◌≤◌, length};
 ghost use Rattle.program.specs.Printing.{Prints};
 
 use answers::Refusal;
-use case_run::Opened;
+use case_run::Remaining;
 use lines::Line;
 use std::fs::File;
 use std::io;
@@ -20,36 +20,38 @@ fn large_buffer() -> [u8; 65536]
 }
 
 // One `refused` line.
-fn refuse(rt: &impl Print, code: u8) -> io::Result<()> {
+fn refuse(rt: &impl Print, refusal: Refusal) -> io::Result<()> {
     let mut out = large_buffer();
-    let len = lines::put_line(Line::Refused(code), &[], &mut out);
+    let len = lines::put_line(Line::Refused(u8::from(refusal)), &[], &mut out);
     rt.write_all(&out[..len])
 }
 
-// The calls of a file on its puzzle, one after the other: a call's line is out before the next call runs. What is left in `opened` is the puzzle after
-// the calls whose lines are out, and the calls behind these.
-fn print_calls(rt: &impl Print, file: &[u8], opened: &mut Opened) -> io::Result<()>
-    ensures { Prints file.now opened.old opened.new result }
+// The calls of a file on its puzzle, one after the other: a call's line is out before the next call runs. What is left in `remaining` is the puzzle
+// after the calls whose lines are out, and the calls behind these.
+fn print_calls(rt: &impl Print, file: &[u8], remaining: &mut Remaining) -> io::Result<()>
+    ensures { Prints file.now remaining.old remaining.new result }
 {
     let mut out = large_buffer();
-    for _ in 0..opened.count {
-        let ran = case_run::run_calls(file, opened.at, 1, opened.puzzle, &mut out);
-        let len = ran.len;
-        rt.write_all(&out[..len])?;
-        opened.puzzle = ran.puzzle;
-        opened.at = ran.at;
-        opened.count -= 1;
+    for _ in 0..remaining.count {
+        let mut puzzle = remaining.puzzle;
+        let progress = match case_run::run_calls(file, remaining.at, 1, &mut puzzle, &mut out) {
+            Ok(progress) => progress,
+            Err(refusal) => return refuse(rt, refusal),
+        };
+        rt.write_all(&out[..progress.len])?;
+        remaining.puzzle = puzzle;
+        remaining.at = progress.at;
+        remaining.count -= 1;
     }
     Ok(())
 }
 
 // What the program prints for the bytes of a file.
 fn print_case(rt: &impl Print, file: &[u8]) -> io::Result<()> {
-    let mut opened = case_run::open(file);
-    if opened.code != 0 {
-        return refuse(rt, opened.code);
+    match case_run::open(file) {
+        Ok(mut remaining) => print_calls(rt, file, &mut remaining),
+        Err(refusal) => refuse(rt, refusal),
     }
-    print_calls(rt, file, &mut opened)
 }
 
 // Reads until the buffer is full, the file ends or a read fails, and answers how many bytes it put at the buffer's start.
@@ -70,10 +72,10 @@ fn read_full(file: &mut impl Read, buffer: &mut [u8]) -> usize
 // What the program prints for a file; one that is missing is unsound, as is one whose name is no text.
 fn print_file(rt: &(impl Files + Print), name: &[u8]) -> io::Result<()> {
     let Ok(name) = std::str::from_utf8(name) else {
-        return refuse(rt, Refusal::UnsoundFile.into());
+        return refuse(rt, Refusal::UnsoundFile);
     };
     let Ok(mut file) = File::open(rt, name) else {
-        return refuse(rt, Refusal::UnsoundFile.into());
+        return refuse(rt, Refusal::UnsoundFile);
     };
     let mut buffer = large_buffer();
     let n = read_full(&mut file, &mut buffer);

@@ -6,7 +6,7 @@ use Rattle.case_run.proofs.RunLaws.{no_room, part_back, all_done, counted, stopp
 use Rattle.case_run.proofs.run_calls.Goals as goal
 
 pub returns-then-out-count : goal.returns-then-out-count
-returns-then-out-count c = let a = c.args in let w = no_room a.p a.file.now a.at a.count a.out.now c.if-out-count.true in record { value = w.0; out_after = w.1.0; len_in_bounds = w.1.1 }
+returns-then-out-count c = let a = c.args in let w = no_room a.puzzle.now a.file.now a.at a.count a.out.now c.if-out-count.true in record { value = w.0; out_after = w.1.0; len_in_bounds = w.1.1 }
 
 pub loop-done-preserved : goal.loop-done-preserved
 loop-done-preserved c =

@@ -6,12 +6,12 @@ use Rattle.program.proofs.print_calls.Goals as goal
 
 pub loop-preserved : goal.loop-preserved
 loop-preserved g c =
-    let k = c.run_calls-ran in
-    printing_next c.loop.invariant k.result k.new.out c.loop-test.true k.ensures.value k.auto.out
+    let k = c.run_calls in
+    printing_next c.loop.invariant c.in-Ok.progress k.new.puzzle k.new.out c.loop-test.true c.in-Ok.ensures.value k.auto.out
 
 pub returns-in_err-write_all : goal.returns-in_err-write_all
 returns-in_err-write_all g c =
-    let never : IsOk c.from_residual.result → c.args.opened.now.count ≤ c.loop.counter = search rules in
+    let never : IsOk c.from_residual.result → c.args.remaining.now.count ≤ c.loop.counter = search rules in
     stopped c.loop.invariant c.from_residual.result never
 
 pub returns : goal.returns

@@ -3,4 +3,4 @@ use Rattle.program.proofs.PrintLaws.{Printing}
 use Rattle.program.proofs.print_calls.Given as goal
 
 abbrev pub invariant-loop : goal.invariant-loop
-invariant-loop g l = Printing l.file l.initial.opened l.opened l.out l.counter
+invariant-loop g l = Printing l.file l.initial.remaining l.remaining l.out l.counter

@@ -5,10 +5,10 @@ use Rattle.program.proofs.refuse.Goals as goal
 
 pub slice_bounds-out-end : goal.slice_bounds-out-end
 slice_bounds-out-end g c =
-    let l = refused_lined c.args.code c.put_line-len.result c.large_buffer-out.result c.put_line-len.new.buffer (sym c.large_buffer-out.ensures) c.put_line-len.auto.buffer c.put_line-len.ensures.value in
+    let l = refused_lined _ c.put_line-len.result c.large_buffer-out.result c.put_line-len.new.buffer (sym c.large_buffer-out.ensures) c.put_line-len.auto.buffer c.put_line-len.ensures.value in
     l.within
 
 pub slice_bounds-write_all-end : goal.slice_bounds-write_all-end
 slice_bounds-write_all-end g c =
-    let l = refused_lined c.args.code c.put_line-len.result c.large_buffer-out.result c.put_line-len.new.buffer (sym c.large_buffer-out.ensures) c.put_line-len.auto.buffer c.put_line-len.ensures.value in
+    let l = refused_lined _ c.put_line-len.result c.large_buffer-out.result c.put_line-len.new.buffer (sym c.large_buffer-out.ensures) c.put_line-len.auto.buffer c.put_line-len.ensures.value in
     l.long
