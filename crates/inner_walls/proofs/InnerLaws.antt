@@ -1,5 +1,5 @@
 -- One Wall of the stage of inner Walls, by what the code tests. Assumes nothing.
-use Prim.Native.Nat.{ℕ, suc, ◌+◌, ◌*◌, ◌<◌}
+use Prim.Native.Nat.{ℕ, suc, ◌+◌, ◌*◌, ◌≤◌, ◌<◌}
 use mathlib.Core.Path.{◌≡◌, sym}
 use mathlib.Core.Logic.{◌≢◌}
 use mathlib.Core.List.{List, [], ◌∷◌, ◌++◌}
@@ -33,6 +33,10 @@ use Rattle.inner_walls.proofs.FindLaws.{finds_none}
 sets_last : (xs b : List ℕ) (at x : ℕ) → sets b at (xs ++ (x ∷ [])) ≡ set (sets b at xs) (at + length xs) x
 sets_last [] b at x = let q : at + 0 ≡ at = omega arith in rw q
 sets_last (y ∷ xs) b at x = let q : at + suc (length xs) ≡ suc at + length xs = omega arith in rw q (sets_last xs (set b at y) (suc at) x)
+
+-- what a Wall of these units asks
+pub asked : {g : Grid} {ids b : List ℕ} → cells g ≤ length ids → 9 * cells g ≤ length b → Asked g ids b
+asked h room = record { ids_long = h; room = room }
 
 module _ {g : Grid} {states ids b : List ℕ} (f : Fits g states) (a : Asked g ids b) {c : ℕ} (cell : Cell g c) (d : Direction) {r : Option Neighbour} (is : r ≡ neighbour_in g d c) where
   pub at_end : r ≡ None → Finds (inner_at g states ids c d) b b None

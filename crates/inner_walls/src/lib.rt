@@ -1,10 +1,10 @@
 // The first stage of the shape check: a Wall inside a unit.
 #![tactic(auto)]
 
-ghost use Rattle.std.specs.Prelude.{◌<◌};
+ghost use Rattle.std.specs.Prelude.{◌≡◌, ◌*◌, ◌<◌, ◌≤◌, length};
 ghost use Rattle.lists.specs.Lists.{first};
 ghost use Rattle.grid.specs.Orders.{forward};
-ghost use Rattle.grid.specs.Grid.{Cell};
+ghost use Rattle.grid.specs.Grid.{Cell, cells};
 ghost use Rattle.shape.specs.Shape.{inner_at, inner_wall};
 ghost use Rattle.answers.specs.Answers.{Finds};
 ghost use Rattle.inner_walls.specs.Asked.{Asked};
@@ -12,43 +12,47 @@ ghost use Rattle.inner_walls.specs.Asked.{Asked};
 use borders::Borders;
 use grid::{Direction, Neighbour};
 
-// The Wall that a cell has in a direction, if it lies inside a unit: the path between its cells, and then that Wall.
-fn inner_at(
-    b: Borders<'_>,
-    ids: &[u16],
-    cell: usize,
-    direction: Direction,
-    buffer: &mut [u16],
-) -> Option<usize>
-    requires asked { Asked b.grid ids.now buffer.old }
-    requires cell { Cell b.grid cell }
-    ensures { Finds (inner_at b.entry.grid b.entry.states.now ids.now cell direction) buffer.old buffer.new result }
-{
-    let Borders { grid, states, .. } = b;
-    let Neighbour { cell: next, border } = grid.step(cell, direction)?;
-    if states[border] != 2 {
-        return None;
-    }
-    if ids[cell] != ids[next] {
-        return None;
-    }
-    let n = path::list_joined(b, cell, next, buffer);
-    buffer[n] = borders::entry(border, true);
-    Some(n + 1)
+// A board's borders, and the unit of each cell.
+#[derive(Clone, Copy)]
+struct Units<'a> {
+    borders: Borders<'a>,
+    ids: &'a [u16],
+    ghost ids_long: { cells borders.grid ≤ length ids.now },
 }
 
-// A cell's Walls: down before right.
-fn inner_cell(b: Borders<'_>, ids: &[u16], cell: usize, buffer: &mut [u16]) -> Option<usize>
-    requires asked { Asked b.grid ids.now buffer.old }
-    requires cell { Cell b.grid cell }
-    ensures { Finds (first (inner_at b.entry.grid b.entry.states.now ids.now cell) forward) buffer.old buffer.new result }
-{
-    for direction in grid::FORWARD {
-        if let Some(n) = inner_at(b, ids, cell, direction, buffer) {
-            return Some(n);
+impl Units<'_> {
+    // The Wall that a cell has in a direction, if it lies inside a unit: the path between its cells, and then that Wall.
+    fn inner_at(self, cell: usize, direction: Direction, buffer: &mut [u16]) -> Option<usize>
+        requires room { 9 * cells self.borders.grid ≤ length buffer.old }
+        requires cell { Cell self.borders.grid cell }
+        ensures { Finds (inner_at self.entry.borders.grid self.entry.borders.states.now self.entry.ids.now cell direction) buffer.old buffer.new result }
+    {
+        let Borders { grid, states, .. } = self.borders;
+        let Neighbour { cell: next, border } = grid.step(cell, direction)?;
+        if states[border] != 2 {
+            return None;
         }
+        if self.ids[cell] != self.ids[next] {
+            return None;
+        }
+        let n = path::list_joined(self.borders, cell, next, buffer);
+        buffer[n] = borders::entry(border, true);
+        Some(n + 1)
     }
-    None
+
+    // A cell's Walls: down before right.
+    fn inner_cell(self, cell: usize, buffer: &mut [u16]) -> Option<usize>
+        requires room { 9 * cells self.borders.grid ≤ length buffer.old }
+        requires cell { Cell self.borders.grid cell }
+        ensures { Finds (first (inner_at self.entry.borders.grid self.entry.borders.states.now self.entry.ids.now cell) forward) buffer.old buffer.new result }
+    {
+        for direction in grid::FORWARD {
+            if let Some(n) = self.inner_at(cell, direction, buffer) {
+                return Some(n);
+            }
+        }
+        None
+    }
 }
 
 // All cells, row by row.
@@ -56,8 +60,9 @@ pub fn inner_wall(b: Borders<'_>, ids: &[u16], buffer: &mut [u16]) -> Option<usi
     requires { Asked b.grid ids.now buffer.old }
     ensures { Finds (inner_wall b.entry.grid b.entry.states.now ids.now) buffer.old buffer.new result }
 {
+    let units = Units { borders: b, ids };
     for cell in 0..b.grid.cell_count() {
-        if let Some(n) = inner_cell(b, ids, cell, buffer) {
+        if let Some(n) = units.inner_cell(cell, buffer) {
             return Some(n);
         }
     }

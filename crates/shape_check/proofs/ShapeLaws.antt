@@ -38,9 +38,6 @@ module _ {g : Grid} {states : List ℕ} (p : Fits g states) {ids starts flat : L
   pub starts_fit : count ≤ length starts
   starts_fit = made_starts_fit (arrays_lent p.limits) w
 
-  pub starts_part : length (take count starts) ≡ count
-  starts_part = length-take-le count starts starts_fit
-
   pub inner_asked : {b : List ℕ} → 9 * cells g ≤ length b → Asked g (take (cells g) ids) b
   inner_asked h = record { ids_long = omega (arith, ids_part); room = h }
 
@@ -68,4 +65,4 @@ module _ {g : Grid} {states : List ℕ} (p : Fits g states) {ids starts flat : L
 
     pub units_found : r ≡ std.None → {b'' : List ℕ} {r' : std.Option ℕ} → Finds (unit_stage g states (take (cells g) ids) (length (take count starts))) b' b'' r'
         → Finds (shape_fault g states) b b'' r'
-    units_found e u = stages _ _ _ (next e (rw starts_part at u))
+    units_found e u = stages _ _ _ (next e (rw (length-take-le count starts starts_fit) at u))

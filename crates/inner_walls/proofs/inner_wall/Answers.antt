@@ -12,7 +12,7 @@ loop-cell-init c = searched_none _ _ _ _
 pub inner_cell-requires : goal.inner_cell-requires
 inner_cell-requires c =
     let e = ap length c.loop-cell.invariant.same in
-    record { asked = record { ids_long = c.requires.ids_long; room = omega (arith, c.requires.room) }; cell = omega (arith, c.cell_count-cell-end.ensures) }
+    record { room = omega (arith, c.requires.room); cell = omega (arith, c.cell_count-cell-end.ensures) }
 
 pub returns-in-Some : goal.returns-in-Some
 unfolding inner_wall

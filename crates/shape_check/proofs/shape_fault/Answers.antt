@@ -1,8 +1,9 @@
 -- `shape_check::shape_fault` meets its contract: the units in its arrays, and the two stages. Assumes nothing.
 use mathlib.Core.Path.{sym}
+use lib.Seq.{length-take-le}
 use Rattle.groups.specs.Info.{blank_places}
 use Rattle.groups.proofs.Theorems.{arrays_lent, made}
-use Rattle.shape_check.proofs.ShapeLaws.{inner_fault, starts_fit, starts_part, checked, units_found}
+use Rattle.shape_check.proofs.ShapeLaws.{inner_fault, starts_fit, checked, units_found}
 use Rattle.shape_check.proofs.shape_fault.Goals as goal
 
 pub slice_bounds-starts-end : goal.slice_bounds-starts-end
@@ -11,7 +12,7 @@ slice_bounds-starts-end c = starts_fit c.args.b.fits c.group_cells-count.ensures
 
 pub slice_bounds-units-end-2 : goal.slice_bounds-units-end-2
 unfolding blank_places
-slice_bounds-units-end-2 c = sym (starts_part c.args.b.fits c.group_cells-count.ensures)
+slice_bounds-units-end-2 c = sym (length-take-le _ _ (starts_fit c.args.b.fits c.group_cells-count.ensures))
 
 pub invariant_of-units : goal.invariant_of-units
 unfolding blank_places

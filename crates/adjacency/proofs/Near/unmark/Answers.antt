@@ -3,9 +3,9 @@ use Rattle.adjacency.proofs.MarkLaws.{part_small, part_written, unmarked}
 use Rattle.adjacency.proofs.Near.unmark.Goals as goal
 
 pub write_marks-requires : goal.write_marks-requires
-write_marks-requires c = let m = c.requires in part_small _ m.rising m.list_long m.small
+write_marks-requires c = let m = c.requires in rw c.of.ensures (part_small _ m.rising m.list_long m.small)
 
 pub returns : goal.returns
 returns c =
     let r = c.requires in
-    λ g states pids count a k m. unmarked a _ k (part_written _ r.rising r.list_long c.write_marks.ensures) r.own m
+    λ g states pids count a k m. unmarked a _ k (part_written _ r.rising r.list_long (rw c.of.ensures at c.write_marks.ensures)) r.own m

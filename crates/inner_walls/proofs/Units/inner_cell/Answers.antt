@@ -1,9 +1,9 @@
--- `inner_walls::inner_cell` meets its contract: the directions passed found nothing. Assumes nothing.
+-- `inner_walls::Units::inner_cell` meets its contract: the directions passed found nothing. Assumes nothing.
 use mathlib.Core.Path.{ap}
 use native.Mathlib.Omega.{arith}
 use lib.ListN.{length}
 use Rattle.inner_walls.proofs.FindLaws.{searched_none, search_fault, search_on, search_over}
-use Rattle.inner_walls.proofs.inner_cell.Goals as goal
+use Rattle.inner_walls.proofs.Units.inner_cell.Goals as goal
 
 pub loop-direction-init : goal.loop-direction-init
 loop-direction-init c = searched_none _ _ _ _
@@ -11,7 +11,7 @@ loop-direction-init c = searched_none _ _ _ _
 pub inner_at-requires : goal.inner_at-requires
 inner_at-requires c =
     let e = ap length c.loop-direction.invariant.same in
-    record { asked = record { ids_long = c.requires.asked.ids_long; room = omega (arith, c.requires.asked.room) }; cell = c.requires.cell }
+    record { room = omega (arith, c.requires.room); cell = c.requires.cell }
 
 pub returns-in-Some : goal.returns-in-Some
 returns-in-Some c =
