@@ -109,10 +109,7 @@ impl From<Result<Board, Refusal>> for Decided {
             Ok(board) => Decided { code: 0, board },
             Err(refusal) => Decided {
                 code: u8::from(refusal),
-                board: Board::empty(Grid {
-                    height: 0,
-                    width: 0,
-                }),
+                board: Board::empty(Grid::default()),
             },
         }
     }
