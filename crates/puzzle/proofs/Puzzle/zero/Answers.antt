@@ -1,4 +1,4 @@
--- `puzzle::Puzzle::zero` meets its contract: all its arrays are zeros. Assumes nothing.
+-- `puzzle::Puzzle::zero` meets its contract: its book has no decision, and its lists are zeros. Assumes nothing.
 use mathlib.Core.Path.{refl}
 use Rattle.ledger.specs.Books.{zeros}
 use Rattle.puzzle.specs.Puzzle.{no_clues}
@@ -6,4 +6,4 @@ use Rattle.puzzle.proofs.Puzzle.zero.Goals as goal
 
 pub returns : goal.returns
 unfolding zeros no_clues
-returns c = refl
+returns c = rw c.new.ensures refl
