@@ -21,7 +21,7 @@ use Rattle.grid.specs.declared.Neighbour.{Neighbour}
 use Rattle.grid.specs.declared.Grid.{Grid}
 use Rattle.grid.specs.Grid.{Limits, Cell, row, col, goes_on, next, border, border_count}
 use Rattle.grid.specs.Neighbours.{neighbour_in}
-use Rattle.grid.proofs.Geometry.{goes_step, border_lt, border_count_le, row_lt, col_lt}
+use Rattle.grid.proofs.Geometry.{goes_step, border_lt, border_count_le}
 use Rattle.borders.specs.Entry.{entry_of}
 use Rattle.borders.specs.Border.{state_at, stands}
 use Rattle.borders.specs.Fits.{Fits}
@@ -35,7 +35,7 @@ use Rattle.offsets.specs.Reach.{Small}
 use Rattle.offsets.specs.Landings.{bad_of, kept_of, landing_of, fail_at, Turning}
 use Rattle.offsets.proofs.TableLaws.{unit_at_lem}
 use Rattle.offsets.proofs.PlaceLaws.{coordinate_moves, place_lands}
-use Rattle.offsets.proofs.ReachLaws.{Fell, fell, fell_cell}
+use Rattle.offsets.proofs.ReachLaws.{small_at, Fell, fell, fell_cell}
 
 module _ (g : Grid) (d : Direction) (c : ℕ) where
   pub lands_on : (e : ℕ) → std.Some e ≡ border_of (neighbour_in g d c) → (goes_on g d c ≡ true) × (e ≡ border g d c)
@@ -135,17 +135,7 @@ module _ {g : Grid} {states : List ℕ} {table : List CellInfo} {s : Shift} {c :
   fall = fell g s (row g c) (col g c) z t.falls.1
 
   pub turning_small : Small g s (row_in table c) (col_in table c)
-  turning_small =
-      let m = t.small in
-      record {
-        limits = m.limits;
-        from_row = m.from_row;
-        from_col = m.from_col;
-        to_row = m.to_row;
-        to_col = m.to_col;
-        row_small = omega (arith, tab.row_at c t.cell, row_lt g c t.cell, m.limits.height_fits);
-        col_small = omega (arith, tab.col_at c t.cell, col_lt g c t.cell, m.limits.width_fits);
-      }
+  turning_small = small_at t.small c t.cell (tab.row_at c t.cell) (tab.col_at c t.cell)
 
   module _ {r : std.Option ℕ} (lands-is : r ≡ landing_of g s (row_in table c) (col_in table c) d) where
     lands : r ≡ border_of (neighbour_in g d z)

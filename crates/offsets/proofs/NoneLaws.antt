@@ -24,16 +24,17 @@ unfolding is_none or_else
 none_or_else none q = refl
 none_or_else (some x) q = refl
 
+-- not one, and not the other
+pub neither : (a b : Bool) → both (not a) (not b) ≡ not (either a b)
+neither true b = refl
+neither false b = refl
+
 -- nothing is found where no test holds
 pub none_first : {A : Type 0} (f : A → Option ℕ) (p : A → Bool) (xs : List A) → ((x : A) → In x xs → is_none (f x) ≡ not (p x)) → is_none (first f xs) ≡ not (any p xs)
 unfolding first any is_none
 none_first f p [] h = refl
 none_first f p (x ∷ xs) h =
     none_or_else (f x) (first f xs) ∙ ap₂ both (h x (inl refl)) (none_first f p xs (λ y m. h y (inr m))) ∙ neither (p x) (any p xs)
-  where
-    neither : (a b : Bool) → both (not a) (not b) ≡ not (either a b)
-    neither true b = refl
-    neither false b = refl
 
 -- an offset is good where it is not passed over and nothing lands badly
 pub good_pick : (t : Bool) (o : Option ℕ) → is_good (pick t (landed o) Passed) ≡ both t (is_none o)

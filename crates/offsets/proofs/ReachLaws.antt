@@ -30,6 +30,19 @@ use Rattle.offsets.specs.Reach.{moved, Small, falls_off, falls_marked, reaches_o
 use Rattle.offsets.proofs.TableLaws.{unit_at_lem, potential_at}
 use Rattle.offsets.proofs.ToldLaws.{told_some, told_none}
 
+-- a shift that is small is so at each cell
+pub small_at : {g : Grid} {s : Shift} → Small g s 0 0 → (c : ℕ) → Cell g c → {y x : ℕ} → y ≡ row g c → x ≡ col g c → Small g s y x
+small_at {g} m c h row_is col_is =
+    record {
+      limits = m.limits;
+      from_row = m.from_row;
+      from_col = m.from_col;
+      to_row = m.to_row;
+      to_col = m.to_col;
+      row_small = omega (arith, row_is, row_lt g c h, m.limits.height_fits);
+      col_small = omega (arith, col_is, col_lt g c h, m.limits.width_fits);
+    }
+
 -- along a row or a column
 pub before_start : (n f t u : ℕ) {r : std.Option ℕ} → std.SomeIff r (f ≤ u + t) (u + t - f) → r ≡ std.None → std.None ≡ told (along n f t u)
 unfolding along give
@@ -155,17 +168,7 @@ module _ {g : Grid} {table : List CellInfo} {marks cs : List ℕ} {s : Shift} (t
     col_is = x-is ∙ tab.col_at c on_board_lem
 
     pub fall_small : Small g s y x
-    fall_small =
-        let m = small in
-        record {
-          limits = m.limits;
-          from_row = m.from_row;
-          from_col = m.from_col;
-          to_row = m.to_row;
-          to_col = m.to_col;
-          row_small = omega (arith, row_is, row_lt g c on_board_lem, m.limits.height_fits);
-          col_small = omega (arith, col_is, col_lt g c on_board_lem, m.limits.width_fits);
-        }
+    fall_small = small_at small c on_board_lem row_is col_is
 
     module _ {f : std.Option ℕ} (fall-is : f ≡ told (moved g s y x)) where
       moved_is : moved g s y x ≡ moved g s (row g c) (col g c)

@@ -26,16 +26,15 @@ pub fn fill(grid: Grid, ids: &[u16], pids: &[u16], table: &mut [CellInfo])
     requires { Fillable grid ids.now pids.now table.old }
     ensures { Filled grid ids.now pids.now table.new }
 {
-    let mut cell = 0;
     for row in 0..grid.height {
         for col in 0..grid.width {
+            let cell = row * grid.width + col;
             table[cell] = CellInfo {
                 row: row as u16,
                 col: col as u16,
                 unit: ids[cell],
                 potential: pids[cell],
             };
-            cell += 1;
         }
     }
 }

@@ -23,7 +23,7 @@ use Rattle.offsets.specs.Reach.{falls_off, falls_marked, reaches_of}
 use Rattle.offsets.specs.Landings.{kept_of, fail_at, fail_cell, first_fail, directions_of}
 use Rattle.offsets.specs.Trial.{shift_of, Placed}
 use Rattle.offsets.proofs.TableLaws.{potential_at}
-use Rattle.offsets.proofs.NoneLaws.{is_none, none_first}
+use Rattle.offsets.proofs.NoneLaws.{is_none, neither, none_first}
 use Rattle.offsets.proofs.TrialLaws.{head_in, good_is}
 use Rattle.words.specs.Words.{bit, Says, Full, reads}
 use Rattle.words.proofs.AnyLaws.{any_append, any_one, all_one, any_when, any_gather, all_gather}
@@ -39,10 +39,6 @@ both_swap true true c d = refl
 both_swap true false true d = refl
 both_swap true false false d = refl
 both_swap false b c d = refl
-
-neither : (a b : Bool) → both (not a) (not b) ≡ not (either a b)
-neither true b = refl
-neither false b = refl
 
 -- all are on, and none over
 all_split : (p q : ℕ → Bool) (xs : List ℕ) → all (λ x. both (p x) (not (q x))) xs ≡ both (all p xs) (not (any q xs))
