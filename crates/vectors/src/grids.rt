@@ -9,18 +9,8 @@ pub enum Call {
     Neighbour { cell: usize, direction: Direction },
 }
 
-// Any number from 3 on is the right.
-fn direction(number: usize) -> Direction {
-    match number {
-        0 => Direction::Up,
-        1 => Direction::Down,
-        2 => Direction::Left,
-        _ => Direction::Right,
-    }
-}
-
 impl Call {
-    // Any letter but this asks for a neighbour.
+    // Any letter but this asks for a neighbour. Any number from 3 on is the right.
     pub fn new(letter: u8, x: usize, y: usize) -> Call {
         match letter {
             b'm' => Call::Make {
@@ -29,7 +19,7 @@ impl Call {
             },
             _ => Call::Neighbour {
                 cell: x,
-                direction: direction(y),
+                direction: Direction::from(u8::try_from(y).unwrap_or(u8::MAX)),
             },
         }
     }
