@@ -12,10 +12,11 @@ use lib.Seq.{length-take-le}
 use Rattle.std.proofs.lemmas.List.{get_or-take}
 use Rattle.limits.specs.Limits.{most_cells}
 use Rattle.lists.specs.Choice.{both, pick}
-use Rattle.lists.specs.Lists.{count_from, range, all}
+use Rattle.lists.specs.Lists.{range, all}
+use Rattle.std.specs.List.{IsAllAdjacentAnswer}
 use Rattle.lists.proofs.Cases.{le_or_lt}
 use Rattle.lists.proofs.ChoiceLaws.{both_true, both_false, same_truth}
-use Rattle.lists.proofs.ListLaws.{all_step, all_end, all_true, all_not, true_all, range_in, in_range, in_get_d, get_d_in}
+use Rattle.lists.proofs.ListLaws.{all_true, all_not, true_all, range_in, in_range, in_get_d, get_d_in}
 use Rattle.grid.specs.declared.Grid.{Grid}
 use Rattle.grid.specs.Grid.{cells, sizes_ok, Limits}
 use Rattle.grid.proofs.Geometry.{limits, limits_ok, cells_le, cells_some}
@@ -26,18 +27,6 @@ use Rattle.board.proofs.Laws.{board_ready}
 use Rattle.groups.specs.declared.GroupInfo.{GroupInfo}
 use Rattle.groups.specs.Lent.{Lent, Grouped, Slot}
 use Rattle.groups.specs.Info.{blank_places, grouping, info_of, grouping_code, grouping_of, end_of, starts_rise, groups_exist, info_together, info_code, group_part, hand_out_of, hand_out_start, address_of}
-
--- A LOOP THAT TESTS ALL NUMBERS BELOW n
-
-module _ (p : ℕ → Bool) (n i : ℕ) (left : all p (count_from i (n - i)) ≡ all p (range n)) where
-  pub all_stops : i < n → p i ≡ false → all p (range n) ≡ false
-  all_stops h q = sym left ∙ all_step p n i h ∙ rw q
-
-  pub all_goes_on : i < n → p i ≡ true → all p (count_from (i + 1) (n - (i + 1))) ≡ all p (range n)
-  all_goes_on h q = sym (all_step p n i h ∙ rw q) ∙ left
-
-  pub all_over : n ≤ i → all p (range n) ≡ true
-  all_over h = sym left ∙ all_end p n i h
 
 -- QUESTION 2 OF A GROUP RECORD
 
@@ -54,13 +43,55 @@ module _ (n count : ℕ) (starts : List ℕ) where
   abbrev pub rises : ℕ → Bool
   rises k = ltb (get_or starts k 0) (end_of n count starts k)
 
-  pub not_from_zero : get_or starts 0 0 ≢ 0 → false ≡ starts_rise n count starts
+  pub not_from_zero : get_or starts 0 0 ≢ 0 → starts_rise n count starts ≡ false
   unfolding starts_rise
   not_from_zero q = rw (ne_eqb (get_or starts 0 0) 0 q)
 
-  pub by_rises : get_or starts 0 0 ≡ 0 → {t : Bool} → all rises (range count) ≡ t → t ≡ starts_rise n count starts
+  by_rises : get_or starts 0 0 ≡ 0 → starts_rise n count starts ≡ all rises (range count)
   unfolding starts_rise
-  by_rises q e = rw (eq-eqb (get_or starts 0 0) 0 q, e)
+  by_rises q = rw (eq-eqb (get_or starts 0 0) 0 q)
+
+-- starts rise where each is below the next, as the library tests, and the last below n
+module _ (n : ℕ) (starts : List ℕ) where
+  abbrev pub last : ℕ
+  last = get_or starts (length starts - 1) 0
+
+  abbrev pub each : ℕ → Bool
+  each = rises n (length starts) starts
+
+  sorted_rises : IsAllAdjacentAnswer (λ x y b. b ≡ ltb x y) starts true → last < n → all each (range (length starts)) ≡ true
+  sorted_rises h l =
+      true_all each (range (length starts))
+      (λ k m.
+      let i = in_range (length starts) k m in
+      ⊎_elim
+      (λ (e : length starts ≤ k + 1).
+      let z : k ≡ length starts - 1 = omega arith in
+      rw (← end_last n (length starts) starts k e, z) (lt-ltb last n l))
+      (λ (e : k + 1 < length starts). rw (← end_next n (length starts) starts k e) (sym (h k 0 e)))
+      (le_or_lt (length starts) (k + 1)))
+
+  falls : IsAllAdjacentAnswer (λ x y b. b ≡ ltb x y) starts false → all each (range (length starts)) ≡ false
+  falls h =
+      all_not each (range (length starts)) h.0 (range_in (length starts) h.0 (omega (arith, h.1)))
+      (rw (← end_next n (length starts) starts h.0 h.1) (sym (h.2 0)))
+
+  ends_late : 0 < length starts → n ≤ last → all each (range (length starts)) ≡ false
+  ends_late some l =
+      all_not each (range (length starts)) (length starts - 1) (range_in (length starts) (length starts - 1) (omega arith))
+      (rw (← end_last n (length starts) starts (length starts - 1) (omega arith)) (le-ltb last n l))
+
+  -- what the code answers where they begin with 0, and the library says whether they rise
+  module _ (zero_first : get_or starts 0 0 ≡ 0) {s : Bool} (h : IsAllAdjacentAnswer (λ x y b. b ≡ ltb x y) starts s) where
+    pub rising_told : s ≡ true → 0 < length starts → ltb last n ≡ starts_rise n (length starts) starts
+    rising_told e some =
+        ⊎_elim
+        (λ (l : n ≤ last). rw (le-ltb last n l) (sym (by_rises n (length starts) starts zero_first ∙ ends_late some l)))
+        (λ (l : last < n). rw (lt-ltb last n l) (sym (by_rises n (length starts) starts zero_first ∙ sorted_rises (rw e at h) l)))
+        (le_or_lt n last)
+
+    pub falling_told : s ≡ false → starts_rise n (length starts) starts ≡ false
+    falling_told e = by_rises n (length starts) starts zero_first ∙ falls (rw e at h)
 
 -- starts without the places behind the last group's
 module _ (n count : ℕ) (starts : List ℕ) (long : count ≤ length starts) where
