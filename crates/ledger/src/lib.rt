@@ -245,15 +245,21 @@ fn all_free(states: &[u8], entries: &[u16]) -> bool
     true
 }
 
-// Whether a state goes with a mark: 0 for undecided, 1 for a given wall, 2 for a border that the ledger names.
+// Whether a state goes with a mark: 0 for undecided, 1 for a given wall, 2 for a border that the ledger names. By a `match` the compiler does
+// not take many states at a time.
 fn fits(state: u8, mark: u8) -> bool
     ensures { result ≡ fits_of state mark }
 {
-    match mark {
-        0 => state == 0,
-        1 => state == 2,
-        _ => state == 1 || state == 2,
+    if mark == 0 {
+        return state == 0;
     }
+    if state == 2 {
+        return true;
+    }
+    if mark == 1 {
+        return false;
+    }
+    state == 1
 }
 
 // The border that a name or an entry names.
