@@ -1,9 +1,8 @@
--- What a caller learns from each case of a call that lists, of an ask and of a check. Assumes nothing.
-use Rattle.std.proofs.Common.{◌≡◌, ℕ, ◌<◌, List, length, ap, arith}
+-- What a caller learns from each case of a call that lists, and that no refusal has the number of none. Assumes nothing.
+use Rattle.std.proofs.Common.{◌≡◌, ℕ, ◌<◌, List, length, arith}
 use Rattle.std.specs.Prelude.{Ok, Err}
 use Rattle.answers.specs.declared.Refusal.{Refusal}
 use Rattle.answers.specs.declared.Refusal.TheVariants.{Size, Record, Missing, Decided, NothingToUndo, ShortBuffer, Unsorted, ClueCount, LargeClue, NotJoined, UnsoundFile, ManyUndecided, ZeroSeed, Repeated}
-use Rattle.answers.specs.declared.Plain.{Plain}
 use Rattle.answers.specs.Answers.{refused, listed}
 use Rattle.answers.specs.Refusals.{number_of, Lists}
 
@@ -24,25 +23,15 @@ some_number ManyUndecided = omega arith
 some_number ZeroSeed = omega arith
 some_number Repeated = omega arith
 
-code : Plain → ℕ
-code p = p.code
-
-count : Plain → ℕ
-count p = p.length
-
--- a call that lists: Ok tells the list's length, and Err the question's number
+-- a call that lists: Ok tells the list's length, and Err the question's number; neither stands for the other
 pub listed_ok : (l : List ℕ) (n : ℕ) → Lists (listed l) (Ok n) → n ≡ length l
-unfolding count
-listed_ok l n q = ap count q
+listed_ok l n q = cc
 
 pub listed_err : (l : List ℕ) (r : Refusal) → Lists (listed l) (Err r) → ⊥
-unfolding code
-listed_err l r q = omega (arith, some_number r, ap code q)
+listed_err l r q = let z : ◌≡◌ {A = ℕ} 0 1 = cc in omega arith
 
-pub refused_ok : (k n : ℕ) → Lists (refused k) (Ok n) → k ≡ 0
-unfolding code
-refused_ok k n q = omega (arith, ap code q)
+pub refused_ok : (k n : ℕ) → Lists (refused k) (Ok n) → ⊥
+refused_ok k n q = let z : ◌≡◌ {A = ℕ} 0 1 = cc in omega arith
 
 pub refused_err : (k : ℕ) (r : Refusal) → Lists (refused k) (Err r) → number_of r ≡ k
-unfolding code
-refused_err k r q = ap code q
+refused_err k r q = cc

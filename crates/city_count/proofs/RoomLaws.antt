@@ -13,8 +13,8 @@ use lib.Seq.{sets}
 use Rattle.limits.specs.Limits.{most_cells, most_borders}
 use Rattle.lists.specs.Choice.{both, pick}
 use Rattle.lists.proofs.ChoiceLaws.{both_true}
-use Rattle.answers.specs.Answers.{found, written, length_found, Finds}
-use Rattle.answers.specs.Refusals.{Answers, ask_plain, answer_plain}
+use Rattle.answers.specs.Answers.{found, written, answer_of, length_found, Finds}
+use Rattle.answers.specs.Refusals.{Answers, answer_in}
 use Rattle.std.specs.Prelude.{Ok}
 use Rattle.std.specs.Prelude as std
 use Rattle.ledger.specs.declared.Book.{Book}
@@ -113,7 +113,7 @@ asked r {buffer} z h {o} e k =
     let a : ask_of r (length buffer) ≡ found o = simp (z, le-leb r.edges (length buffer) h, sym e) in
     rw (a, k.answer) (says o, k.stored)
   where
-    says : (o : Option (List ℕ)) → ask_plain (Ok (length_found o)) ≡ answer_plain (found o)
+    says : (o : Option (List ℕ)) → answer_in (Ok (length_found o)) ≡ answer_of (found o)
     says none = refl
     says (some l) = refl
 
