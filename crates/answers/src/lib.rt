@@ -5,9 +5,6 @@ ghost use Rattle.std.specs.Prelude.{◌≡◌, false};
 ghost use Rattle.answers.specs.Answers.{plain};
 ghost use Rattle.answers.specs.Refusals.{number_of, code_of, result_plain, ask_plain};
 
-use std::error::Error;
-use std::fmt;
-
 // An answer as numbers: code 0, or the refusal's number; whether a fault was found; how many places of the buffer hold a list.
 #[repr(C)]
 #[derive(Clone, Copy)]
@@ -57,29 +54,6 @@ impl From<Refusal> for u8 {
         refusal as u8
     }
 }
-
-impl fmt::Display for Refusal {
-    fn fmt<W: fmt::Write>(&self, f: &mut fmt::Formatter<W>) -> fmt::Result {
-        f.write_str(match self {
-            Refusal::Size => "the size is outside its limits",
-            Refusal::Record => "the record does not hold together",
-            Refusal::Missing => "there is no such cell, border, vertex, edge or group",
-            Refusal::Decided => "the border is decided already",
-            Refusal::NothingToUndo => "there is nothing to take back",
-            Refusal::ShortBuffer => "the buffer has too few places",
-            Refusal::Unsorted => "the given walls do not rise",
-            Refusal::ClueCount => "there is not one clue for each room",
-            Refusal::LargeClue => "a clue is above its room's size",
-            Refusal::NotJoined => "no Connected borders join the cells",
-            Refusal::UnsoundFile => "the case file is unsound",
-            Refusal::ManyUndecided => "too many borders are undecided",
-            Refusal::ZeroSeed => "the seed is 0",
-            Refusal::Repeated => "a border stands twice in the stroke",
-        })
-    }
-}
-
-impl Error for Refusal {}
 
 // The number of the question that refuses, or 0.
 pub fn code_of(checked: Result<(), Refusal>) -> u8
