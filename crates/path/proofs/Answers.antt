@@ -18,7 +18,6 @@ use Rattle.board.specs.declared.Board.{Board}
 use Rattle.board.specs.Board.{size_of, board_code}
 use Rattle.std.specs.Prelude.{Result, Ok, Err, not, is_some, None, Option as Maybe}
 use Rattle.std.specs.Result.{result_unwrap_or}
-use Rattle.answers.specs.declared.Plain.{Plain}
 use Rattle.answers.specs.declared.Refusal.{Refusal}
 use Rattle.answers.specs.Refusals.{number_of, Lists as Answered}
 use Rattle.borders.specs.Fits.{Fits}
@@ -27,7 +26,7 @@ use Rattle.path.specs.declared.FoundBy.{FoundBy}
 use Rattle.path.specs.Trace.{Notes, Traced, Asks, Fresh, Back, Walks}
 use Rattle.path.specs.Answer.{joined, path_outcome}
 use Rattle.answers.specs.Answers.{Outcome, refused, listed, list_of, written}
-use Rattle.answers.proofs.RefusalLaws.{some_number}
+use Rattle.answers.proofs.RefusalLaws.{listed_ok, listed_err, refused_ok}
 use Rattle.path.proofs.Found.{new_none, old_some}
 use Rattle.path.proofs.PathLaws.{ended, leads_nowhere, path_short}
 
@@ -108,10 +107,10 @@ gives_list o p n buffer buffer' q k = rw (q, k.0) (refl, k.1)
 
 -- the same as a list and its length, of which there is none where nothing was found
 pub length_told : (o : Option (List ℕ)) (r : Result ℕ Refusal) (buffer buffer' : List ℕ) → Gives (joined o) buffer r buffer' → (result_unwrap_or r 0 ≡ length (list_of o)) × (buffer' ≡ sets buffer 0 (list_of o))
-length_told none (Ok n) buffer buffer' k = absurd (let z : ◌≡◌ {A = ℕ} 0 10 = ap (λ (p : Plain). p.code) k.0 in omega arith)
+length_told none (Ok n) buffer buffer' k = absurd (refused_ok 10 n k.0)
 length_told none (Err e) buffer buffer' k = (refl, k.1)
-length_told (some p) (Ok n) buffer buffer' k = (ap (λ (p : Plain). p.length) k.0, k.1)
-length_told (some p) (Err e) buffer buffer' k = absurd (let z : number_of e ≡ 0 = ap (λ (p : Plain). p.code) k.0 in omega (arith, some_number e))
+length_told (some p) (Ok n) buffer buffer' k = (listed_ok p n k.0, k.1)
+length_told (some p) (Err e) buffer buffer' k = absurd (listed_err p e k.0)
 
 -- A CALL that no question before the search refuses
 
