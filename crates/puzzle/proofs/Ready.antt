@@ -23,8 +23,10 @@ use Rattle.ledger.specs.Books.{book_holds}
 use Rattle.ledger.specs.Marks.{given_in}
 use Rattle.ledger.specs.Moves.{GivenMarks, Held}
 use Rattle.rooms.specs.Rooms.{is_given, room_count}
-use Rattle.rooms.specs.Lent.{puts, Given, Blank}
-use Rattle.rooms.proofs.PutLaws.{puts_length, marks_in}
+use Rattle.lists.specs.Writes.{puts}
+use Rattle.lists.proofs.WritesLaws.{puts_length}
+use Rattle.rooms.specs.Lent.{Given, Blank}
+use Rattle.rooms.proofs.PutLaws.{marks_in}
 use Rattle.clues.specs.Clues.{lists_code}
 use Rattle.clues.proofs.Fitting.{lists_fit}
 use Rattle.puzzle.specs.declared.Puzzle.{Puzzle}

@@ -3,11 +3,12 @@
 
 ghost use Rattle.std.specs.Prelude.{◌≡◌, ◌*◌, ◌≤◌, length};
 ghost use Rattle.limits.specs.Limits.{most_borders, most_cells};
+ghost use Rattle.lists.specs.Writes.{Below};
 ghost use Rattle.ledger.specs.Ledger.{decisions};
 ghost use Rattle.ledger.specs.Books.{book_holds};
 ghost use Rattle.grid.specs.Grid.{cells};
 ghost use Rattle.rooms.specs.Rooms.{is_given};
-ghost use Rattle.rooms.specs.Lent.{Below, Given, Blank};
+ghost use Rattle.rooms.specs.Lent.{Given, Blank};
 ghost use Rattle.answers.specs.Refusals.{code_of};
 ghost use Rattle.puzzle.specs.Fault.{fault_of};
 ghost use Rattle.puzzle.specs.Puzzle.{fresh_puzzle, zero_puzzle, answer, made, make_of, puzzle_code, grid_of, given_of, clues_of, borders_of, book_of, stroke_of, decide_of, undo_of, told, answer_in, writes, ask_of};
@@ -81,7 +82,7 @@ impl Puzzle {
         ensures { self.new ≡ fresh_puzzle grid given.now clues.now }
     {
         self.board.grid = grid;
-        rooms::put(given, 2, &mut self.board.book.states);
+        lists::write_at(given, 2, &mut self.board.book.states);
         self.given[..given.len()].copy_from_slice(given);
         self.given_len = given.len();
         self.clues[..clues.len()].copy_from_slice(clues);
@@ -140,7 +141,7 @@ impl Puzzle {
         requires blank { Blank (grid_of self.now) marks.old }
         ensures { result ≡ book_holds (borders_of self.now) (is_given (given_of self.now)) (book_of self.now) }
     {
-        rooms::put(self.given(), 1, marks);
+        lists::write_at(self.given(), 1, marks);
         self.board.book.holds(self.board.grid.border_count(), marks)
     }
 

@@ -20,8 +20,9 @@ use Rattle.grid.specs.declared.Grid.{Grid}
 use Rattle.grid.specs.Grid.{Cell, goes_on, next, border, border_count}
 use Rattle.grid.specs.Orders.{forward}
 use Rattle.grid.proofs.Geometry.{goes_step, border_lt, cells_le}
+use Rattle.lists.specs.Writes.{Below}
 use Rattle.rooms.specs.RoomGraph.{is_in, in_room, place, border_of}
-use Rattle.rooms.specs.Lent.{nowhere, numbered, marked_in, Below, Housed, edge_of}
+use Rattle.rooms.specs.Lent.{nowhere, numbered, marked_in, Housed, edge_of}
 use Rattle.rooms.proofs.Places.{once}
 use Rattle.rooms.proofs.RoomLaws.{is_in_lem}
 use Rattle.rooms.proofs.NumberLaws.{vertex_marked, vertex_is}
