@@ -187,10 +187,7 @@ impl Puzzle {
         ensures grid { result.grid ≡ grid_of self.now }
         ensures states { result.states.now ≡ (book_of self.now).states }
     {
-        Borders {
-            grid: self.board.grid,
-            states: &self.board.book.states,
-        }
+        self.board.borders()
     }
 
     // The board as it stands, with its given walls and clues.
