@@ -58,6 +58,13 @@ abbrev pub edge_of : Grid → List ℕ → List ℕ → ℕ → Direction → Op
 edge_of g marks vertex c d =
     pick (in_room g (marked_in marks) (marked_in vertex) c d) (Some (record { cell = next g d c; border = border g d c })) None
 
+-- the cell there has its place and its vertex, and the border between its place
+pub record There (g : Grid) (vertex : List ℕ) (n : Neighbour) : Type 0 where
+  pub cell_lt : n.cell < most_cells
+  pub has_vertex : 1 ≤ get_or vertex n.cell 0
+  pub border_lt : n.border < border_count g
+  pub border_most : n.border < most_borders
+
 -- each is greater than the one before
 abbrev pub Rising : List ℕ → Type 0
 Rising xs = (i j : ℕ) → i < j → j < length xs → get_or xs i 0 < get_or xs j 0
