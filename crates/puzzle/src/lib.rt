@@ -6,12 +6,12 @@ ghost use Rattle.limits.specs.Limits.{most_borders, most_cells};
 ghost use Rattle.lists.specs.Writes.{Below};
 ghost use Rattle.ledger.specs.Ledger.{decisions};
 ghost use Rattle.ledger.specs.Books.{book_holds};
-ghost use Rattle.grid.specs.Grid.{cells};
+ghost use Rattle.grid.specs.Grid.{Limits, cells};
 ghost use Rattle.rooms.specs.Rooms.{is_given};
 ghost use Rattle.rooms.specs.Lent.{Given, Blank};
 ghost use Rattle.answers.specs.Refusals.{code_of};
 ghost use Rattle.puzzle.specs.Fault.{fault_of};
-ghost use Rattle.puzzle.specs.Puzzle.{fresh_puzzle, zero_puzzle, answer, made, make_of, puzzle_code, grid_of, given_of, clues_of, borders_of, book_of, stroke_of, decide_of, undo_of, told, answer_in, writes, ask_of};
+ghost use Rattle.puzzle.specs.Puzzle.{fresh_puzzle, zero_puzzle, answer, made, make_of, together, puzzle_code, grid_of, given_of, clues_of, borders_of, book_of, stroke_of, decide_of, undo_of, told, answer_in, writes, ask_of};
 
 use answers::Refusal;
 use board::Board;
@@ -159,6 +159,19 @@ impl Puzzle {
         self.holds_in(&mut marks)
     }
 
+    // Question 2: the arrays hold the lists, a making would accept them, and the ledger holds.
+    #[tactic(auto, unfolding(crate::specs::Puzzle::together))]
+    fn holds_together(&self) -> bool
+        requires { Limits (grid_of self.now) }
+        ensures { result ≡ together self.now }
+    {
+        if limits::BORDERS < self.given_len || limits::CELLS < self.clues_len {
+            return false;
+        }
+        let lists = clues::check_lists(self.board.grid, self.given(), self.clues());
+        lists.is_ok() && self.ledger_holds()
+    }
+
     // Questions 1 and 2: whether a record holds together.
     pub fn check(&self) -> Result<(), Refusal>
         ensures { code_of result ≡ puzzle_code self.now }
@@ -166,16 +179,7 @@ impl Puzzle {
         if !self.board.grid.is_within_limits() {
             return Err(Refusal::Size);
         }
-        if limits::BORDERS < self.given_len {
-            return Err(Refusal::Record);
-        }
-        if limits::CELLS < self.clues_len {
-            return Err(Refusal::Record);
-        }
-        if clues::check_lists(self.board.grid, self.given(), self.clues()).is_err() {
-            return Err(Refusal::Record);
-        }
-        if !self.ledger_holds() {
+        if !self.holds_together() {
             return Err(Refusal::Record);
         }
         Ok(())
