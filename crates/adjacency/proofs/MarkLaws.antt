@@ -10,7 +10,11 @@ use lib.Dec.{eqb}
 use lib.ListN.{get_or, length, set, take, drop, length-set, length-drop, get_or-eq_default}
 use lib.Seq.{get_or-set_same, get_or-set_other, get_or-take, get_or-drop, length-take-le}
 use Rattle.lists.specs.Choice.{either}
+use Rattle.lists.specs.Lists.{In}
+use Rattle.lists.specs.Writes.{puts, Below}
 use Rattle.lists.proofs.Cases.{eq_or_ne, le_or_lt, true_or_false, not_both}
+use Rattle.lists.proofs.ListLaws.{get_d_in, in_get_d}
+use Rattle.lists.proofs.WritesLaws.{at_below, puts_here, puts_other, puts_length}
 use Rattle.grid.specs.declared.Grid.{Grid}
 use Rattle.groups.specs.Groups.{cells_of}
 use Rattle.shape.specs.Shape.{parted, adjacent}
@@ -43,23 +47,28 @@ module _ (list : List ℕ) {from to : ℕ} (h : from ≤ to) (l : to ≤ length 
   part_at : (i : ℕ) → i < to - from → get_or (take (to - from) (drop from list)) i 0 ≡ get_or list (from + i) 0
   part_at i k = get_or-take (to - from) (drop from list) i 0 k ∙ get_or-drop from list i 0
 
-  pub part_small : {n : ℕ} → ((i : ℕ) → from ≤ i → i < to → get_or list i 0 < n) → (i : ℕ) → i < length (take (to - from) (drop from list))
-      → get_or (take (to - from) (drop from list)) i 0 < n
-  part_small s i k =
-      let j : i < to - from = rw part_long at k in rw (part_at i j) (s (from + i) (omega arith) (omega arith))
+  pub part_below : {n : ℕ} → ((i : ℕ) → from ≤ i → i < to → get_or list i 0 < n) → Below n (take (to - from) (drop from list))
+  part_below s =
+      at_below _ _ (λ i k. let j : i < to - from = rw part_long at k in rw (part_at i j) (s (from + i) (omega arith) (omega arith)))
 
-  pub part_written : {mark : ℕ} {marks marks' : List ℕ} → Written (take (to - from) (drop from list)) 0 (length (take (to - from) (drop from list))) mark marks marks'
+  -- each place of the part has the mark
+  pub part_written : {mark : ℕ} {marks marks' : List ℕ} → Below (length marks) (take (to - from) (drop from list)) → marks' ≡ puts (take (to - from) (drop from list)) mark marks
       → Written list from to mark marks marks'
-  part_written w =
+  part_written {mark} {marks} b e =
+      let part = take (to - from) (drop from list) in
+      rw e
       record {
-        here = λ i a b.
+        here = λ i a k.
             let j : i - from < to - from = omega arith in
-            let e : from + (i - from) ≡ i = omega arith in
-            rw (part_at (i - from) j, e) at (w.here (i - from) (omega arith) (rw part_long j));
+            let z : from + (i - from) ≡ i = omega arith in
+            let m : In (get_or list i 0) part = rw (part_at (i - from) j, z) at (get_d_in 0 part (i - from) (rw part_long j)) in
+            puts_here part mark marks b (get_or list i 0) m;
         other = λ q n.
-            w.other q
-            (λ i a b z. let j : i < to - from = rw part_long at b in n (from + i) (omega arith) (omega arith) (sym (part_at i j) ∙ z));
-        long = w.long;
+            puts_other part mark marks b q
+            (λ m. let o = in_get_d 0 q part m in
+            let j : o.0 < to - from = rw part_long at o.1 in
+            n (from + o.0) (omega arith) (omega arith) (sym (part_at o.0 j) ∙ o.2));
+        long = puts_length part mark marks;
       }
 
 module _ (g : Grid) (states pids : List ℕ) (p q : ℕ) where

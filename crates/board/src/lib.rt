@@ -3,6 +3,7 @@
 
 ghost use Rattle.std.specs.Prelude.{◌≡◌};
 ghost use Rattle.answers.specs.Refusals.{code_of};
+ghost use Rattle.grid.specs.Grid.{Limits};
 ghost use Rattle.ledger.specs.Ledger.{decisions};
 ghost use Rattle.board.specs.Board.{fresh_board, answer, made, make_of, board_code, stroke_of, decide_of, undo_of};
 
@@ -66,7 +67,7 @@ impl Board {
 
     // The borders as they stand.
     pub fn borders(&self) -> Borders<'_>
-        requires { board_code self.now ≡ 0 }
+        requires { Limits self.now.grid }
         ensures grid { result.grid ≡ self.now.grid }
         ensures states { result.states.now ≡ self.now.book.states }
     {

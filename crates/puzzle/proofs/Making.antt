@@ -20,10 +20,12 @@ use Rattle.board.specs.declared.Board.{Board}
 use Rattle.puzzle.specs.declared.Puzzle.{Puzzle}
 use Rattle.rooms.specs.Rooms.{is_given}
 use Rattle.puzzle.specs.Puzzle.{no_clues, fresh_board, fresh_puzzle, zero_puzzle, answer, make_code, make_of, given_of, clues_of, states_of, fresh_state}
-use Rattle.rooms.specs.Lent.{unmarked, puts, Below}
+use Rattle.lists.specs.Writes.{puts, Below}
+use Rattle.lists.proofs.WritesLaws.{puts_length, puts_at}
+use Rattle.rooms.specs.Lent.{unmarked}
 use Rattle.rooms.proofs.RoomLaws.{given_in_lem, rooms_few}
 use Rattle.lists.proofs.ListLaws.{zeros_at}
-use Rattle.rooms.proofs.PutLaws.{puts_length, puts_at, unmarked_length}
+use Rattle.rooms.proofs.PutLaws.{unmarked_length}
 use Rattle.clues.specs.Clues.{lists_code}
 use Rattle.clues.proofs.Fitting.{Fit, lists_fit, rises_length}
 use Rattle.puzzle.proofs.Basics.{states_are}
@@ -80,7 +82,7 @@ module _ (h w : ℕ) (given clues : List ℕ) where
 
 -- 2 at each given wall of zeros: the states of a fresh board
 fresh_states : (given : List ℕ) → Below most_borders given → puts given 2 unmarked ≡ states_of most_borders (fresh_state given)
-unfolding unmarked
+unfolding unmarked is_given
 fresh_states given w =
     states_are most_borders (fresh_state given) (puts given 2 unmarked) (puts_length given 2 unmarked ∙ unmarked_length)
     (λ e h. puts_at given 2 unmarked (λ x m. rw unmarked_length (w x m)) e ∙ ap (pick (is_given given e) 2) (zeros_at most_borders e))

@@ -1,15 +1,10 @@
--- Questions 1 and 2 of a puzzle: a law for each answer, and what an accepted puzzle is like. Assumes nothing.
-use Prim.Native.Nat.{ℕ, ◌≤◌, ◌<◌}
-use mathlib.Core.Path.{◌≡◌, refl, ap, sym, ◌∙◌, fun_ext}
-use mathlib.Core.Logic.{◌≢◌}
-use mathlib.Core.Bool.{Bool, true, false, true≢false}
-use Rattle.std.specs.Prelude.{Result, Ok, Err, is_err}
-use Rattle.answers.specs.declared.Refusal.{Refusal}
-use Rattle.answers.specs.Refusals.{code_of}
-use Rattle.answers.proofs.RefusalLaws.{some_number}
+-- What a puzzle is like that questions 1 and 2 accept, and its given walls as marks. Assumes nothing.
+use Prim.Native.Nat.{ℕ, ◌≤◌}
+use mathlib.Core.Path.{◌≡◌, refl, ap, ◌∙◌, fun_ext}
+use mathlib.Core.Bool.{Bool, true, false}
 use mathlib.Core.List.{List}
 use native.Mathlib.Omega.{arith}
-use borrow.Author.Tests.{eqb-true, eq-eqb, ne_eqb, le-leb, lt-leb, leb-true}
+use borrow.Author.Tests.{eqb-true, leb-true}
 use lib.Dec.{eqb}
 use lib.ListN.{length}
 use Rattle.limits.specs.Limits.{most_borders, most_cells}
@@ -23,32 +18,14 @@ use Rattle.ledger.specs.Books.{book_holds}
 use Rattle.ledger.specs.Marks.{given_in}
 use Rattle.ledger.specs.Moves.{GivenMarks, Held}
 use Rattle.rooms.specs.Rooms.{is_given, room_count}
-use Rattle.rooms.specs.Lent.{puts, Given, Blank}
-use Rattle.rooms.proofs.PutLaws.{puts_length, marks_in}
+use Rattle.lists.specs.Writes.{puts}
+use Rattle.lists.proofs.WritesLaws.{puts_length}
+use Rattle.rooms.specs.Lent.{Given, Blank}
+use Rattle.rooms.proofs.PutLaws.{marks_in}
 use Rattle.clues.specs.Clues.{lists_code}
 use Rattle.clues.proofs.Fitting.{lists_fit}
 use Rattle.puzzle.specs.declared.Puzzle.{Puzzle}
 use Rattle.puzzle.specs.Puzzle.{grid_of, book_of, borders_of, given_of, clues_of, together, puzzle_code}
-
--- a check of the lists as they are handed out, by whether it is an error
-refused : (r : Result (Unit {0}) Refusal) → is_err r ≡ true → code_of r ≢ 0
-refused (Ok x) q = absurd (true≢false (sym q))
-refused (Err e) q = λ z. omega (arith, some_number e, z)
-
-passed : (r : Result (Unit {0}) Refusal) → is_err r ≡ false → code_of r ≡ 0
-passed (Ok x) q = refl
-passed (Err e) q = absurd (true≢false q)
-
-module _ (p : Puzzle) {walls counts : List ℕ} (w : walls ≡ given_of p) (k : counts ≡ clues_of p) (r : Result (Unit {0}) Refusal)
-    (e : code_of r ≡ lists_code (grid_of p) walls counts) {t : Bool} (q : t ≡ is_err r) where
-  code : code_of r ≡ lists_code (grid_of p) (given_of p) (clues_of p)
-  code = rw (← w, ← k) e
-
-  pub refused_lists : t ≡ true → lists_code (grid_of p) (given_of p) (clues_of p) ≢ 0
-  refused_lists o z = refused r (sym q ∙ o) (code ∙ z)
-
-  pub passed_lists : t ≡ false → lists_code (grid_of p) (given_of p) (clues_of p) ≡ 0
-  passed_lists o = sym code ∙ passed r (sym q ∙ o)
 
 -- a puzzle that questions 1 and 2 accept
 pub record Ready (p : Puzzle) : Type 0 where
@@ -58,45 +35,21 @@ pub record Ready (p : Puzzle) : Type 0 where
   pub lists : lists_code (grid_of p) (given_of p) (clues_of p) ≡ 0
   pub holds : book_holds (borders_of p) (is_given (given_of p)) (book_of p) ≡ true
 
-module _ (p : Puzzle) where
-  module _ (ok : sizes_ok (grid_of p) ≡ true) where
-    by_question : (t : Bool) → together p ≡ t → pick t 0 2 ≡ puzzle_code p
-    by_question t q = rw (ok, q)
+pub ready : (p : Puzzle) → puzzle_code p ≡ 0 → Ready p
+unfolding together
+ready p = go (sizes_ok (grid_of p)) refl (together p) refl
+  where
+    facts : Limits (grid_of p) → together p ≡ true → Ready p
+    facts l q =
+        let x = both_true _ _ q in
+        let y = both_true _ _ x.0 in
+        let z = both_true _ _ y.0 in
+        record { limits = l; given_fits = leb-true _ _ z.0; clues_fit = leb-true _ _ z.1; lists = eqb-true _ _ y.1; holds = x.1 }
 
-    pub many_walls : most_borders < p.given_len → 2 ≡ puzzle_code p
-    many_walls h = by_question false (unfold together in rw (lt-leb p.given_len most_borders h))
-
-    module _ (a : p.given_len ≤ most_borders) where
-      pub many_clues : most_cells < p.clues_len → 2 ≡ puzzle_code p
-      many_clues h = by_question false (unfold together in rw (le-leb p.given_len most_borders a, lt-leb p.clues_len most_cells h))
-
-      module _ (b : p.clues_len ≤ most_cells) where
-        pub bad_lists : lists_code (grid_of p) (given_of p) (clues_of p) ≢ 0 → 2 ≡ puzzle_code p
-        bad_lists h =
-            by_question false
-            (unfold together in rw (le-leb p.given_len most_borders a, le-leb p.clues_len most_cells b, ne_eqb (lists_code (grid_of p) (given_of p) (clues_of p)) 0 h))
-
-        pub by_ledger : lists_code (grid_of p) (given_of p) (clues_of p) ≡ 0 → (t : Bool) → book_holds (borders_of p) (is_given (given_of p)) (book_of p) ≡ t → pick t 0 2 ≡ puzzle_code p
-        by_ledger c t q =
-            by_question t
-            (unfold together in
-            rw (le-leb p.given_len most_borders a, le-leb p.clues_len most_cells b, eq-eqb (lists_code (grid_of p) (given_of p) (clues_of p)) 0 c, q))
-
-  pub ready : puzzle_code p ≡ 0 → Ready p
-  unfolding together
-  ready = go (sizes_ok (grid_of p)) refl (together p) refl
-    where
-      facts : Limits (grid_of p) → together p ≡ true → Ready p
-      facts l q =
-          let x = both_true _ _ q in
-          let y = both_true _ _ x.0 in
-          let z = both_true _ _ y.0 in
-          record { limits = l; given_fits = leb-true _ _ z.0; clues_fit = leb-true _ _ z.1; lists = eqb-true _ _ y.1; holds = x.1 }
-
-      go : (a : Bool) → sizes_ok (grid_of p) ≡ a → (b : Bool) → together p ≡ b → ◌≡◌ {A = ℕ} (pick a (pick b 0 2) 1) 0 → Ready p
-      go true s true q z = facts (limits (grid_of p) s) q
-      go true s false q z = absurd (omega arith)
-      go false s b q z = absurd (omega arith)
+    go : (a : Bool) → sizes_ok (grid_of p) ≡ a → (b : Bool) → together p ≡ b → ◌≡◌ {A = ℕ} (pick a (pick b 0 2) 1) 0 → Ready p
+    go true s true q z = facts (limits (grid_of p) s) q
+    go true s false q z = absurd (omega arith)
+    go false s b q z = absurd (omega arith)
 
 -- THE MARKS of given walls
 module _ (g : Grid) (given : List ℕ) (w : Given g given) {xs : List ℕ} (b : Blank g xs) where

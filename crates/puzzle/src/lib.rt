@@ -3,14 +3,15 @@
 
 ghost use Rattle.std.specs.Prelude.{◌≡◌, ◌*◌, ◌≤◌, length};
 ghost use Rattle.limits.specs.Limits.{most_borders, most_cells};
+ghost use Rattle.lists.specs.Writes.{Below};
 ghost use Rattle.ledger.specs.Ledger.{decisions};
 ghost use Rattle.ledger.specs.Books.{book_holds};
-ghost use Rattle.grid.specs.Grid.{cells};
+ghost use Rattle.grid.specs.Grid.{Limits, cells};
 ghost use Rattle.rooms.specs.Rooms.{is_given};
-ghost use Rattle.rooms.specs.Lent.{Below, Given, Blank};
+ghost use Rattle.rooms.specs.Lent.{Given, Blank};
 ghost use Rattle.answers.specs.Refusals.{code_of};
 ghost use Rattle.puzzle.specs.Fault.{fault_of};
-ghost use Rattle.puzzle.specs.Puzzle.{fresh_puzzle, zero_puzzle, answer, made, make_of, puzzle_code, grid_of, given_of, clues_of, borders_of, book_of, stroke_of, decide_of, undo_of, told, answer_in, writes, ask_of};
+ghost use Rattle.puzzle.specs.Puzzle.{fresh_puzzle, zero_puzzle, answer, made, make_of, together, puzzle_code, grid_of, given_of, clues_of, borders_of, book_of, stroke_of, decide_of, undo_of, told, answer_in, writes, ask_of};
 
 use answers::Refusal;
 use board::Board;
@@ -81,7 +82,7 @@ impl Puzzle {
         ensures { self.new ≡ fresh_puzzle grid given.now clues.now }
     {
         self.board.grid = grid;
-        rooms::put(given, 2, &mut self.board.book.states);
+        lists::write_at(given, 2, &mut self.board.book.states);
         self.given[..given.len()].copy_from_slice(given);
         self.given_len = given.len();
         self.clues[..clues.len()].copy_from_slice(clues);
@@ -140,7 +141,7 @@ impl Puzzle {
         requires blank { Blank (grid_of self.now) marks.old }
         ensures { result ≡ book_holds (borders_of self.now) (is_given (given_of self.now)) (book_of self.now) }
     {
-        rooms::put(self.given(), 1, marks);
+        lists::write_at(self.given(), 1, marks);
         self.board.book.holds(self.board.grid.border_count(), marks)
     }
 
@@ -158,6 +159,19 @@ impl Puzzle {
         self.holds_in(&mut marks)
     }
 
+    // Question 2: the arrays hold the lists, a making would accept them, and the ledger holds.
+    #[tactic(auto, unfolding(crate::specs::Puzzle::together))]
+    fn holds_together(&self) -> bool
+        requires { Limits (grid_of self.now) }
+        ensures { result ≡ together self.now }
+    {
+        if limits::BORDERS < self.given_len || limits::CELLS < self.clues_len {
+            return false;
+        }
+        let lists = clues::check_lists(self.board.grid, self.given(), self.clues());
+        lists.is_ok() && self.ledger_holds()
+    }
+
     // Questions 1 and 2: whether a record holds together.
     pub fn check(&self) -> Result<(), Refusal>
         ensures { code_of result ≡ puzzle_code self.now }
@@ -165,16 +179,7 @@ impl Puzzle {
         if !self.board.grid.is_within_limits() {
             return Err(Refusal::Size);
         }
-        if limits::BORDERS < self.given_len {
-            return Err(Refusal::Record);
-        }
-        if limits::CELLS < self.clues_len {
-            return Err(Refusal::Record);
-        }
-        if clues::check_lists(self.board.grid, self.given(), self.clues()).is_err() {
-            return Err(Refusal::Record);
-        }
-        if !self.ledger_holds() {
+        if !self.holds_together() {
             return Err(Refusal::Record);
         }
         Ok(())
@@ -186,10 +191,7 @@ impl Puzzle {
         ensures grid { result.grid ≡ grid_of self.now }
         ensures states { result.states.now ≡ (book_of self.now).states }
     {
-        Borders {
-            grid: self.board.grid,
-            states: &self.board.book.states,
-        }
+        self.board.borders()
     }
 
     // The board as it stands, with its given walls and clues.

@@ -7,6 +7,8 @@ use native.Mathlib.Omega.{arith}
 use lib.Dec.{eqb}
 use lib.ListN.{length}
 use Rattle.lists.specs.Choice.{pick}
+use Rattle.lists.specs.Writes.{puts}
+use Rattle.lists.proofs.WritesLaws.{puts_length}
 use Rattle.grid.specs.declared.Grid.{Grid}
 use Rattle.grid.specs.Grid.{border_count}
 use Rattle.grid.proofs.Geometry.{border_count_le}
@@ -16,9 +18,9 @@ use Rattle.groups.specs.Groups.{cells_of}
 use Rattle.groups.proofs.GroupLaws.{in_cells}
 use Rattle.boundary.proofs.BoundaryLaws.{cells_most}
 use Rattle.rooms.specs.Rooms.{is_given, room_ids}
-use Rattle.rooms.specs.Lent.{unmarked, puts, marked_in, Given, Housed}
+use Rattle.rooms.specs.Lent.{unmarked, marked_in, Given, Housed}
 use Rattle.rooms.proofs.Places.{cells_rising}
-use Rattle.rooms.proofs.PutLaws.{marks_at, puts_length, unmarked_length}
+use Rattle.rooms.proofs.PutLaws.{marks_at, unmarked_length}
 use Rattle.room_checks.specs.RoomChecks.{rooms_fault, rooms_in}
 
 -- a room of a board

@@ -59,7 +59,7 @@ impl CluedBoard<'_, '_> {
         let mut flat = [0u16; N];
         groups::put_in_turn(&ids[..n], &mut sizes[..count], &mut starts, &mut flat);
         let mut marks = [0u8; limits::BORDERS];
-        rooms::put(self.given, 1, &mut marks);
+        lists::write_at(self.given, 1, &mut marks);
         let groups = Groups {
             grid,
             ids: &ids[..n],

@@ -17,11 +17,12 @@ use Rattle.grid.specs.declared.Direction.{Direction}
 use Rattle.grid.specs.declared.Direction.TheVariants.{Up}
 use Rattle.grid.specs.declared.Neighbour.{Neighbour}
 use Rattle.grid.specs.declared.Grid.{Grid}
-use Rattle.grid.specs.Grid.{Cell, goes_on, next, border, border_count}
+use Rattle.grid.specs.Grid.{Cell, goes_on, next, border}
 use Rattle.grid.specs.Orders.{forward}
-use Rattle.grid.proofs.Geometry.{goes_step, border_lt, cells_le}
+use Rattle.grid.proofs.Geometry.{cells_le}
+use Rattle.lists.specs.Writes.{Below}
 use Rattle.rooms.specs.RoomGraph.{is_in, in_room, place, border_of}
-use Rattle.rooms.specs.Lent.{nowhere, numbered, marked_in, Below, Housed, edge_of}
+use Rattle.rooms.specs.Lent.{nowhere, numbered, marked_in, Housed, edge_of}
 use Rattle.rooms.proofs.Places.{once}
 use Rattle.rooms.proofs.RoomLaws.{is_in_lem}
 use Rattle.rooms.proofs.NumberLaws.{vertex_marked, vertex_is}
@@ -42,13 +43,11 @@ look_way a b l d =
     (λ (h : 0 < b). let e : b ≡ 1 = omega arith in let q : (2 * a + 1) % 2 ≡ 1 = omega arith in rw (e, q) refl)
     (le_or_lt b 0)
 
--- the i-th look sees an edge from c to n over e: these cells have their vertices, and the border is one of the board's
+-- the i-th look sees an edge from c to n over e: these cells have their vertices
 pub record Seen (g : Grid) (marks cs vertex : List ℕ) (i c n e : ℕ) : Type 0 where
   pub there : in_room g (marked_in marks) (is_in cs) (get_or cs (i / 2) 0) (way_of i) ≡ true
   pub border_is : e ≡ border_of g (spot_at g (marked_in marks) cs i)
   pub cell_lt : c < most_cells
-  pub next_lt : n < most_cells
-  pub border_lt : e < border_count g
   pub from_is : get_or vertex c 0 ≡ 1 + place cs (get_or cs (i / 2) 0)
   pub into_is : get_or vertex n 0 ≡ 1 + place cs (next g (way_of i) (get_or cs (i / 2) 0))
 
@@ -95,13 +94,10 @@ module _ (g : Grid) (marks states cs : List ℕ) (w : Housed g marks states cs) 
           let there : in_room g (marked_in marks) (is_in cs) a (way_of i) ≡ true = sym (room_same a (way_of i)) ∙ o.0 in
           let both-are = both_true (goes_on g (way_of i) a) _ there in
           let to_in = is_in_lem cs (next g (way_of i) a) (both_true (is_in cs (next g (way_of i) a)) _ both-are.1).0 in
-          let step = goes_step g (way_of i) a (w.inside a from_in) both-are.0 in
           record {
             there = there;
             border_is = o.2;
             cell_lt = rw k (small a from_in);
-            next_lt = rw o.1 (small (next g (way_of i) a) to_in);
-            border_lt = rw o.2 (border_lt g (way_of i) a (next g (way_of i) a) (border g (way_of i) a) step);
             from_is = rw (v, k) (vertex_is cs one small a from_in);
             into_is = rw (v, o.1) (vertex_is cs one small (next g (way_of i) a) to_in);
           }

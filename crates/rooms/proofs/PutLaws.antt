@@ -1,20 +1,16 @@
--- A value at each given wall: the loop that writes it, and what stands at each place then. Assumes nothing.
-use Prim.Native.Nat.{ℕ, ◌+◌, ◌≤◌, ◌<◌}
+-- A value at each given wall, and the rooms that given walls part. Assumes nothing.
+use Prim.Native.Nat.{ℕ, ◌≤◌}
 use mathlib.Core.Path.{◌≡◌, refl, ap, sym, ◌∙◌, fun_ext}
-use mathlib.Core.Logic.{inl, inr, ◌≢◌, ⊎_elim}
 use mathlib.Core.Bool.{Bool, true, false, not}
-use mathlib.Core.List.{List, [], ◌∷◌}
+use mathlib.Core.List.{List}
 use native.Mathlib.Omega.{arith}
-use native.Mathlib.Numerals.{add-one}
-use borrow.Author.Tests.{eq-eqb, ne_eqb}
-use lib.Dec.{eqb}
-use lib.ListN.{length, get_or, take, drop, set, replicate, length-set, drop_of_length-le, length-replicate}
-use lib.Seq.{get_or-set_same, get_or-set_other, drop-cons, sets, length-take-le}
+use lib.ListN.{length, get_or, take, replicate, length-replicate}
+use lib.Seq.{sets, length-take-le}
 use Rattle.limits.specs.Limits.{most_borders}
-use Rattle.lists.specs.Choice.{either, pick}
-use Rattle.lists.specs.Lists.{In, any}
-use Rattle.lists.proofs.Cases.{eq_or_ne}
-use Rattle.lists.proofs.ListLaws.{get_d_in, zeros_at}
+use Rattle.lists.specs.Choice.{pick}
+use Rattle.lists.specs.Writes.{puts, Below}
+use Rattle.lists.proofs.ListLaws.{zeros_at}
+use Rattle.lists.proofs.WritesLaws.{puts_at}
 use Rattle.grid.specs.declared.Grid.{Grid}
 use Rattle.grid.specs.Grid.{Limits, cells, border_count}
 use Rattle.grid.proofs.Geometry.{border_count_le}
@@ -25,50 +21,7 @@ use Rattle.groups.specs.Lent.{Lent, Grouped, Counted, InTurn}
 use Rattle.groups.proofs.Lending.{sizes_fit, turn_asks, grouped, keys_front, sized_front, starts_front, turn_front}
 use Rattle.groups.proofs.Theorems.{made, made_ids}
 use Rattle.rooms.specs.Rooms.{is_given, room_ids, room_count}
-use Rattle.rooms.specs.Lent.{unmarked, puts, Below, Given, Blank, Places, Roomed}
-
--- a turn of the loop, and its end
-module _ (given : List ℕ) (v i : ℕ) (xs : List ℕ) where
-  pub put_turn : i < length given → puts (drop i given) v xs ≡ puts (drop (i + 1) given) v (set xs (get_or given i 0) v)
-  unfolding puts
-  put_turn h = rw (drop-cons given i 0 h, add-one)
-
-  pub put_end : length given ≤ i → puts (drop i given) v xs ≡ xs
-  unfolding puts
-  put_end h = rw (drop_of_length-le given {i = i} h)
-
--- the place of the next wall exists
-pub put_fits : (n : ℕ) (given : List ℕ) (i : ℕ) → Below n given → i < length given → get_or given i 0 < n
-put_fits n given i b h = b (get_or given i 0) (get_d_in 0 given i h)
-
-pub puts_length : (l : List ℕ) (v : ℕ) (xs : List ℕ) → length (puts l v xs) ≡ length xs
-unfolding puts
-puts_length [] v xs = refl
-puts_length (e ∷ l) v xs = puts_length l v (set xs e v) ∙ simp length-set
-
-given_first : (e x : ℕ) (l : List ℕ) (v k : ℕ) → pick (is_given l e) v (pick (eqb e x) v k) ≡ pick (is_given (x ∷ l) e) v k
-unfolding is_given any
-given_first e x l v k = go (eqb e x) (any (eqb e) l)
-  where
-    go : (a b : Bool) → pick b v (pick a v k) ≡ pick (either a b) v k
-    go true true = refl
-    go true false = refl
-    go false b = refl
-
--- what stands at each place
-pub puts_at : (l : List ℕ) (v : ℕ) (xs : List ℕ) → ((e : ℕ) → In e l → e < length xs) → (e : ℕ) → get_or (puts l v xs) e 0 ≡ pick (is_given l e) v (get_or xs e 0)
-unfolding puts
-puts_at [] v xs h e = unfold is_given any in refl
-puts_at (x ∷ l) v xs h e =
-    puts_at l v (set xs x v) (λ y m. simp length-set (h y (inr m))) e
-    ∙ ap (pick (is_given l e) v) here ∙ given_first e x l v (get_or xs e 0)
-  where
-    here : get_or (set xs x v) e 0 ≡ pick (eqb e x) v (get_or xs e 0)
-    here =
-        ⊎_elim
-        (λ (q : e ≡ x). rw (q, eq-eqb x x refl) (get_or-set_same xs x v 0 (h x (inl refl))))
-        (λ (q : e ≢ x). rw (ne_eqb e x q) (get_or-set_other xs x e v 0 q))
-        (eq_or_ne e x)
+use Rattle.rooms.specs.Lent.{unmarked, Given, Blank, Places, Roomed}
 
 pub unmarked_length : length unmarked ≡ most_borders
 unfolding unmarked
@@ -97,6 +50,7 @@ module _ (g : Grid) (given : List ℕ) (w : Given g given) where
     walls_in e m = omega (arith, w.below e m, b.long)
 
     pub marks_in : (v e : ℕ) → get_or (puts given v xs) e 0 ≡ pick (is_given given e) v 0
+    unfolding is_given
     marks_in v e = puts_at given v xs walls_in e ∙ ap (pick (is_given given e) v) (b.zeros e)
 
     -- the rooms (SPEC 1.7) are the potential units of a board with the given walls alone

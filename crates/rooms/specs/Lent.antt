@@ -4,6 +4,7 @@ use Rattle.lists.specs.Choice.{pick}
 use Rattle.std.proofs.lemmas.List.Edits.{sets}
 use Rattle.limits.specs.Limits.{most_borders, most_cells}
 use Rattle.lists.specs.Lists.{In}
+use Rattle.lists.specs.Writes.{Below}
 use Rattle.grid.specs.declared.Grid.{Grid}
 use Rattle.grid.specs.Grid.{Limits, Cell, cells, border_count, next, border}
 use Rattle.grid.specs.declared.Direction.{Direction}
@@ -22,19 +23,10 @@ nowhere = replicate most_cells 0
 unfoldable pub blank : List ℕ
 blank = replicate 2048 0
 
--- v at each of the places
-unfoldable pub puts : List ℕ → ℕ → List ℕ → List ℕ
-puts [] v xs = xs
-puts (e ∷ l) v xs = puts l v (set xs e v)
-
 -- k at the first of the places, and one more at each of the next
 unfoldable pub numbered : List ℕ → ℕ → List ℕ → List ℕ
 numbered [] k xs = xs
 numbered (c ∷ cs) k xs = numbered cs (suc k) (set xs c k)
-
--- numbers below n
-abbrev pub Below : ℕ → List ℕ → Type 0
-Below n xs = (e : ℕ) → In e xs → e < n
 
 -- given walls of a board within the limits
 pub record Given (g : Grid) (given : List ℕ) : Type 0 where
@@ -65,6 +57,13 @@ marked_in marks e = not (eqb (get_or marks e 0) 0)
 abbrev pub edge_of : Grid → List ℕ → List ℕ → ℕ → Direction → Option Neighbour
 edge_of g marks vertex c d =
     pick (in_room g (marked_in marks) (marked_in vertex) c d) (Some (record { cell = next g d c; border = border g d c })) None
+
+-- the cell there has its place and its vertex, and the border between its place
+pub record There (g : Grid) (vertex : List ℕ) (n : Neighbour) : Type 0 where
+  pub cell_lt : n.cell < most_cells
+  pub has_vertex : 1 ≤ get_or vertex n.cell 0
+  pub border_lt : n.border < border_count g
+  pub border_most : n.border < most_borders
 
 -- each is greater than the one before
 abbrev pub Rising : List ℕ → Type 0

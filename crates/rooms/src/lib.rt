@@ -2,26 +2,16 @@
 // A count first finds which side of it fails, if any; another function writes the list.
 #![tactic(auto)]
 
-ghost use Rattle.std.specs.Prelude.{◌≡◌, ◌≤◌, length};
+ghost use Rattle.std.specs.Prelude.{◌≤◌};
 ghost use Rattle.limits.specs.Limits.{most_borders};
 ghost use Rattle.grid.specs.Grid.{border_count};
-ghost use Rattle.rooms.specs.Lent.{puts, Below, Given, Places, Roomed};
+ghost use Rattle.rooms.specs.Lent.{Given, Places, Roomed};
 
 use borders::Borders;
 use grid::Grid;
 pub use room::Room;
 
 mod room;
-
-// Writes v at the place of each given wall.
-pub fn put(given: &[u16], v: u8, xs: &mut [u8])
-    requires { Below (length xs.old) given.now }
-    ensures { xs.new ≡ puts given.now v xs.old }
-{
-    for &wall in given {
-        xs[usize::from(wall)] = v;
-    }
-}
 
 // The rooms, by an array with a place for each border. A small board has a short one, since all of it is zeroed.
 fn rooms_in<const N: usize>(grid: Grid, given: &[u16], ids: &mut [u16], sizes: &mut [u16]) -> usize
@@ -31,7 +21,7 @@ fn rooms_in<const N: usize>(grid: Grid, given: &[u16], ids: &mut [u16], sizes: &
     ensures { Roomed grid given.now ids.old sizes.old ids.new sizes.new result }
 {
     let mut walls = [0u8; N];
-    put(given, 2, &mut walls);
+    lists::write_at(given, 2, &mut walls);
     groups::count_groups(
         Borders {
             grid,

@@ -19,13 +19,13 @@ pub struct Room<'b, 'a> {
 }
 
 impl Room<'_, '_> {
-    ghost use Rattle.std.specs.Prelude.{◌≡◌, ◌*◌, ◌≤◌, length, Some, None};
+    ghost use Rattle.std.specs.Prelude.{◌≡◌, ◌*◌, ◌≤◌, length, IfSome, Some, None};
     ghost use Rattle.std.proofs.lemmas.List.Edits.{sets};
     ghost use Rattle.lists.specs.Choice.{pick};
     ghost use Rattle.grid.specs.Grid.{next, border, Cell};
     ghost use Rattle.borders.specs.Border.{state_of};
     ghost use Rattle.rooms.specs.RoomGraph.{in_room, room_graph, room_borders, edge_state, side_of, room_entries};
-    ghost use Rattle.rooms.specs.Lent.{nowhere, numbered, marked_in, Written, edge_of};
+    ghost use Rattle.rooms.specs.Lent.{nowhere, numbered, marked_in, Written, There, edge_of};
 
     // Each cell of the room gets its vertex, counted from 1; the others have 0.
     fn vertices(self) -> [u16; limits::CELLS]
@@ -46,7 +46,8 @@ impl Room<'_, '_> {
         direction: Direction,
     ) -> Option<Neighbour>
         requires { Cell self.borders.grid cell }
-        ensures { result ≡ edge_of self.entry.borders.grid self.entry.marks.now vertices.now cell direction }
+        ensures edge { result ≡ edge_of self.entry.borders.grid self.entry.marks.now vertices.now cell direction }
+        ensures there { IfSome result (There self.entry.borders.grid vertices.now) }
     {
         let there = self.borders.grid.step(cell, direction)?;
         if vertices[there.cell] == 0 || self.marks[there.border] != 0 {

@@ -19,8 +19,8 @@ put_in_turn-requires g c =
     let a = room_asks c.args.self.borders.grid c.args.self.given.now c.args.self.walls l c.rooms_of-count.ensures l.ids_long l.sizes_long in
     rw c.cell_count-n.ensures (record { keys = a.0; sized = a.1; sizes_in_bounds = a.2 })
 
-pub put-requires : goal.put-requires
-put-requires g c e m =
+pub write_at-requires : goal.write_at-requires
+write_at-requires g c e m =
     let w = c.args.self.walls in omega (arith, w.below e m, border_count_le _ w.limits)
 
 pub invariant_of-groups : goal.invariant_of-groups
@@ -41,5 +41,5 @@ returns g c =
     let n = c.cell_count-n.ensures in
     let ids = ap (λ m. take m c.rooms_of-count.new.ids) n
     ∙ room_ids_are b.grid c.args.self.given.now c.args.self.walls l c.rooms_of-count.ensures _ _ l.ids_long l.sizes_long (rw n at c.put_in_turn.ensures.starts_after) (rw n at c.put_in_turn.ensures.flat_after) in
-    let same = rooms_same b.grid c.args.self.given.now c.args.self.walls c.put.ensures b.states.now c.args.self.clues.now ids in
+    let same = rooms_same b.grid c.args.self.given.now c.args.self.walls c.write_at.ensures b.states.now c.args.self.clues.now ids in
     record { value = c.count.ensures.value ∙ ap counted_of same; buffer_after = c.count.ensures.buffer_after ∙ ap (λ f. leaves f c.args.buffer.now) same }

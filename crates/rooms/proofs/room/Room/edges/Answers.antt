@@ -13,27 +13,11 @@ edge-requires c = cell_there _ _ _ _ c.args.self.housed c.loop-cell-test.true c.
 
 pub bounds-vertices-cell : goal.bounds-vertices-cell
 bounds-vertices-cell c =
-    (look_seen _ _ _ _ c.args.self.housed c.loop-cell-test.true c.loop-direction-test.true c.vertices-vertices.ensures c.from-cell.ensures c.edge.ensures c.in-Some.is).cell_lt
+    (look_seen _ _ _ _ c.args.self.housed c.loop-cell-test.true c.loop-direction-test.true c.vertices-vertices.ensures c.from-cell.ensures c.edge.ensures.edge c.in-Some.is).cell_lt
 
 pub overflow_sub-us : goal.overflow_sub-us
 overflow_sub-us c =
-    omega (arith, (look_seen _ _ _ _ c.args.self.housed c.loop-cell-test.true c.loop-direction-test.true c.vertices-vertices.ensures c.from-cell.ensures c.edge.ensures c.in-Some.is).from_is)
-
-pub offset_bounds-vertices-there : goal.offset_bounds-vertices-there
-offset_bounds-vertices-there c =
-    omega (arith, (look_seen _ _ _ _ c.args.self.housed c.loop-cell-test.true c.loop-direction-test.true c.vertices-vertices.ensures c.from-cell.ensures c.edge.ensures c.in-Some.is).next_lt)
-
-pub bounds-vertices-there : goal.bounds-vertices-there
-bounds-vertices-there c =
-    (look_seen _ _ _ _ c.args.self.housed c.loop-cell-test.true c.loop-direction-test.true c.vertices-vertices.ensures c.from-cell.ensures c.edge.ensures c.in-Some.is).next_lt
-
-pub overflow_sub-vs : goal.overflow_sub-vs
-overflow_sub-vs c =
-    omega (arith, (look_seen _ _ _ _ c.args.self.housed c.loop-cell-test.true c.loop-direction-test.true c.vertices-vertices.ensures c.from-cell.ensures c.edge.ensures c.in-Some.is).into_is)
-
-pub bounds-self-there : goal.bounds-self-there
-bounds-self-there c =
-    omega (arith, c.args.self.housed.states_long, (look_seen _ _ _ _ c.args.self.housed c.loop-cell-test.true c.loop-direction-test.true c.vertices-vertices.ensures c.from-cell.ensures c.edge.ensures c.in-Some.is).border_lt)
+    omega (arith, (look_seen _ _ _ _ c.args.self.housed c.loop-cell-test.true c.loop-direction-test.true c.vertices-vertices.ensures c.from-cell.ensures c.edge.ensures.edge c.in-Some.is).from_is)
 
 pub loop-direction-preserved : goal.loop-direction-preserved
 loop-direction-preserved c =
@@ -44,14 +28,14 @@ loop-direction-preserved c =
     let h : 2 * a + b < 2 * length c.args.self.cells.now = omega (arith, c.loop-cell-test.true, c.loop-direction-test.true) in
     elim c.match-edge.branch [
       | in-Some x ↦
-          let o = look_seen _ _ _ _ w c.loop-cell-test.true c.loop-direction-test.true c.vertices-vertices.ensures c.from-cell.ensures c.edge.ensures x.in-Some.is in
+          let o = look_seen _ _ _ _ w c.loop-cell-test.true c.loop-direction-test.true c.vertices-vertices.ensures c.from-cell.ensures c.edge.ensures.edge x.in-Some.is in
           rw
           (x.us-is, x.vs-is, x.states-is, x.m-is, on)
           (writing_one _ _ _ _ _ _ _ _ _ _ _ _ c.loop-direction.invariant h o.there _ _ _ (omega (arith, o.from_is)) (omega (arith, o.into_is)) (ap (λ e. get_or c.args.self.borders.states.now e 0) o.border_is))
       | in_default x ↦
           rw
           (x.us-is, x.vs-is, x.states-is, x.m-is, on)
-          (writing_skip _ _ _ _ _ _ _ _ _ _ _ _ c.loop-direction.invariant h (look_none _ _ _ _ w c.loop-cell-test.true c.loop-direction-test.true c.vertices-vertices.ensures c.from-cell.ensures c.edge.ensures x.in_default.not-Some))
+          (writing_skip _ _ _ _ _ _ _ _ _ _ _ _ c.loop-direction.invariant h (look_none _ _ _ _ w c.loop-cell-test.true c.loop-direction-test.true c.vertices-vertices.ensures c.from-cell.ensures c.edge.ensures.edge x.in_default.not-Some))
     ]
 
 pub returns : goal.returns

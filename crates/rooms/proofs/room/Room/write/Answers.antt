@@ -1,6 +1,5 @@
 -- `Room::write` meets its contract: one law of `EdgesLaws` a look. Assumes nothing.
 use Rattle.std.proofs.Common.{◌≡◌, ◌*◌, ◌+◌, ◌<◌, length, get_or, sym, ap, ◌∙◌, arith}
-use Rattle.grid.proofs.Geometry.{border_count_le}
 use Rattle.rooms.specs.RoomGraph.{kind_of}
 use Rattle.rooms.proofs.EdgesLaws.{listing_none, listing_skip, listing_one, listing_other, listing_all}
 use Rattle.rooms.proofs.HouseLaws.{cell_there, look_none, look_seen}
@@ -13,14 +12,6 @@ loop-cell-init c = listing_none _ _ _ _ _ _
 pub edge-edge-requires : goal.edge-edge-requires
 edge-edge-requires c = cell_there _ _ _ _ c.args.self.housed c.loop-cell-test.true c.loop-direction-test.true c.vertices-vertices.ensures c.from.ensures
 
-pub bounds-self-border : goal.bounds-self-border
-bounds-self-border c =
-    omega (arith, c.args.self.housed.states_long, (look_seen _ _ _ _ c.args.self.housed c.loop-cell-test.true c.loop-direction-test.true c.vertices-vertices.ensures c.from.ensures c.edge-edge.ensures c.in-Some.is).border_lt)
-
-pub entry-requires : goal.entry-requires
-entry-requires c =
-    omega (arith, border_count_le _ c.args.self.housed.limits, (look_seen _ _ _ _ c.args.self.housed c.loop-cell-test.true c.loop-direction-test.true c.vertices-vertices.ensures c.from.ensures c.edge-edge.ensures c.in-Some.is).border_lt)
-
 pub loop-direction-preserved : goal.loop-direction-preserved
 loop-direction-preserved c =
     let w = c.args.self.housed in
@@ -31,13 +22,13 @@ loop-direction-preserved c =
     let kind : c.state_of-kind.result ≡ kind_of c.args.wall = c.state_of-kind.ensures in
     elim c.match-edge.branch [
       | in-Some+then-self-border x ↦
-          let o = look_seen _ _ _ _ w c.loop-cell-test.true c.loop-direction-test.true c.vertices-vertices.ensures c.from.ensures c.edge-edge.ensures x.in-Some.is in
+          let o = look_seen _ _ _ _ w c.loop-cell-test.true c.loop-direction-test.true c.vertices-vertices.ensures c.from.ensures c.edge-edge.ensures.edge x.in-Some.is in
           let state = ap (λ e. get_or c.args.self.borders.states.now e 0) o.border_is in
           rw
           (x.buffer-is, x.n-is, on, x.entry.ensures, o.border_is)
           (listing_one _ _ _ _ _ _ _ _ _ c.loop-direction.invariant h o.there (sym state ∙ x.if-self-border.true ∙ kind))
       | in-Some+else-self-border x ↦
-          let o = look_seen _ _ _ _ w c.loop-cell-test.true c.loop-direction-test.true c.vertices-vertices.ensures c.from.ensures c.edge-edge.ensures x.in-Some.is in
+          let o = look_seen _ _ _ _ w c.loop-cell-test.true c.loop-direction-test.true c.vertices-vertices.ensures c.from.ensures c.edge-edge.ensures.edge x.in-Some.is in
           let state = ap (λ e. get_or c.args.self.borders.states.now e 0) o.border_is in
           rw
           (x.buffer-is, x.n-is, on)
@@ -45,7 +36,7 @@ loop-direction-preserved c =
       | in_default x ↦
           rw
           (x.buffer-is, x.n-is, on)
-          (listing_skip _ _ _ _ _ _ _ _ _ c.loop-direction.invariant h (look_none _ _ _ _ w c.loop-cell-test.true c.loop-direction-test.true c.vertices-vertices.ensures c.from.ensures c.edge-edge.ensures x.in_default.not-Some))
+          (listing_skip _ _ _ _ _ _ _ _ _ c.loop-direction.invariant h (look_none _ _ _ _ w c.loop-cell-test.true c.loop-direction-test.true c.vertices-vertices.ensures c.from.ensures c.edge-edge.ensures.edge x.in_default.not-Some))
     ]
 
 pub returns : goal.returns
