@@ -4,22 +4,14 @@ ghost use Rattle.offsets.specs.Table.{Fillable, Filled};
 
 use grid::Grid;
 
-// What the table has of a cell.
-#[derive(Clone, Copy, Debug, PartialEq, Eq)]
+// What the table has of a cell; zeros stand where no cell is.
+#[derive(Clone, Copy, Debug, Default, PartialEq, Eq)]
 pub struct CellInfo {
     pub row: u16,
     pub col: u16,
     pub unit: u16,
     pub potential: u16,
 }
-
-// What stands where no cell is.
-pub const BLANK: CellInfo = CellInfo {
-    row: 0,
-    col: 0,
-    unit: 0,
-    potential: 0,
-};
 
 // Fills the table of a board, whose cells have these units and potential units.
 pub fn fill(grid: Grid, ids: &[u16], pids: &[u16], table: &mut [CellInfo])
