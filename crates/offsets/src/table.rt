@@ -1,7 +1,8 @@
 // The table that an ask makes once: for each cell its row, its column, its unit and its potential unit, so that no offset divides.
 ghost use Rattle.std.specs.Prelude.{◌≡◌};
-ghost use Rattle.offsets.specs.Table.{Fillable, Filled};
+ghost use Rattle.offsets.specs.Table.{spot_of, Fillable, Filled};
 
+use crate::spot::Spot;
 use grid::Grid;
 
 // What the table has of a cell; zeros stand where no cell is.
@@ -11,6 +12,19 @@ pub struct CellInfo {
     pub col: u16,
     pub unit: u16,
     pub potential: u16,
+}
+
+impl CellInfo {
+    // Its row and column.
+    #[inline(always)]
+    pub fn spot(self) -> Spot
+        ensures { result ≡ spot_of self }
+    {
+        Spot {
+            row: usize::from(self.row),
+            col: usize::from(self.col),
+        }
+    }
 }
 
 // Fills the table of a board, whose cells have these units and potential units.
