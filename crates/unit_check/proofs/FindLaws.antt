@@ -16,7 +16,7 @@ use Rattle.lists.proofs.Cases.{eq_or_ne, true_or_false, not_both}
 use Rattle.lists.proofs.ChoiceLaws.{both_true, holds_true}
 use Rattle.lists.proofs.ListLaws.{any_true, all_true}
 use Rattle.grid.specs.declared.Grid.{Grid}
-use Rattle.grid.specs.Grid.{Limits, cells, Cell, row, col, border_count}
+use Rattle.grid.specs.Grid.{Limits, cells, Cell, border_count}
 use Rattle.groups.specs.Groups.{cells_of}
 use Rattle.groups.specs.Lent.{InTurn}
 use Rattle.groups.proofs.GroupLaws.{in_cells}
