@@ -15,7 +15,7 @@ unfoldable pub moved : Grid → Shift → Spot → Option ℕ
 moved g s p =
     through (along g.height s.from.row s.to.row p.row) (λ b. through (along g.width s.from.col s.to.col p.col) (λ a. some (b * g.width + a)))
 
--- sums of these fit
+-- sums of these fit, and of those of a shift
 abbrev pub Bounded : Spot → Type 0
 Bounded p = (p.row < 32) × (p.col < 32)
 

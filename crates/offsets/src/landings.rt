@@ -7,6 +7,7 @@ ghost use Rattle.offsets.specs.Landings.{Turning, Falling, is_inner, directions_
 
 use crate::chart::Chart;
 use crate::shift::Shift;
+use crate::spot::Spot;
 use grid::Direction;
 
 // Which of a unit's borders are looked at: those between its cells, or else its Walls and the board's edges.
@@ -51,8 +52,8 @@ impl Chart<'_> {
         requires { Cell self.borders.grid cell }
         ensures { result ≡ kept_of self.entry.borders.grid self.entry.borders.states.now (units_in self.entry.borders.grid self.entry.table.now) (is_inner kind) unit cell direction }
     {
-        let spot = self.table[cell].spot();
-        let beyond = self.borders.grid.step_at(spot.row, spot.col, cell, direction);
+        let Spot { row, col } = self.table[cell].spot();
+        let beyond = self.borders.grid.step_at(row, col, cell, direction);
         let Some(neighbour) = beyond else {
             return !kind.is_inner();
         };
