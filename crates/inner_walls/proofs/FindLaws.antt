@@ -1,16 +1,15 @@
 -- What a stage finds, taken apart, and the first of several stages that finds a fault. Assumes nothing.
 use Prim.Native.Nat.{ℕ, ◌+◌, ◌≤◌, ◌<◌}
 use mathlib.Core.Path.{◌≡◌, refl, ap, sym, ◌∙◌}
-use mathlib.Core.List.{List, ◌∷◌}
+use mathlib.Core.List.{List}
 use mathlib.Core.Option.{Option, none, some}
 use native.Mathlib.Omega.{arith}
-use native.Mathlib.Numerals.{add-one}
-use lib.ListN.{length, get_or, drop, drop_of_length-le}
-use lib.Seq.{sets, length-sets, drop-cons}
+use lib.ListN.{length, get_or, drop}
+use lib.Seq.{sets, length-sets}
 use Rattle.std.specs.Prelude as std
 use Rattle.lists.specs.Choice.{or_else}
 use Rattle.lists.specs.Lists.{range, first}
-use Rattle.lists.proofs.ListLaws.{range_length, range_at}
+use Rattle.lists.proofs.ListLaws.{range_length, range_at, first_turn, first_end}
 use Rattle.answers.specs.Answers.{Finds}
 
 pub finds_none : {o : Option (List ℕ)} {b : List ℕ} → o ≡ none → Finds o b b std.None
@@ -57,8 +56,7 @@ module _ {A : Type 0} (f : A → Option (List ℕ)) (xs : List A) (d : A) where
   module _ {b₀ b : List ℕ} {i : ℕ} (s : Searched b₀ b i) where
     module _ (h : i < length xs) where
       turn : or_else (f (get_or xs i d)) (first f (drop (i + 1) xs)) ≡ first f xs
-      unfolding first
-      turn = (let q : first f (get_or xs i d ∷ drop (i + 1) xs) ≡ first f xs = rw (add-one i) (rw (drop-cons xs i d h) at s.left) in q)
+      turn = sym (first_turn f xs i d h) ∙ s.left
 
       pub search_fault : {b' : List ℕ} {r : std.Option ℕ} {k : ℕ} → Finds (f (get_or xs i d)) b b' r → r ≡ std.Some k → Finds (first f xs) b₀ b' (std.Some k)
       search_fault t e = rw (← turn, ← s.same) (first_finds (f (get_or xs i d)) (first f (drop (i + 1) xs)) t e)
@@ -69,8 +67,7 @@ module _ {A : Type 0} (f : A → Option (List ℕ)) (xs : List A) (d : A) where
           let o = finds_nothing (f (get_or xs i d)) t e in record { same = o.1 ∙ s.same; left = rw o.0 at turn }
 
     pub search_over : length xs ≤ i → Finds (first f xs) b₀ b std.None
-    unfolding first
-    search_over h = rw s.same (finds_none (sym s.left ∙ rw (drop_of_length-le xs h)))
+    search_over h = rw s.same (finds_none (sym s.left ∙ first_end f xs i h))
 
 -- the same over the numbers below n
 module _ (f : ℕ → Option (List ℕ)) (n : ℕ) {b₀ b : List ℕ} {i : ℕ} (s : Searched f (range n) 0 b₀ b i) where

@@ -19,23 +19,24 @@ use Rattle.grid.specs.declared.Direction.{Direction}
 use Rattle.grid.specs.declared.Direction.TheVariants.{Up, Down, Left, Right}
 use Rattle.grid.specs.declared.Neighbour.{Neighbour}
 use Rattle.grid.specs.declared.Grid.{Grid}
-use Rattle.grid.specs.Grid.{Limits, Cell, row, col, goes_on, next, border, border_count}
+use Rattle.grid.specs.Grid.{Limits, Cell, goes_on, next, border, border_count}
 use Rattle.grid.specs.Neighbours.{neighbour_in}
 use Rattle.grid.proofs.Geometry.{goes_step, border_lt, border_count_le}
 use Rattle.borders.specs.Entry.{entry_of}
 use Rattle.borders.specs.Border.{state_at, stands}
 use Rattle.borders.specs.Fits.{Fits}
 use Rattle.offsets.specs.declared.shift.Shift.{Shift}
+use Rattle.offsets.specs.declared.spot.Spot.{Spot}
 use Rattle.offsets.specs.declared.table.CellInfo.{CellInfo}
 use Rattle.offsets.specs.declared.places.Place.{Place}
 use Rattle.offsets.specs.Told.{told}
 use Rattle.offsets.specs.Places.{ahead_of, border_of, land_of}
-use Rattle.offsets.specs.Table.{Table, row_in, col_in, unit_in, units_in}
-use Rattle.offsets.specs.Reach.{Small}
+use Rattle.offsets.specs.Table.{Table, blank, spot, spot_of, unit_in, units_in}
+use Rattle.offsets.specs.Reach.{Bounded, Small}
 use Rattle.offsets.specs.Landings.{bad_of, kept_of, landing_of, fail_at, Turning}
-use Rattle.offsets.proofs.TableLaws.{unit_at_lem}
+use Rattle.offsets.proofs.TableLaws.{unit_at_lem, spot_at}
 use Rattle.offsets.proofs.PlaceLaws.{coordinate_moves, place_lands}
-use Rattle.offsets.proofs.ReachLaws.{small_at, Fell, fell, fell_cell}
+use Rattle.offsets.proofs.ReachLaws.{bounded, Fell, fell, fell_cell}
 
 module _ (g : Grid) (d : Direction) (c : ℕ) where
   pub lands_on : (e : ℕ) → std.Some e ≡ border_of (neighbour_in g d c) → (goes_on g d c ≡ true) × (e ≡ border g d c)
@@ -100,12 +101,12 @@ module _ (p : Place) (d : Direction) (q : p ≡ ahead_of d) where
   ahead_small = (omega (arith, ap mag ahead_y, (ahead_fits d).0), omega (arith, ap mag ahead_x, (ahead_fits d).1))
 
 -- a border lands where its cell falls
-pub landing_is : (g : Grid) (s : Shift) (y x c : ℕ) (d : Direction) → Limits g → Fell g s y x c → landing_of g s y x d ≡ border_of (neighbour_in g d c)
-landing_is g s y x c d l f =
+pub landing_is : (g : Grid) (s : Shift) (p : Spot) (c : ℕ) (d : Direction) → Limits g → Fell g s p c → landing_of g s p d ≡ border_of (neighbour_in g d c)
+landing_is g s p c d l f =
     ap₂ (land_of g)
-    (coordinate_moves y f.row_to s.from_row s.to_row (ahead_of d).y f.row_moves)
-    (coordinate_moves x f.col_to s.from_col s.to_col (ahead_of d).x f.col_moves)
-    ∙ place_lands g l f.row_to f.col_to f.row_in f.col_in d
+    (coordinate_moves p.row f.to.row s.from.row s.to.row (ahead_of d).y f.row_moves)
+    (coordinate_moves p.col f.to.col s.from.col s.to.col (ahead_of d).x f.col_moves)
+    ∙ place_lands g l f.to.row f.to.col f.row_in f.col_in d
     ∙ ap (λ n. border_of (neighbour_in g d n)) (sym f.number)
 
 -- the ways to answer a border of c
@@ -131,15 +132,19 @@ module _ {g : Grid} {states : List ℕ} {table : List CellInfo} {s : Shift} {c :
       go true = unfold give in refl
       go false = unfold give in refl
 
-  fall : Fell g s (row g c) (col g c) z
-  fall = fell g s (row g c) (col g c) z t.falls.1
+  fall : Fell g s (spot g c) z
+  fall = fell g s (spot g c) z t.falls.1
 
-  pub turning_small : Small g s (row_in table c) (col_in table c)
-  turning_small = small_at t.small c t.cell (tab.row_at c t.cell) (tab.col_at c t.cell)
+  module _ {p : Spot} (p-is : p ≡ spot_of (get_or table c blank)) where
+    spot_is : p ≡ spot g c
+    spot_is = p-is ∙ spot_at tab c t.cell
 
-  module _ {r : std.Option ℕ} (lands-is : r ≡ landing_of g s (row_in table c) (col_in table c) d) where
+    pub turning_small : Small g s × Bounded p
+    turning_small = (t.small, rw spot_is (bounded t.small.limits c t.cell))
+
+  module _ {p : Spot} (p-is : p ≡ spot_of (get_or table c blank)) {r : std.Option ℕ} (lands-is : r ≡ landing_of g s p d) where
     lands : r ≡ border_of (neighbour_in g d z)
-    lands = lands-is ∙ ap₂ (λ a b. landing_of g s a b d) (tab.row_at c t.cell) (tab.col_at c t.cell) ∙ landing_is g s (row g c) (col g c) z d fits.limits fall
+    lands = lands-is ∙ ap (λ a. landing_of g s a d) (spot_is p-is) ∙ landing_is g s (spot g c) z d fits.limits fall
 
     pub outside : r ≡ std.None → std.None ≡ answer
     outside e = lands_outside (lands_off g d z (sym e ∙ lands))
@@ -150,7 +155,7 @@ module _ {g : Grid} {states : List ℕ} {table : List CellInfo} {s : Shift} {c :
 
       pub landed_border : (e < length states) × (e < most_borders)
       landed_border =
-          let k = goes_step g d z (fell_cell g s (row g c) (col g c) z fall) on.0 in
+          let k = goes_step g d z (fell_cell g s (spot g c) z fall) on.0 in
           let j : e < border_count g = rw on.1 (border_lt g d z (next g d z) (border g d z) k) in
           omega (arith, fits.borders, border_count_le g fits.limits)
 

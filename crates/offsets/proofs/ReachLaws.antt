@@ -1,6 +1,6 @@
 -- Where a cell falls, and one turn and the end of the walk over a unit's cells. Assumes nothing.
 use Prim.Native.Nat.{ℕ, ◌+◌, ◌-◌, ◌*◌, ◌<◌, ◌≤◌}
-use mathlib.Core.Path.{◌≡◌, refl, ap, ap₂, sym, ◌∙◌}
+use mathlib.Core.Path.{◌≡◌, refl, ap, sym, ◌∙◌}
 use mathlib.Core.Logic.{◌≢◌}
 use mathlib.Core.Bool.{Bool, true, false, not}
 use mathlib.Core.List.{List, [], ◌∷◌}
@@ -19,29 +19,21 @@ use Rattle.lists.specs.Lists.{In, all, any}
 use Rattle.lists.proofs.ChoiceLaws.{both_true, give_some, through_some}
 use Rattle.lists.proofs.ListLaws.{get_d_in}
 use Rattle.grid.specs.declared.Grid.{Grid}
-use Rattle.grid.specs.Grid.{Cell, row, col}
+use Rattle.grid.specs.Grid.{Limits, Cell, row}
 use Rattle.grid.proofs.Geometry.{coords, row_lt, col_lt}
 use Rattle.shape.specs.Shape.{along}
 use Rattle.offsets.specs.declared.shift.Shift.{Shift}
+use Rattle.offsets.specs.declared.spot.Spot.{Spot}
 use Rattle.offsets.specs.declared.table.CellInfo.{CellInfo}
 use Rattle.offsets.specs.Told.{told}
-use Rattle.offsets.specs.Table.{Table, row_in, col_in, unit_in, potential_in, units_in, potentials_in}
-use Rattle.offsets.specs.Reach.{moved, Small, falls_off, falls_marked, reaches_of}
-use Rattle.offsets.proofs.TableLaws.{unit_at_lem, potential_at}
+use Rattle.offsets.specs.Table.{Table, blank, spot, spot_of, unit_in, potential_in, units_in, potentials_in}
+use Rattle.offsets.specs.Reach.{moved, Bounded, Small, falls_off, falls_marked, reaches_of}
+use Rattle.offsets.proofs.TableLaws.{unit_at_lem, potential_at, spot_at}
 use Rattle.offsets.proofs.ToldLaws.{told_some, told_none}
 
--- a shift that is small is so at each cell
-pub small_at : {g : Grid} {s : Shift} → Small g s 0 0 → (c : ℕ) → Cell g c → {y x : ℕ} → y ≡ row g c → x ≡ col g c → Small g s y x
-small_at {g} m c h row_is col_is =
-    record {
-      limits = m.limits;
-      from_row = m.from_row;
-      from_col = m.from_col;
-      to_row = m.to_row;
-      to_col = m.to_col;
-      row_small = omega (arith, row_is, row_lt g c h, m.limits.height_fits);
-      col_small = omega (arith, col_is, col_lt g c h, m.limits.width_fits);
-    }
+-- a cell's row and column are small
+pub bounded : {g : Grid} → Limits g → (c : ℕ) → Cell g c → Bounded (spot g c)
+bounded {g} l c h = (omega (arith, row_lt g c h, l.height_fits), omega (arith, col_lt g c h, l.width_fits))
 
 -- along a row or a column
 pub before_start : (n f t u : ℕ) {r : std.Option ℕ} → std.SomeIff r (f ≤ u + t) (u + t - f) → r ≡ std.None → std.None ≡ told (along n f t u)
@@ -73,44 +65,43 @@ along_lt n f t u y q =
 pub along_below : {n : ℕ} (f t u : ℕ) {r : std.Option ℕ} {y : ℕ} → r ≡ told (along n f t u) → r ≡ std.Some y → y < n
 along_below {n} f t u {y = y} e q = (along_lt n f t u y (told_some _ y (sym e ∙ q))).0
 
-module _ (g : Grid) (s : Shift) (y x : ℕ) where
-  pub off_row : {r : std.Option ℕ} → r ≡ told (along g.height s.from_row s.to_row y) → r ≡ std.None → std.None ≡ told (moved g s y x)
+module _ (g : Grid) (s : Shift) (p : Spot) where
+  pub off_row : {r : std.Option ℕ} → r ≡ told (along g.height s.from.row s.to.row p.row) → r ≡ std.None → std.None ≡ told (moved g s p)
   unfolding moved through
   off_row e q = rw (told_none _ (sym e ∙ q))
 
-  module _ {b : ℕ} {r : std.Option ℕ} (e : r ≡ told (along g.height s.from_row s.to_row y)) (q : r ≡ std.Some b) {t : std.Option ℕ} (e' : t ≡ told (along g.width s.from_col s.to_col x)) where
-    pub off_col : t ≡ std.None → std.None ≡ told (moved g s y x)
+  module _ {b : ℕ} {r : std.Option ℕ} (e : r ≡ told (along g.height s.from.row s.to.row p.row)) (q : r ≡ std.Some b) {t : std.Option ℕ} (e' : t ≡ told (along g.width s.from.col s.to.col p.col)) where
+    pub off_col : t ≡ std.None → std.None ≡ told (moved g s p)
     unfolding moved through
     off_col k = rw (told_some _ b (sym e ∙ q), told_none _ (sym e' ∙ k))
 
-    pub on_cell : {a : ℕ} → t ≡ std.Some a → std.Some (b * g.width + a) ≡ told (moved g s y x)
+    pub on_cell : {a : ℕ} → t ≡ std.Some a → std.Some (b * g.width + a) ≡ told (moved g s p)
     unfolding moved through
     on_cell {a} k = rw (told_some _ b (sym e ∙ q), told_some _ a (sym e' ∙ k))
 
 -- the row and the column on which a cell falls are the board's, and moved as the first cell is
-pub record Fell (g : Grid) (s : Shift) (y x c : ℕ) : Type 0 where
-  pub row_to : ℕ
-  pub col_to : ℕ
-  pub row_in : row_to < g.height
-  pub col_in : col_to < g.width
-  pub row_moves : y + s.to_row ≡ row_to + s.from_row
-  pub col_moves : x + s.to_col ≡ col_to + s.from_col
-  pub number : c ≡ row_to * g.width + col_to
+pub record Fell (g : Grid) (s : Shift) (p : Spot) (c : ℕ) : Type 0 where
+  pub to : Spot
+  pub row_in : to.row < g.height
+  pub col_in : to.col < g.width
+  pub row_moves : p.row + s.to.row ≡ to.row + s.from.row
+  pub col_moves : p.col + s.to.col ≡ to.col + s.from.col
+  pub number : c ≡ to.row * g.width + to.col
 
-module _ (g : Grid) (s : Shift) (y x c : ℕ) where
-  pub fell : moved g s y x ≡ some c → Fell g s y x c
+module _ (g : Grid) (s : Shift) (p : Spot) (c : ℕ) where
+  pub fell : moved g s p ≡ some c → Fell g s p c
   unfolding moved
   fell q =
-      let across : ℕ → Option ℕ = λ b. through (along g.width s.from_col s.to_col x) (λ a. some (b * g.width + a)) in
-      let k = through_some (along g.height s.from_row s.to_row y) across c q in
-      let m = through_some (along g.width s.from_col s.to_col x) (λ a. some (k.0 * g.width + a)) c k.2 in
-      let r = along_lt g.height s.from_row s.to_row y k.0 k.1 in
-      let t = along_lt g.width s.from_col s.to_col x m.0 m.1 in
-      record { row_to = k.0; col_to = m.0; row_in = r.0; col_in = t.0; row_moves = r.1; col_moves = t.1; number = sym (some-injective _ _ m.2) }
+      let across : ℕ → Option ℕ = λ b. through (along g.width s.from.col s.to.col p.col) (λ a. some (b * g.width + a)) in
+      let k = through_some (along g.height s.from.row s.to.row p.row) across c q in
+      let m = through_some (along g.width s.from.col s.to.col p.col) (λ a. some (k.0 * g.width + a)) c k.2 in
+      let r = along_lt g.height s.from.row s.to.row p.row k.0 k.1 in
+      let t = along_lt g.width s.from.col s.to.col p.col m.0 m.1 in
+      record { to = record { row = k.0; col = m.0 }; row_in = r.0; col_in = t.0; row_moves = r.1; col_moves = t.1; number = sym (some-injective _ _ m.2) }
 
-  pub fell_cell : Fell g s y x c → Cell g c
+  pub fell_cell : Fell g s p c → Cell g c
   fell_cell f =
-      let k = coords g.width c f.row_to f.col_to f.col_in f.number in
+      let k = coords g.width c f.to.row f.to.col f.col_in f.number in
       (div-lt_iff_lt-mul (let w : 0 < g.width = omega (arith, f.col_in) in w)).0 (let r : row g c < g.height = omega (arith, f.row_in) in r)
 
 -- THE WALK over the cells: what is left of the test, with what was met so far
@@ -139,7 +130,7 @@ pub next_cell : (cs : List ℕ) (i c : ℕ) → i < length cs → c ≡ get_or c
 next_cell cs i c h q = rw (add-one, drop-cons cs i 0 h, q)
 
 -- one turn of it, at cell c
-module _ {g : Grid} {table : List CellInfo} {marks cs : List ℕ} {s : Shift} (tab : Table g table) (small : Small g s 0 0) (cells_on : (c : ℕ) → In c cs → Cell g c) {met : Bool} {i : ℕ}
+module _ {g : Grid} {table : List CellInfo} {marks cs : List ℕ} {s : Shift} (tab : Table g table) (small : Small g s) (cells_on : (c : ℕ) → In c cs → Cell g c) {met : Bool} {i : ℕ}
     (w : Walk g s (units_in g table) (potentials_in g table) marks cs met i) (h : i < length cs) {c : ℕ} (q : c ≡ get_or cs i 0) where
   abbrev ids : List ℕ
   ids = units_in g table
@@ -160,30 +151,27 @@ module _ {g : Grid} {table : List CellInfo} {marks cs : List ℕ} {s : Shift} (t
   unfolding left all
   out e = rw e
 
-  module _ {y x : ℕ} (y-is : y ≡ row_in table c) (x-is : x ≡ col_in table c) where
-    row_is : y ≡ row g c
-    row_is = y-is ∙ tab.row_at c on_board_lem
+  module _ {at : Spot} (at-is : at ≡ spot_of (get_or table c blank)) where
+    spot_is : at ≡ spot g c
+    spot_is = at-is ∙ spot_at tab c on_board_lem
 
-    col_is : x ≡ col g c
-    col_is = x-is ∙ tab.col_at c on_board_lem
+    pub fall_small : Small g s × Bounded at
+    fall_small = (small, rw spot_is (bounded small.limits c on_board_lem))
 
-    pub fall_small : Small g s y x
-    fall_small = small_at small c on_board_lem row_is col_is
-
-    module _ {f : std.Option ℕ} (fall-is : f ≡ told (moved g s y x)) where
-      moved_is : moved g s y x ≡ moved g s (row g c) (col g c)
-      moved_is = ap₂ (moved g s) row_is col_is
+    module _ {f : std.Option ℕ} (fall-is : f ≡ told (moved g s at)) where
+      moved_is : moved g s at ≡ moved g s (spot g c)
+      moved_is = ap (moved g s) spot_is
 
       pub walk_off : f ≡ std.None → false ≡ reaches_of g s ids pids marks cs
       unfolding holds
-      walk_off e = let o : moved g s (row g c) (col g c) ≡ none = sym moved_is ∙ told_none _ (sym fall-is ∙ e) in sym (out (rw o)) ∙ turn
+      walk_off e = let o : moved g s (spot g c) ≡ none = sym moved_is ∙ told_none _ (sym fall-is ∙ e) in sym (out (rw o)) ∙ turn
 
       module _ {z : ℕ} (e : f ≡ std.Some z) where
-        falls_on : moved g s (row g c) (col g c) ≡ some z
+        falls_on : moved g s (spot g c) ≡ some z
         falls_on = sym moved_is ∙ told_some _ z (sym fall-is ∙ e)
 
         pub fall_cell : Cell g z
-        fall_cell = fell_cell g s (row g c) (col g c) z (fell g s (row g c) (col g c) z falls_on)
+        fall_cell = fell_cell g s (spot g c) z (fell g s (spot g c) z falls_on)
 
         module _ {u : ℕ} (u-is : u ≡ unit_in table z) where
           unit_is : get_or ids z 0 ≡ u

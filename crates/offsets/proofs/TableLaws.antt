@@ -14,7 +14,7 @@ use Rattle.grid.specs.Grid.{cells, Cell, row, col}
 use Rattle.grid.proofs.Geometry.{coords}
 use Rattle.std.proofs.lemmas.Nat.{mul-add-lt}
 use Rattle.offsets.specs.declared.table.CellInfo.{CellInfo}
-use Rattle.offsets.specs.Table.{blank, unit_in, potential_in, units_in, potentials_in, Fillable, Filled}
+use Rattle.offsets.specs.Table.{blank, spot, spot_of, Table, unit_in, potential_in, units_in, potentials_in, Fillable, Filled}
 
 -- WHAT STANDS IN IT
 
@@ -26,6 +26,9 @@ module _ (g : Grid) (table : List CellInfo) where
   pub potential_at : (c : ℕ) → Cell g c → get_or (potentials_in g table) c 0 ≡ potential_in table c
   unfolding potentials_in
   potential_at c h = table_at (potential_in table) (cells g) c h
+
+pub spot_at : {g : Grid} {table : List CellInfo} → Table g table → (c : ℕ) → Cell g c → spot_of (get_or table c blank) ≡ spot g c
+spot_at t c h = rw (t.row_at c h, t.col_at c h)
 
 -- HOW IT IS FILLED
 

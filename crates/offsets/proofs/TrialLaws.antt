@@ -17,8 +17,7 @@ use Rattle.lists.proofs.ListLaws.{all_true}
 use Rattle.grid.specs.declared.Direction.{Direction}
 use Rattle.grid.specs.Orders.{around, forward}
 use Rattle.grid.specs.declared.Grid.{Grid}
-use Rattle.grid.specs.Grid.{Cell, row, col, goes_on, border}
-use Rattle.grid.proofs.Geometry.{row_lt, col_lt}
+use Rattle.grid.specs.Grid.{Cell, goes_on, border}
 use Rattle.borders.specs.Border.{state_at, stands}
 use Rattle.borders.proofs.Congruence.{any_same, all_same, holds_same, first_same}
 use Rattle.boundary.specs.Boundary.{ahead}
@@ -27,18 +26,19 @@ use Rattle.shape.specs.declared.Try.{Try}
 use Rattle.shape.specs.declared.Try.TheVariants.{Passed, Good, Failed}
 use Rattle.shape.specs.Shape.{UnitInfo, shift, head_or0, unit_of, adjacent, falls, meets, inner_border, shut, on_wall, on_connected, landing, landed, try, try_at, is_good}
 use Rattle.offsets.specs.declared.shift.Shift.{Shift}
+use Rattle.offsets.specs.declared.spot.Spot.{Spot}
 use Rattle.offsets.specs.declared.table.CellInfo.{CellInfo}
 use Rattle.offsets.specs.Told.{told}
-use Rattle.offsets.specs.Table.{row_in, col_in, unit_in, potential_in, units_in, potentials_in}
+use Rattle.offsets.specs.Table.{blank, spot, spot_of, unit_in, potential_in, units_in, potentials_in}
 use Rattle.offsets.specs.Reach.{moved, Small, falls_off, falls_marked, reaches_of}
 use Rattle.offsets.specs.Landings.{fail_at, fail_cell, first_fail, kept_of, failure_of, Falling}
 use Rattle.offsets.specs.Trial.{unit_at, shift_of, tried_at, Unit, Placed}
-use Rattle.offsets.proofs.TableLaws.{potential_at}
-use Rattle.offsets.proofs.ReachLaws.{fell, fell_cell}
+use Rattle.offsets.proofs.TableLaws.{potential_at, spot_at}
+use Rattle.offsets.proofs.ReachLaws.{bounded, fell, fell_cell}
 use Rattle.offsets.proofs.NoneLaws.{is_none, none_or_else, good_pick}
 use Rattle.offsets.proofs.ToldLaws.{told_some, told_none}
 
-shift_moved : (g : Grid) (k f t c : ℕ) → shift g f t c ≡ moved g (shift_of g k f t) (row g c) (col g c)
+shift_moved : (g : Grid) (k f t c : ℕ) → shift g f t c ≡ moved g (shift_of g k f t) (spot g c)
 unfolding shift moved
 shift_moved g k f t c = refl
 
@@ -63,14 +63,13 @@ module _ {g : Grid} {table : List CellInfo} {cs : List ℕ} (u : Unit g table cs
   pub first_cell_of : {f' : ℕ} → f' ≡ get_or cs 0 0 → Cell g f'
   first_cell_of q = rw (q ∙ head_at cs) head_cell
 
-  pub shift_is : {f' t k a b c d : ℕ} → f' ≡ get_or cs 0 0 → Cell g t → k ≡ unit_in table f' → a ≡ row_in table f' → b ≡ col_in table f' → c ≡ row_in table t → d ≡ col_in table t
-      → ◌≡◌ {A = Shift} (record { unit = k; from_row = a; from_col = b; to_row = c; to_col = d }) (shift_of g (unit_in table (head_or0 cs)) (head_or0 cs) t)
-  shift_is {f'} {t} {k} {a} {b} {c} {d} first_is to_cell e x y m n =
+  pub shift_is : {f' t k : ℕ} {a b : Spot} → f' ≡ get_or cs 0 0 → Cell g t → k ≡ unit_in table f' → a ≡ spot_of (get_or table f' blank) → b ≡ spot_of (get_or table t blank)
+      → ◌≡◌ {A = Shift} (record { unit = k; from = a; to = b }) (shift_of g (unit_in table (head_or0 cs)) (head_or0 cs) t)
+  shift_is {f'} {t} {k} {a} {b} first_is to_cell e x y =
       let w : f' ≡ head_or0 cs = first_is ∙ head_at cs in
       let e' : k ≡ unit_in table (head_or0 cs) = e ∙ ap (unit_in table) w in
-      let x' : a ≡ row g (head_or0 cs) = x ∙ ap (row_in table) w ∙ u.table_of.row_at (head_or0 cs) head_cell in
-      let y' : b ≡ col g (head_or0 cs) = y ∙ ap (col_in table) w ∙ u.table_of.col_at (head_or0 cs) head_cell in
-      rw (e', x', y', m ∙ u.table_of.row_at t to_cell, n ∙ u.table_of.col_at t to_cell)
+      let x' : a ≡ spot g (head_or0 cs) = x ∙ ap (λ c. spot_of (get_or table c blank)) w ∙ spot_at u.table_of (head_or0 cs) head_cell in
+      rw (e', x', y ∙ spot_at u.table_of t to_cell)
 
 pub unit_of_lem : {g : Grid} {states : List ℕ} {table : List CellInfo} {marks cs : List ℕ} → Placed g states table marks cs → Unit g table cs
 unit_of_lem p = record { limits = p.limits; table_of = p.table_of; some = p.some; cells_are = p.cells_are }
@@ -100,17 +99,8 @@ module _ {g : Grid} {states : List ℕ} {table : List CellInfo} {marks cs : List
   first_cell : Cell g f
   first_cell = on_board_lem f (head_in cs p.some)
 
-  small : Small g s 0 0
-  small =
-      record {
-        limits = p.limits;
-        from_row = omega (arith, row_lt g f first_cell, p.limits.height_fits);
-        from_col = omega (arith, col_lt g f first_cell, p.limits.width_fits);
-        to_row = omega (arith, row_lt g t to_cell, p.limits.height_fits);
-        to_col = omega (arith, col_lt g t to_cell, p.limits.width_fits);
-        row_small = omega arith;
-        col_small = omega arith;
-      }
+  small : Small g s
+  small = record { limits = p.limits; from = bounded p.limits f first_cell; to = bounded p.limits t to_cell }
 
   u_cells : u.cells ≡ cs
   unfolding unit_of
@@ -128,7 +118,7 @@ module _ {g : Grid} {states : List ℕ} {table : List CellInfo} {marks cs : List
   put = shift g u.first t
 
   -- one cell falls as the definition says
-  put_is : (c : ℕ) → put c ≡ moved g s (row g c) (col g c)
+  put_is : (c : ℕ) → put c ≡ moved g s (spot g c)
   put_is c = ap (λ z. shift g z t c) u_first ∙ shift_moved g unit f t c
 
   falls_is : (c : ℕ) → falls_off g s ids c ≡ falls ids u put c
@@ -138,9 +128,9 @@ module _ {g : Grid} {states : List ℕ} {table : List CellInfo} {marks cs : List
   marked_is : (c : ℕ) → falls_marked g s pids marks c ≡ meets g states pids u put c
   unfolding meets
   marked_is c =
-      holds_same (moved g s (row g c) (col g c)) (λ x. not (eqb (get_or marks (get_or pids x 0) 0) 0)) (λ x. adjacent g states pids u.own (get_or pids x 0))
+      holds_same (moved g s (spot g c)) (λ x. not (eqb (get_or marks (get_or pids x 0) 0) 0)) (λ x. adjacent g states pids u.own (get_or pids x 0))
       (λ x q.
-      let k = fell_cell g s (row g c) (col g c) x (fell g s (row g c) (col g c) x q) in
+      let k = fell_cell g s (spot g c) x (fell g s (spot g c) x q) in
       let l : get_or pids x 0 < length marks = rw (potential_at g table x k) (p.marks_long x k) in
       p.marked (get_or pids x 0) l ∙ ap (λ o. adjacent g states pids o (get_or pids x 0)) (sym u_own))
       ∙ ap (λ o. holds o (λ x. adjacent g states pids u.own (get_or pids x 0))) (sym (put_is c))
@@ -163,7 +153,7 @@ module _ {g : Grid} {states : List ℕ} {table : List CellInfo} {marks cs : List
       record {
         small = small;
         on_board = on_board_lem;
-        falls = λ c i. let o = holds_true (moved g s (row g c) (col g c)) (λ x. not (eqb (get_or ids x 0) unit)) (all_true (falls_off g s ids) cs k.0 c i) in (o.0, o.1);
+        falls = λ c i. let o = holds_true (moved g s (spot g c)) (λ x. not (eqb (get_or ids x 0) unit)) (all_true (falls_off g s ids) cs k.0 c i) in (o.0, o.1);
       }
 
   -- a cell's landings are the definition's
@@ -207,7 +197,7 @@ module _ {g : Grid} {states : List ℕ} {table : List CellInfo} {marks cs : List
       ∙ ap₂ both (sym reach_is) (none_or_else inner_first outer_first ∙ ap₂ both (ap is_none (sym first_inner)) (ap is_none (sym first_outer)))
 
   module _ {s' : Shift} (e : s' ≡ s) where
-    pub shift_small : Small g s' 0 0
+    pub shift_small : Small g s'
     shift_small = rw e small
 
     module _ {met : Bool} (told_met : met ≡ reaches_of g s' ids pids marks cs) where

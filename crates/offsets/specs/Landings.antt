@@ -7,13 +7,15 @@ use Rattle.lists.specs.Lists.{In, first}
 use Rattle.grid.specs.declared.Direction.{Direction}
 use Rattle.grid.specs.Orders.{around, forward}
 use Rattle.grid.specs.declared.Grid.{Grid}
-use Rattle.grid.specs.Grid.{Cell, row, col, goes_on, next, border}
+use Rattle.grid.specs.Grid.{Cell, goes_on, next, border}
 use Rattle.borders.specs.Entry.{entry_of}
 use Rattle.borders.specs.Border.{state_at, stands}
 use Rattle.boundary.specs.Boundary.{ahead}
 use Rattle.offsets.specs.declared.shift.Shift.{Shift}
+use Rattle.offsets.specs.declared.spot.Spot.{Spot}
 use Rattle.offsets.specs.declared.landings.Kind.{Kind}
 use Rattle.offsets.specs.declared.landings.Kind.TheVariants.{Inner, Outer}
+use Rattle.offsets.specs.Table.{spot}
 use Rattle.offsets.specs.Places.{ahead_of, coordinate_of, land_of}
 use Rattle.offsets.specs.Reach.{moved, Small}
 
@@ -39,14 +41,14 @@ kept_of g states ids inner unit c d =
     pick inner (both (goes_on g d c) (ahead g ids unit c d)) (either (not (goes_on g d c)) (eqb (state_at g states d c) 2))
 
 -- where the border of the cell at a row and column lands, by doubled coordinates
-abbrev pub landing_of : Grid → Shift → ℕ → ℕ → Direction → std.Option ℕ
-landing_of g s y x d = land_of g (coordinate_of y (ahead_of d).y s.from_row s.to_row) (coordinate_of x (ahead_of d).x s.from_col s.to_col)
+abbrev pub landing_of : Grid → Shift → Spot → Direction → std.Option ℕ
+landing_of g s p d = land_of g (coordinate_of p.row (ahead_of d).y s.from.row s.to.row) (coordinate_of p.col (ahead_of d).x s.from.col s.to.col)
 
 -- the entry of a border of c that lands badly
 unfoldable pub fail_at : Grid → Shift → List ℕ → List ℕ → Bool → ℕ → Direction → Option ℕ
 unfolding through give kept_of stands border moved
 fail_at g s states ids inner c d =
-    through (moved g s (row g c) (col g c)) (λ x. give (both (kept_of g states ids inner s.unit c d) (stands g states (bad_state inner) d x)) (entry_of inner (border g d x)))
+    through (moved g s (spot g c)) (λ x. give (both (kept_of g states ids inner s.unit c d) (stands g states (bad_state inner) d x)) (entry_of inner (border g d x)))
 
 -- the first of a cell's borders that lands badly
 unfoldable pub fail_cell : Grid → Shift → List ℕ → List ℕ → Bool → ℕ → Option ℕ
@@ -65,11 +67,11 @@ failure_of g s states ids cs = or_else (first_fail g s states ids true cs) (firs
 -- c is a cell, and falls on the board
 pub record Turning (g : Grid) (s : Shift) (c : ℕ) : Type 0 where
   pub cell : Cell g c
-  pub small : Small g s 0 0
-  pub falls : (z : ℕ) × (moved g s (row g c) (col g c) ≡ some z)
+  pub small : Small g s
+  pub falls : (z : ℕ) × (moved g s (spot g c) ≡ some z)
 
 -- the cells of a list all are, and do
 pub record Falling (g : Grid) (cs : List ℕ) (s : Shift) : Type 0 where
-  pub small : Small g s 0 0
+  pub small : Small g s
   pub on_board : (c : ℕ) → In c cs → Cell g c
-  pub falls : (c : ℕ) → In c cs → (z : ℕ) × (moved g s (row g c) (col g c) ≡ some z)
+  pub falls : (c : ℕ) → In c cs → (z : ℕ) × (moved g s (spot g c) ≡ some z)

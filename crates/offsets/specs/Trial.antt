@@ -1,13 +1,13 @@
 -- What one trial of a unit asks and answers. The unit is told by its cells: the first of them has its number in the table. Assumes nothing.
 use Rattle.std.specs.Prelude.{ℕ, ◌<◌, ◌≤◌, ◌≡◌, Bool, not, List, eqb, get_or, length}
 use Rattle.grid.specs.declared.Grid.{Grid}
-use Rattle.grid.specs.Grid.{Limits, Cell, row, col, border_count}
+use Rattle.grid.specs.Grid.{Limits, Cell, border_count}
 use Rattle.groups.specs.Groups.{cells_of}
 use Rattle.shape.specs.declared.Try.{Try}
 use Rattle.shape.specs.Shape.{adjacent, head_or0, UnitInfo, unit_of, try_at, fits}
 use Rattle.offsets.specs.declared.shift.Shift.{Shift}
 use Rattle.offsets.specs.declared.table.CellInfo.{CellInfo}
-use Rattle.offsets.specs.Table.{Table, unit_in, potential_in, units_in, potentials_in}
+use Rattle.offsets.specs.Table.{Table, spot, unit_in, potential_in, units_in, potentials_in}
 
 -- the unit of these cells
 abbrev pub unit_at : Grid → List CellInfo → List ℕ → UnitInfo
@@ -15,7 +15,7 @@ unit_at g table cs = unit_of g (units_in g table) (potentials_in g table) (unit_
 
 -- the shift that puts f, a cell of unit k, on t
 abbrev pub shift_of : Grid → ℕ → ℕ → ℕ → Shift
-shift_of g k f t = record { unit = k; from_row = row g f; from_col = col g f; to_row = row g t; to_col = col g t }
+shift_of g k f t = record { unit = k; from = spot g f; to = spot g t }
 
 -- what comes of the offset that puts its first cell on `to`
 abbrev pub tried_at : Grid → List ℕ → List CellInfo → List ℕ → ℕ → Try

@@ -7,6 +7,7 @@ ghost use Rattle.offsets.specs.Landings.{Turning, Falling, is_inner, directions_
 
 use crate::chart::Chart;
 use crate::shift::Shift;
+use crate::spot::Spot;
 use grid::Direction;
 
 // Which of a unit's borders are looked at: those between its cells, or else its Walls and the board's edges.
@@ -51,8 +52,7 @@ impl Chart<'_> {
         requires { Cell self.borders.grid cell }
         ensures { result ≡ kept_of self.entry.borders.grid self.entry.borders.states.now (units_in self.entry.borders.grid self.entry.table.now) (is_inner kind) unit cell direction }
     {
-        let info = self.table[cell];
-        let (row, col) = (usize::from(info.row), usize::from(info.col));
+        let Spot { row, col } = self.table[cell].spot();
         let beyond = self.borders.grid.step_at(row, col, cell, direction);
         let Some(neighbour) = beyond else {
             return !kind.is_inner();
@@ -72,9 +72,8 @@ impl Chart<'_> {
         if !self.keeps(shift.unit, kind, cell, direction) {
             return None;
         }
-        let info = self.table[cell];
-        let (row, col) = (usize::from(info.row), usize::from(info.col));
-        let border = shift.lands(self.borders.grid, row, col, direction)?;
+        let spot = self.table[cell].spot();
+        let border = shift.lands(self.borders.grid, spot, direction)?;
         let entry = borders::entry(border, kind.is_inner());
         kind.is_bad(self.borders.states[border]).then_some(entry)
     }

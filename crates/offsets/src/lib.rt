@@ -21,6 +21,7 @@ pub mod chart;
 pub mod landings;
 mod places;
 pub mod shift;
+pub mod spot;
 pub mod table;
 pub mod trial;
 pub mod unit;
@@ -32,14 +33,11 @@ impl UnitCells<'_> {
         requires { Cell self.chart.borders.grid to }
         ensures { result ≡ shift_of self.entry.chart.borders.grid (unit_in self.entry.chart.table.now (head_or0 self.entry.cells.now)) (head_or0 self.entry.cells.now) to }
     {
-        let from = self.chart.table[usize::from(self.cells[0])];
-        let to = self.chart.table[to];
+        let first = self.chart.table[usize::from(self.cells[0])];
         Shift {
-            unit: from.unit,
-            from_row: usize::from(from.row),
-            from_col: usize::from(from.col),
-            to_row: usize::from(to.row),
-            to_col: usize::from(to.col),
+            unit: first.unit,
+            from: first.spot(),
+            to: self.chart.table[to].spot(),
         }
     }
 
@@ -60,15 +58,14 @@ impl Trial<'_> {
     // An offset that is not passed over: all cells fall on the board and off the unit, and one falls in a marked potential unit.
     #[inline(always)]
     fn reaches(self, shift: Shift) -> bool
-        requires { Small self.unit.chart.borders.grid shift 0 0 }
+        requires { Small self.unit.chart.borders.grid shift }
         ensures { result ≡ reaches_of self.entry.unit.chart.borders.grid shift (units_in self.entry.unit.chart.borders.grid self.entry.unit.chart.table.now) (potentials_in self.entry.unit.chart.borders.grid self.entry.unit.chart.table.now) self.entry.marks.now self.entry.unit.cells.now }
     {
         let Chart { borders, table } = self.unit.chart;
         let mut met = false;
         for &cell in self.unit.cells {
-            let info = table[usize::from(cell)];
-            let (row, col) = (usize::from(info.row), usize::from(info.col));
-            let Some(fallen) = shift.falls(borders.grid, row, col) else {
+            let spot = table[usize::from(cell)].spot();
+            let Some(fallen) = shift.falls(borders.grid, spot) else {
                 return false;
             };
             let beneath = table[fallen];

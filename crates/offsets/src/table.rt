@@ -1,11 +1,12 @@
 // The table that an ask makes once: for each cell its row, its column, its unit and its potential unit, so that no offset divides.
 ghost use Rattle.std.specs.Prelude.{◌≡◌};
-ghost use Rattle.offsets.specs.Table.{Fillable, Filled};
+ghost use Rattle.offsets.specs.Table.{spot_of, Fillable, Filled};
 
+use crate::spot::Spot;
 use grid::Grid;
 
-// What the table has of a cell.
-#[derive(Clone, Copy, Debug, PartialEq, Eq)]
+// What the table has of a cell; zeros stand where no cell is.
+#[derive(Clone, Copy, Debug, Default, PartialEq, Eq)]
 pub struct CellInfo {
     pub row: u16,
     pub col: u16,
@@ -13,13 +14,18 @@ pub struct CellInfo {
     pub potential: u16,
 }
 
-// What stands where no cell is.
-pub const BLANK: CellInfo = CellInfo {
-    row: 0,
-    col: 0,
-    unit: 0,
-    potential: 0,
-};
+impl CellInfo {
+    // Its row and column.
+    #[inline(always)]
+    pub fn spot(self) -> Spot
+        ensures { result ≡ spot_of self }
+    {
+        Spot {
+            row: usize::from(self.row),
+            col: usize::from(self.col),
+        }
+    }
+}
 
 // Fills the table of a board, whose cells have these units and potential units.
 pub fn fill(grid: Grid, ids: &[u16], pids: &[u16], table: &mut [CellInfo])

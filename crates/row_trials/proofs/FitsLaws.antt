@@ -19,7 +19,7 @@ use Rattle.grid.proofs.Geometry.{row_lt, col_lt}
 use Rattle.groups.proofs.GroupLaws.{in_cells}
 use Rattle.shape.specs.Shape.{head_or0, is_good, fits}
 use Rattle.offsets.specs.declared.table.CellInfo.{CellInfo}
-use Rattle.offsets.specs.Table.{unit_in, units_in, potentials_in}
+use Rattle.offsets.specs.Table.{spot, unit_in, units_in, potentials_in}
 use Rattle.offsets.specs.Reach.{moved, falls_off, falls_marked, reaches_of}
 use Rattle.offsets.specs.Landings.{first_fail}
 use Rattle.offsets.specs.Trial.{shift_of, tried_at, fits_at, Placed}
@@ -55,8 +55,8 @@ module _ {g : Grid} {states : List ℕ} {table : List CellInfo} {marks cs : List
       let pids = potentials_in g table in
       let r = (both_true (reaches_of g s ids pids marks cs) (both (is_none (first_fail g s states ids true cs)) (is_none (first_fail g s states ids false cs))) (sym (good_is p k) ∙ q)).0 in
       let a = (both_true (all (falls_off g s ids) cs) (any (falls_marked g s pids marks) cs) r).0 in
-      let o = holds_true (moved g s (row g c) (col g c)) (λ x. not (eqb (get_or ids x 0) (unit_in table (head_or0 cs)))) (all_true (falls_off g s ids) cs a c m) in
-      let w = fell g s (row g c) (col g c) o.0 o.1 in
+      let o = holds_true (moved g s (spot g c)) (λ x. not (eqb (get_or ids x 0) (unit_in table (head_or0 cs)))) (all_true (falls_off g s ids) cs a c m) in
+      let w = fell g s (spot g c) o.0 o.1 in
       omega (arith, w.row_moves, w.row_in)
 
   -- some row's offset is good

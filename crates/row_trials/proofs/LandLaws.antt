@@ -20,6 +20,7 @@ use Rattle.borders.specs.Entry.{entry_of}
 use Rattle.borders.specs.Border.{stands}
 use Rattle.shape.specs.Shape.{along}
 use Rattle.offsets.specs.declared.shift.Shift.{Shift}
+use Rattle.offsets.specs.Table.{spot}
 use Rattle.offsets.specs.Reach.{moved, falls_off, falls_marked}
 use Rattle.offsets.specs.Landings.{kept_of, fail_at}
 use Rattle.offsets.specs.Trial.{shift_of}
@@ -73,7 +74,7 @@ module _ (g : Grid) (limits : Limits g) (unit f t x c : ℕ) (first : Cell g f) 
   close : (col g f < 32) × (col g c < 32)
   close = narrow g limits f c first cell
 
-  moved_is : moved g s (row g c) (col g c) ≡ give stays (row_to * g.width + col_to)
+  moved_is : moved g s (spot g c) ≡ give stays (row_to * g.width + col_to)
   unfolding moved through along give
   moved_is =
       let q = coords g.width (t * g.width + x) t x wide refl in
@@ -113,7 +114,7 @@ module _ (g : Grid) (limits : Limits g) (unit f t x c : ℕ) (first : Cell g f) 
         let b = both_true (leb (col g f) (col g c + x)) (ltb col_to g.width) on in
         (leb-true (col g f) (col g c + x) b.0, ltb-true col_to g.width b.1)
 
-    moved_on : moved g s (row g c) (col g c) ≡ some (row_to * g.width + col_to)
+    moved_on : moved g s (spot g c) ≡ some (row_to * g.width + col_to)
     unfolding give
     moved_on = moved_is ∙ ap (λ b. give b (row_to * g.width + col_to)) on
 

@@ -9,10 +9,10 @@ use borrow.Author.Tests.{eqb-true, eq-eqb}
 use lib.Dec.{eqb}
 use lib.ListN.{get_or}
 use Rattle.lists.specs.Choice.{both}
-use Rattle.lists.specs.Lists.{In, range, first}
+use Rattle.lists.specs.Lists.{In, range}
 use Rattle.lists.proofs.Cases.{not_both}
 use Rattle.lists.proofs.ChoiceLaws.{both_true, true_both, give_some, give_none}
-use Rattle.lists.proofs.ListLaws.{in_left, in_right, in_append, first_some, first_none, range_in, in_range}
+use Rattle.lists.proofs.ListLaws.{in_left, in_right, in_append, first_of_both, none_of_both, range_in, in_range}
 use Rattle.frame.specs.Frame.{States, SameUnit, NoInnerWall}
 use Rattle.frame.proofs.Chains.{unit_back}
 use Rattle.grid.specs.declared.Direction.{Direction}
@@ -43,13 +43,14 @@ pub record Inner (g : Grid) (states ids L : List ℕ) : Type 0 where
 pub inner_at_lem : (g : Grid) (states ids L : List ℕ) → inner_wall g states ids ≡ some L → Inner g states ids L
 unfolding inner_wall inner_at
 inner_at_lem g states ids L q =
-    let c = first_some (λ c. first (inner_at g states ids c) forward) (range (cells g)) L q in
-    let d = first_some (inner_at g states ids c.0) forward L c.2 in
-    let there = next g d.0 c.0 in
-    let test = eqb (get_or ids c.0 0) (get_or ids there 0) in
-    let o = give_some (both (stands g states 2 d.0 c.0) test) (path_list g states c.0 there ++ (wall_entry (border g d.0 c.0) ∷ [])) L d.2 in
-    let r = both_true (stands g states 2 d.0 c.0) test o.0 in
-    record { c = c.0; d = d.0; cell = in_range (cells g) c.0 c.1; wall = r.0; same = eqb-true _ _ r.1; list = o.1 }
+    let k = first_of_both (inner_at g states ids) (range (cells g)) forward L q in
+    let c = k.0 in
+    let d = k.1 in
+    let there = next g d c in
+    let test = eqb (get_or ids c 0) (get_or ids there 0) in
+    let o = give_some (both (stands g states 2 d c) test) (path_list g states c there ++ (wall_entry (border g d c) ∷ [])) L k.3 in
+    let r = both_true (stands g states 2 d c) test o.0 in
+    record { c = c; d = d; cell = in_range (cells g) c k.2; wall = r.0; same = eqb-true _ _ r.1; list = o.1 }
 
 module _ (g : Grid) (states ids : List ℕ) (m : ℕ) (lu : Labels g ids m (SameUnit (Neighbours g) (state_of states))) where
   ahead_free : inner_wall g states ids ≡ none → (a c e : ℕ) → Ahead g a c e → state_of states e ≡ 2 → SameUnit (Neighbours g) (state_of states) a c → ⊥
@@ -61,8 +62,7 @@ module _ (g : Grid) (states ids : List ℕ) (m : ℕ) (lu : Labels g ids m (Same
       (true_both (stands g states 2 d a) (eqb (get_or ids a 0) (get_or ids (next g d a) 0)) (step_stands g states 2 d a c e s w)
       (eq-eqb _ _ (lu.alike a c s.cell s.cell' j ∙ ap (λ i. get_or ids i 0) (step_next g d a c e s))))
       (give_none _ (path_list g states a (next g d a) ++ (wall_entry (border g d a) ∷ []))
-      (first_none (inner_at g states ids a) forward
-      (first_none (λ c. first (inner_at g states ids c) forward) (range (cells g)) q a (range_in (cells g) a s.cell)) d h.1))
+      (none_of_both (inner_at g states ids) (range (cells g)) forward q a d (range_in (cells g) a s.cell) h.1))
 
   pub inner_none : inner_wall g states ids ≡ none → NoInnerWall (Neighbours g) (state_of states)
   inner_none q a c e w z j =

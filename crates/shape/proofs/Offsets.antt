@@ -9,11 +9,11 @@ use mathlib.Core.Option.{Option, none, some}
 use borrow.Author.Tests.{eqb-true, eqb-false, eq-eqb, ne_eqb, not-true, not-false}
 use lib.Dec.{eqb}
 use lib.ListN.{get_or}
-use Rattle.lists.specs.Choice.{both, pick, give}
+use Rattle.lists.specs.Choice.{both, pick, give, through}
 use Rattle.lists.specs.Lists.{In, any, all, first}
 use Rattle.lists.proofs.Cases.{true_or_false, not_both}
 use Rattle.lists.proofs.ChoiceLaws.{both_true, true_both, either_true, left_either, right_either, give_some, give_none, or_else_none, or_else_some, holds_true, true_holds, none_or_some, through_some, through_none}
-use Rattle.lists.proofs.ListLaws.{any_true, true_any, all_true, true_all, first_some, first_none}
+use Rattle.lists.proofs.ListLaws.{any_true, true_any, all_true, true_all, first_of_both, none_of_both}
 use Rattle.frame.specs.Frame.{Relation, States, SameUnit, SamePotential, Adjacent}
 use Rattle.frame.proofs.Offset.{Tried, Good, OnWall, OnConnected, Fails}
 use Rattle.grid.specs.declared.Direction.{Direction}
@@ -57,14 +57,23 @@ entry_pick true (some e) l (inl q) = ap some (sym q)
 entry_pick true (some e) l (inr m) = absurd m
 entry_pick false o l m = absurd m
 
+-- what is given of the cell on which a cell falls, where a test of either holds
+module _ (o : Option ℕ) (t : Bool) (at : ℕ → Bool) (entry : ℕ → ℕ) where
+  abbrev given : Option ℕ
+  given = through o (λ x. give (both t (at x)) (entry x))
+
+  given_some : (l : ℕ) → given ≡ some l → (x : ℕ) × (o ≡ some x) × (t ≡ true) × (at x ≡ true) × (l ≡ entry x)
+  given_some l q =
+      let x = through_some o (λ x. give (both t (at x)) (entry x)) l q in
+      let k = give_some (both t (at x.0)) (entry x.0) l x.2 in
+      let b = both_true t (at x.0) k.0 in
+      (x.0, x.1, b.0, b.1, k.1)
+
+  given_none : given ≡ none → (x : ℕ) → o ≡ some x → t ≡ true → at x ≡ true → ⊥
+  given_none q x p i w = not_both _ (true_both t (at x) i w) (give_none _ (entry x) (through_none o (λ x. give (both t (at x)) (entry x)) x p q))
+
 -- a failed landing stands where it was found
 module _ (g : Grid) (states ids : List ℕ) (u : UnitInfo) (put : ℕ → Option ℕ) where
-  abbrev wall_there : ℕ → Direction → ℕ → Option ℕ
-  wall_there c d x = give (both (inner_border g ids u c d) (stands g states 2 d x)) (wall_entry (border g d x))
-
-  abbrev connected_there : ℕ → Direction → ℕ → Option ℕ
-  connected_there c d x = give (both (shut g states c d) (stands g states 1 d x)) (connected_entry (border g d x))
-
   abbrev walls : Option ℕ
   walls = first (λ c. first (on_wall g states ids u put c) forward) u.cells
 
@@ -77,33 +86,19 @@ module _ (g : Grid) (states ids : List ℕ) (u : UnitInfo) (put : ℕ → Option
   unfolding landing
   landing_some l q =
       ⊎_elim
-      (λ k.
-      let c = first_some (λ c. first (on_wall g states ids u put c) forward) u.cells l k in
-      let d = first_some (on_wall g states ids u put c.0) forward l c.2 in
-      inl (c.0, d.0, c.1, d.2))
-      (λ k.
-      let c = first_some (λ c. first (on_connected g states put c) around) u.cells l k in
-      let d = first_some (on_connected g states put c.0) around l c.2 in
-      inr (c.0, d.0, c.1, d.2))
+      (λ k. inl (first_of_both (on_wall g states ids u put) u.cells forward l k))
+      (λ k. inr (first_of_both (on_connected g states put) u.cells around l k))
       (or_else_some walls connecteds l q)
 
   wall_some : (c l : ℕ) (d : Direction) → on_wall g states ids u put c d ≡ some l
       → (x : ℕ) × (put c ≡ some x) × (inner_border g ids u c d ≡ true) × (stands g states 2 d x ≡ true) × (l ≡ wall_entry (border g d x))
   unfolding on_wall
-  wall_some c l d q =
-      let x = through_some (put c) (wall_there c d) l q in
-      let o = give_some (both (inner_border g ids u c d) (stands g states 2 d x.0)) (wall_entry (border g d x.0)) l x.2 in
-      let t = both_true (inner_border g ids u c d) (stands g states 2 d x.0) o.0 in
-      (x.0, x.1, t.0, t.1, o.1)
+  wall_some c l d q = given_some (put c) (inner_border g ids u c d) (stands g states 2 d) (λ x. wall_entry (border g d x)) l q
 
   connected_some : (c l : ℕ) (d : Direction) → on_connected g states put c d ≡ some l
       → (x : ℕ) × (put c ≡ some x) × (shut g states c d ≡ true) × (stands g states 1 d x ≡ true) × (l ≡ connected_entry (border g d x))
   unfolding on_connected
-  connected_some c l d q =
-      let x = through_some (put c) (connected_there c d) l q in
-      let o = give_some (both (shut g states c d) (stands g states 1 d x.0)) (connected_entry (border g d x.0)) l x.2 in
-      let t = both_true (shut g states c d) (stands g states 1 d x.0) o.0 in
-      (x.0, x.1, t.0, t.1, o.1)
+  connected_some c l d q = given_some (put c) (shut g states c d) (stands g states 1 d) (λ x. connected_entry (border g d x)) l q
 
   pub landing_stands : (l : ℕ) → landing g states ids u put ≡ some l → Stands (state_of states) l
   landing_stands l q =
@@ -120,20 +115,14 @@ module _ (g : Grid) (states ids : List ℕ) (u : UnitInfo) (put : ℕ → Option
     wall_free : (a x : ℕ) (d : Direction) → In a u.cells → In d forward → put a ≡ some x → inner_border g ids u a d ≡ true → stands g states 2 d x ≡ true → ⊥
     unfolding landing on_wall
     wall_free a x d m k p i w =
-        not_both _ (true_both (inner_border g ids u a d) (stands g states 2 d x) i w)
-        (give_none _ (wall_entry (border g d x))
-        (through_none (put a) (wall_there a d) x p
-        (first_none (on_wall g states ids u put a) forward
-        (first_none (λ c. first (on_wall g states ids u put c) forward) u.cells (or_else_none walls connecteds free).0 a m) d k)))
+        given_none (put a) (inner_border g ids u a d) (stands g states 2 d) (λ x. wall_entry (border g d x))
+        (none_of_both (on_wall g states ids u put) u.cells forward (or_else_none walls connecteds free).0 a d m k) x p i w
 
     connected_free : (a x : ℕ) (d : Direction) → In a u.cells → put a ≡ some x → shut g states a d ≡ true → stands g states 1 d x ≡ true → ⊥
     unfolding landing on_connected
     connected_free a x d m p i w =
-        not_both _ (true_both (shut g states a d) (stands g states 1 d x) i w)
-        (give_none _ (connected_entry (border g d x))
-        (through_none (put a) (connected_there a d) x p
-        (first_none (on_connected g states put a) around
-        (first_none (λ c. first (on_connected g states put c) around) u.cells (or_else_none walls connecteds free).1 a m) d (in_around d))))
+        given_none (put a) (shut g states a d) (stands g states 1 d) (λ x. connected_entry (border g d x))
+        (none_of_both (on_connected g states put) u.cells around (or_else_none walls connecteds free).1 a d m (in_around d)) x p i w
 
 module _ (g : Grid) (states ids pids : List ℕ) (m n : ℕ)
     (lu : Labels g ids m (SameUnit (Neighbours g) (state_of states))) (lp : Labels g pids n (SamePotential (Neighbours g) (state_of states))) where

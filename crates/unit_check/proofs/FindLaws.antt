@@ -16,14 +16,14 @@ use Rattle.lists.proofs.Cases.{eq_or_ne, true_or_false, not_both}
 use Rattle.lists.proofs.ChoiceLaws.{both_true, holds_true}
 use Rattle.lists.proofs.ListLaws.{any_true, all_true}
 use Rattle.grid.specs.declared.Grid.{Grid}
-use Rattle.grid.specs.Grid.{Limits, cells, Cell, row, col, border_count}
+use Rattle.grid.specs.Grid.{Limits, cells, Cell, border_count}
 use Rattle.groups.specs.Groups.{cells_of}
 use Rattle.groups.specs.Lent.{InTurn}
 use Rattle.groups.proofs.GroupLaws.{in_cells}
 use Rattle.groups.proofs.Theorems.{turn_some}
 use Rattle.shape.specs.Shape.{head_or0, shift, unit_of, falls, meets, landing, try, try_at, is_good, fits}
 use Rattle.offsets.specs.declared.table.CellInfo.{CellInfo}
-use Rattle.offsets.specs.Table.{Table, unit_in, potential_in, units_in, potentials_in}
+use Rattle.offsets.specs.Table.{Table, spot, unit_in, potential_in, units_in, potentials_in}
 use Rattle.offsets.specs.Reach.{moved}
 use Rattle.offsets.specs.Trial.{unit_at, shift_of, fits_at, Unit, Placed}
 use Rattle.offsets.proofs.TableLaws.{unit_at_lem, potential_at}
@@ -160,7 +160,7 @@ module _ {g : Grid} (states : List ℕ) (table : List CellInfo) {n : ℕ} {start
       let d = all_true (falls all_ids u put) all_cells c f (head_in all_cells (turn_some turns (omega arith))) in
       let x = holds_true (put f) (λ z. not (eqb (get_or all_ids z 0) 0)) d in
       let s = shift_of g 0 f a.0 in
-      let k = turns.small x.0 (fell_cell g s (row g f) (col g f) x.0 (fell g s (row g f) (col g f) x.0 x.1)) in
+      let k = turns.small x.0 (fell_cell g s (spot g f) x.0 (fell g s (spot g f) x.0 x.1)) in
       not_both (eqb (get_or all_ids x.0 0) 0) (eq-eqb (get_or all_ids x.0 0) 0 (omega (arith, k, e))) (not-true (eqb (get_or all_ids x.0 0) 0) x.2)
 
   pub only_unit : FirstUnfit (fits_in g states table) n 0

@@ -11,7 +11,7 @@ use borders::Borders;
 use groups::Groups;
 use limits::CELLS;
 use offsets::chart::Chart;
-use offsets::table;
+use offsets::table::{self, CellInfo};
 use stage::Stage;
 
 mod find;
@@ -41,7 +41,7 @@ fn check_in<'a, const CELLS: usize, const STARTS: usize, const NEAR: usize, cons
         starts: &starts[..count],
         flat: &flat,
     };
-    let mut table = [table::BLANK; CELLS];
+    let mut table = [CellInfo::default(); CELLS];
     table::fill(grid, units.ids, potentials.ids, &mut table);
     let mut marks = [0; CELLS];
     let mut near_starts = [0; STARTS];

@@ -8,24 +8,24 @@ use Rattle.offsets.proofs.shift.Shift.falls.Goals as goal
 
 pub returns-in_err-y : goal.returns-in_err-y
 returns-in_err-y c =
-    let a = c.args in c.from_residual.ensures ∙ off_row a.grid a.self a.row a.col c.along.ensures c.in_err-y.was
+    let a = c.args in c.from_residual.ensures ∙ off_row a.grid a.self a.spot c.along.ensures c.in_err-y.was
 
 pub returns-in_err-x : goal.returns-in_err-x
 returns-in_err-x c =
     let a = c.args in
-    c.from_residual-in_err-x.ensures ∙ off_col a.grid a.self a.row a.col c.along.ensures c.in_ok-y.was c.along-2.ensures c.in_err-x.was
+    c.from_residual-in_err-x.ensures ∙ off_col a.grid a.self a.spot c.along.ensures c.in_ok-y.was c.along-2.ensures c.in_err-x.was
 
 pub overflow_add-result : goal.overflow_add-result
 overflow_add-result c =
     let g = c.args.grid in
-    omega (arith, mul-add-lt c.in_ok-y.y g.width c.in_ok-x.x g.height (along_below _ _ _ c.along.ensures c.in_ok-y.was) (along_below _ _ _ c.along-2.ensures c.in_ok-x.was), cells_le g c.requires.limits)
+    omega (arith, mul-add-lt c.in_ok-y.y g.width c.in_ok-x.x g.height (along_below _ _ _ c.along.ensures c.in_ok-y.was) (along_below _ _ _ c.along-2.ensures c.in_ok-x.was), cells_le g c.requires.0.limits)
 
 pub overflow_mul-result : goal.overflow_mul-result
 overflow_mul-result c =
     let g = c.args.grid in
-    omega (arith, mul-add-lt c.in_ok-y.y g.width c.in_ok-x.x g.height (along_below _ _ _ c.along.ensures c.in_ok-y.was) (along_below _ _ _ c.along-2.ensures c.in_ok-x.was), cells_le g c.requires.limits)
+    omega (arith, mul-add-lt c.in_ok-y.y g.width c.in_ok-x.x g.height (along_below _ _ _ c.along.ensures c.in_ok-y.was) (along_below _ _ _ c.along-2.ensures c.in_ok-x.was), cells_le g c.requires.0.limits)
 
 pub returns : goal.returns
 returns c =
     let a = c.args in
-    on_cell a.grid a.self a.row a.col c.along.ensures c.in_ok-y.was c.along-2.ensures c.in_ok-x.was
+    on_cell a.grid a.self a.spot c.along.ensures c.in_ok-y.was c.along-2.ensures c.in_ok-x.was

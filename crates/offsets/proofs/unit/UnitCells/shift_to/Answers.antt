@@ -10,4 +10,4 @@ bounds-self-from c =
 
 pub returns : goal.returns
 returns c =
-    shift_is c.args.self.unit c.from.ensures c.requires refl c.from-2.ensures c.from-3.ensures c.from-4.ensures c.from-5.ensures
+    shift_is c.args.self.unit c.from.ensures c.requires refl c.spot.ensures c.spot-2.ensures
