@@ -22,16 +22,24 @@ NearRow g states pids p words y = Says g.width (λ x. adjacent g states pids p (
 
 -- row y's stamp: the potential unit for which its word stands
 abbrev pub stamp : Near → ℕ → Option ℕ
-stamp near y = get_or near.stamps y None
+stamp near y = get_or near.stamps.now y None
 
 -- each row's word stands for the potential unit of its stamp
 pub record Stamped (g : Grid) (states pids : List ℕ) (near : Near) : Type 0 where
-  pub words_long : g.height ≤ length near.words
-  pub stamps_long : g.height ≤ length near.stamps
-  pub says : (y p : ℕ) → y < g.height → stamp near y ≡ Some p → NearRow g states pids p near.words y
+  pub words_long : g.height ≤ length near.words.now
+  pub stamps_long : g.height ≤ length near.stamps.now
+  pub says : (y p : ℕ) → y < g.height → stamp near y ≡ Some p → NearRow g states pids p near.words.now y
+
+-- the same lists are lent, and they are as long
+pub record SameLists (near near' : Near) : Type 0 where
+  pub words : near'.words.ghost_name ≡ near.words.ghost_name
+  pub stamps : near'.stamps.ghost_name ≡ near.stamps.ghost_name
+  pub words_as_long : length near'.words.now ≡ length near.words.now
+  pub stamps_as_long : length near'.stamps.now ≡ length near.stamps.now
 
 -- the rows from one up to another stand for p, too; a row that stood for p still does
 pub record Restamped (g : Grid) (states pids : List ℕ) (p from to : ℕ) (near near' : Near) : Type 0 where
   pub stamped : Stamped g states pids near'
+  pub same : SameLists near near'
   pub here : (y : ℕ) → from ≤ y → y < to → stamp near' y ≡ Some p
   pub kept : (y : ℕ) → stamp near y ≡ Some p → stamp near' y ≡ Some p

@@ -2,7 +2,7 @@
 // when a row is first needed and kept while the next units have the same potential unit.
 #![tactic(auto)]
 
-ghost use Rattle.std.specs.Prelude.{List, ℕ, not, ◌+◌, ◌*◌, ◌≤◌, ◌<◌, eqb, get_or};
+ghost use Rattle.std.specs.Prelude.{not, ◌+◌, ◌*◌, ◌≤◌, ◌<◌, eqb, get_or};
 ghost use Rattle.shape.specs.Shape.{head_or0};
 ghost use Rattle.offsets.specs.Table.{unit_in, potential_in, units_in, potentials_in};
 ghost use Rattle.offsets.specs.Trial.{Unit};
@@ -15,11 +15,11 @@ use offsets::table::CellInfo;
 
 pub mod marked;
 
-// For each row the word of the cells that are near, and the potential unit for which it was made.
+// For each row the word of the cells that are near, and the potential unit for which it was made, if it was.
 #[derive(Drop)]
-pub struct Near {
-    pub words: [u64; 32],
-    pub stamps: [Option<u16>; 32],
+pub struct Near<'a> {
+    pub words: &'a mut [u64],
+    pub stamps: &'a mut [Option<u16>],
 }
 
 // Sets the bits of a unit's cells in words that are blank. The size is named for the contract alone: the table has what is read.
@@ -49,17 +49,7 @@ impl Marked<'_> {
     }
 }
 
-impl Near {
-    // No word is made.
-    pub fn unmade() -> Near
-        ensures { (g : Grid) (states pids : List ℕ) → g.height ≤ 32 → Stamped g states pids result }
-    {
-        Near {
-            words: [0; 32],
-            stamps: [None; 32],
-        }
-    }
-
+impl Near<'_> {
     // Makes the word of a row for a potential unit, whose adjacent ones are marked, unless it stands there.
     fn stamp_row(&mut self, marked: Marked<'_>, y: usize)
         requires stamped { Stamped marked.grid marked.states.now (potentials_in marked.grid marked.table.now) self.old }

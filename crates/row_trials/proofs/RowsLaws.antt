@@ -15,7 +15,8 @@ use Rattle.shape.specs.Shape.{head_or0}
 use Rattle.cell_words.specs.declared.Near.{Near}
 use Rattle.cell_words.specs.Marks.{Stamping}
 use Rattle.cell_words.specs.Cells.{Stamped, Restamped}
-use Rattle.row_trials.specs.Rows.{row_good, rows_good, NearRows}
+use Rattle.cell_words.proofs.NearLaws.{same_lists, same_then}
+use Rattle.row_trials.specs.Rows.{row_good, rows_good, NearRows, Held}
 
 any_next : (p : ℕ → Bool) (n i : ℕ) → i < n → any p (count_from i (n - i)) ≡ either (p i) (any p (count_from (i + 1) (n - (i + 1))))
 unfolding any
@@ -26,15 +27,15 @@ unfolding any
 any_last p n i h = rw (count_from_end n i h)
 
 -- what is left of the rows, from t on
-pub record RowsWalk (g : Grid) (states : List ℕ) (table : List CellInfo) (cs : List ℕ) (from to : ℕ) (near : Near) (t : ℕ) : Type 0 where
+pub record RowsWalk (g : Grid) (states : List ℕ) (table : List CellInfo) (cs : List ℕ) (from to : ℕ) (near₀ near : Near) (t : ℕ) : Type 0 where
   pub rest : rows_good g states table cs t to ≡ rows_good g states table cs from to
-  pub stamped : Stamped g states (potentials_in g table) near
+  pub held : Held g states (potentials_in g table) near₀ near
 
 module _ {g : Grid} {states : List ℕ} {table : List CellInfo} {cs : List ℕ} {from to : ℕ} where
-  pub rows_start : {near : Near} → Stamped g states (potentials_in g table) near → RowsWalk g states table cs from to near from
-  rows_start s = record { rest = refl; stamped = s }
+  pub rows_start : {near : Near} → Stamped g states (potentials_in g table) near → RowsWalk g states table cs from to near near from
+  rows_start {near} s = record { rest = refl; held = record { stamped = s; same = same_lists near } }
 
-  module _ {near : Near} {t : ℕ} (w : RowsWalk g states table cs from to near t) where
+  module _ {near₀ near : Near} {t : ℕ} (w : RowsWalk g states table cs from to near₀ near t) where
     pub rows_end : to ≤ t → false ≡ rows_good g states table cs from to
     rows_end h = sym (any_last (row_good g states table cs) to t h) ∙ w.rest
 
@@ -46,8 +47,8 @@ module _ {g : Grid} {states : List ℕ} {table : List CellInfo} {cs : List ℕ} 
       rows_found e q = rw (sym e ∙ q) at left
 
       pub rows_turn : {p a b : ℕ} {near' : Near} → Restamped g states (potentials_in g table) p a b near near' → {r : Bool} → r ≡ row_good g states table cs t → r ≡ false
-          → RowsWalk g states table cs from to near' (t + 1)
-      rows_turn s e q = record { rest = (rw (sym e ∙ q) at left); stamped = s.stamped }
+          → RowsWalk g states table cs from to near₀ near' (t + 1)
+      rows_turn s e q = record { rest = (rw (sym e ∙ q) at left); held = record { stamped = s.stamped; same = same_then w.held.same s.same } }
 
 -- the unit's potential unit has its marks; and the rows on which it falls have their words once they are stamped
 pub stamping : {g : Grid} {states : List ℕ} {table : List CellInfo} {marks cs : List ℕ} → Placed g states table marks cs → {own : ℕ} → own ≡ potential_in table (head_or0 cs)
@@ -55,7 +56,7 @@ pub stamping : {g : Grid} {states : List ℕ} {table : List CellInfo} {marks cs 
 stamping p e = record { marks_long = p.marks_long; marked = rw e p.marked }
 
 pub near_rows : {g : Grid} {states : List ℕ} {table : List CellInfo} {cs : List ℕ} {own t tall : ℕ} → own ≡ potential_in table (head_or0 cs) → t + tall < g.height
-    → {near near' : Near} → Restamped g states (potentials_in g table) own t (t + tall + 1) near near' → NearRows g states table cs t tall near'.words
+    → {near near' : Near} → Restamped g states (potentials_in g table) own t (t + tall + 1) near near' → NearRows g states table cs t tall near'.words.now
 near_rows {own = own} {t = t} e h {near' = near'} s =
     record {
       high = h;

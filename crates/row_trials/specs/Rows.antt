@@ -9,7 +9,8 @@ use Rattle.offsets.specs.declared.table.CellInfo.{CellInfo}
 use Rattle.offsets.specs.Table.{potential_in, potentials_in}
 use Rattle.offsets.specs.Trial.{tried_at}
 use Rattle.words.specs.Words.{bit, reads}
-use Rattle.cell_words.specs.Cells.{NearRow}
+use Rattle.cell_words.specs.declared.Near.{Near}
+use Rattle.cell_words.specs.Cells.{NearRow, Stamped, SameLists}
 
 -- the offset that puts the first cell on column x of row t is good (SPEC 4.8, 4.9)
 abbrev pub good_at : Grid → List ℕ → List CellInfo → List ℕ → ℕ → ℕ → Bool
@@ -39,3 +40,8 @@ pub record NearRows (g : Grid) (states : List ℕ) (table : List CellInfo) (cs :
   pub high : t + tall < g.height
   pub long : g.height ≤ length near
   pub says : (y : ℕ) → t ≤ y → y ≤ t + tall → NearRow g states (potentials_in g table) (potential_in table (head_or0 cs)) near y
+
+-- each row's word still stands for the potential unit of its stamp, in the same lists
+pub record Held (g : Grid) (states pids : List ℕ) (near near' : Near) : Type 0 where
+  pub stamped : Stamped g states pids near'
+  pub same : SameLists near near'

@@ -10,7 +10,7 @@ ghost use Rattle.offsets.specs.Trial.{fits_at};
 ghost use Rattle.words.specs.Words.{Readable};
 ghost use Rattle.cell_words.specs.Cells.{Stamped};
 ghost use Rattle.row_trials.specs.Coded.{Ends, Asking};
-ghost use Rattle.row_trials.specs.Rows.{rows_good, left_at, Found};
+ghost use Rattle.row_trials.specs.Rows.{rows_good, left_at, Found, Held};
 
 use cell_words::Near;
 use cell_words::marked::Marked;
@@ -24,13 +24,13 @@ mod coded;
 impl Coded<'_> {
     // Whether the unit fits with its first row in row `t`: of the offsets at which it reaches a cell that is near, one puts no cell on the unit
     // itself and lands no border badly.
-    fn row_fits(&self, near: &[u64], t: usize) -> bool
-        requires readable { Readable near.now self.now.codes.now t }
+    fn row_fits(&self, near: &Near<'_>, t: usize) -> bool
+        requires readable { Readable near.now.words.now self.now.codes.now t }
         requires readable_2 { Readable self.now.inside.now self.now.codes.now t }
         requires readable_3 { Readable self.now.words.now self.now.borders.now t }
-        ensures { Found (left_at self.now.on near.now self.now.inside.now self.now.words.now self.now.codes.now self.now.borders.now t) result }
+        ensures { Found (left_at self.now.on near.now.words.now self.now.inside.now self.now.words.now self.now.codes.now self.now.borders.now t) result }
     {
-        let good = self.on & words::gathered(near, self.codes, t);
+        let good = self.on & words::gathered(&*near.words, self.codes, t);
         if good == 0 {
             return false;
         }
@@ -40,11 +40,11 @@ impl Coded<'_> {
     }
 
     // Whether the unit fits with its first row in a row from one up to another.
-    fn fits_between(&self, from: usize, to: usize, near: &mut Near) -> bool
+    fn fits_between(&self, from: usize, to: usize, near: &mut Near<'_>) -> bool
         requires stamped { Stamped self.now.trial.unit.chart.borders.grid self.now.trial.unit.chart.borders.states.now (potentials_in self.now.trial.unit.chart.borders.grid self.now.trial.unit.chart.table.now) near.old }
         requires from_le_to { (from ≤ to) × (to + self.now.tall ≤ self.now.trial.unit.chart.borders.grid.height) }
         ensures value { result ≡ rows_good self.now.trial.unit.chart.borders.grid self.now.trial.unit.chart.borders.states.now self.now.trial.unit.chart.table.now self.now.trial.unit.cells.now from to }
-        ensures held { Stamped self.now.trial.unit.chart.borders.grid self.now.trial.unit.chart.borders.states.now (potentials_in self.now.trial.unit.chart.borders.grid self.now.trial.unit.chart.table.now) near.new }
+        ensures held { Held self.now.trial.unit.chart.borders.grid self.now.trial.unit.chart.borders.states.now (potentials_in self.now.trial.unit.chart.borders.grid self.now.trial.unit.chart.table.now) near.old near.new }
     {
         let unit = self.trial.unit;
         let table = unit.chart.table;
@@ -57,7 +57,7 @@ impl Coded<'_> {
         };
         for t in from..to {
             near.stamp_rows(marked, t, t + self.tall + 1);
-            if self.row_fits(&near.words, t) {
+            if self.row_fits(near, t) {
                 return true;
             }
         }
@@ -65,11 +65,11 @@ impl Coded<'_> {
     }
 
     // Whether the unit fits somewhere: from just above its own rows on, and then before them, since what is adjacent is near.
-    fn fits_somewhere(&self, row: usize, near: &mut Near) -> bool
+    fn fits_somewhere(&self, row: usize, near: &mut Near<'_>) -> bool
         requires stamped { Stamped self.now.trial.unit.chart.borders.grid self.now.trial.unit.chart.borders.states.now (potentials_in self.now.trial.unit.chart.borders.grid self.now.trial.unit.chart.table.now) near.old }
         requires row_value { (row ≡ row_of self.now.trial.unit.chart.borders.grid (head_or0 self.now.trial.unit.cells.now)) × Ends self.now.trial.unit.chart.borders.grid self.now.trial.unit.cells.now self.now.tall }
         ensures value { result ≡ fits_at self.now.trial.unit.chart.borders.grid self.now.trial.unit.chart.borders.states.now self.now.trial.unit.chart.table.now self.now.trial.unit.cells.now }
-        ensures held { Stamped self.now.trial.unit.chart.borders.grid self.now.trial.unit.chart.borders.states.now (potentials_in self.now.trial.unit.chart.borders.grid self.now.trial.unit.chart.table.now) near.new }
+        ensures held { Held self.now.trial.unit.chart.borders.grid self.now.trial.unit.chart.borders.states.now (potentials_in self.now.trial.unit.chart.borders.grid self.now.trial.unit.chart.table.now) near.old near.new }
     {
         let end = self.trial.unit.chart.borders.grid.height - self.tall;
         let low = row.saturating_sub(self.tall + 1);
@@ -85,12 +85,12 @@ pub fn fits(
     words: &[u64],
     codes: &mut [u16],
     borders: &mut [u16],
-    near: &mut Near,
+    near: &mut Near<'_>,
 ) -> bool
     requires asking { Asking trial.unit.chart.borders.grid trial.unit.chart.borders.states.now trial.unit.cells.now full words.now (length codes.old) (length borders.old) }
     requires stamped { Stamped trial.unit.chart.borders.grid trial.unit.chart.borders.states.now (potentials_in trial.unit.chart.borders.grid trial.unit.chart.table.now) near.old }
     ensures value { result ≡ fits_at trial.entry.unit.chart.borders.grid trial.entry.unit.chart.borders.states.now trial.entry.unit.chart.table.now trial.entry.unit.cells.now }
-    ensures held { Stamped trial.entry.unit.chart.borders.grid trial.entry.unit.chart.borders.states.now (potentials_in trial.entry.unit.chart.borders.grid trial.entry.unit.chart.table.now) near.new }
+    ensures held { Held trial.entry.unit.chart.borders.grid trial.entry.unit.chart.borders.states.now (potentials_in trial.entry.unit.chart.borders.grid trial.entry.unit.chart.table.now) near.old near.new }
 {
     let UnitCells { chart, cells, .. } = trial.unit;
     let Chart {

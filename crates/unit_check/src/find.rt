@@ -22,6 +22,7 @@ pub struct Finder<'a, 'm> {
 
 impl<'a> Stage<'a> {
     // A unit with its marks, to be tried.
+    #[inline(always)]
     fn trial(self, unit: usize, marks: &'a [u8]) -> Trial<'a>
         requires unit_exists { unit < length self.units.starts.now }
         requires marks_long { length self.potentials.starts.now ≤ length marks.now }
@@ -40,6 +41,7 @@ impl<'a> Stage<'a> {
     }
 
     // The own potential unit of a unit, the one around it.
+    #[inline(always)]
     fn own(self, unit: usize) -> usize
         requires { unit < length self.units.starts.now }
         ensures { result ≡ own_of self.entry.chart.borders.grid self.entry.chart.table.now unit }
@@ -72,6 +74,7 @@ impl Finder<'_, '_> {
     ghost use Rattle.unit_check.specs.Finder.{Kept};
 
     // A unit with the marks of the search.
+    #[inline(always)]
     pub fn trial(&self, unit: usize) -> Trial<'_>
         requires unit_exists { unit < length self.now.stage.units.starts.now }
         requires marked { MarkedFor self.now.stage.chart.borders.grid self.now.stage.chart.borders.states.now self.now.stage.chart.table.now unit self.now.marks.now }
@@ -84,6 +87,7 @@ impl Finder<'_, '_> {
     }
 
     // Marks the potential units adjacent to a unit's own one, and no others, before its offsets begin.
+    #[inline(always)]
     fn mark(&mut self, unit: usize)
         requires unit_exists { unit < length self.old.stage.units.starts.now }
         requires unmarked { Unmarked self.old.marks.now }
@@ -95,6 +99,7 @@ impl Finder<'_, '_> {
     }
 
     // Takes these marks away again, before the next unit's are set.
+    #[inline(always)]
     fn unmark(&mut self, unit: usize)
         requires unit_exists { unit < length self.old.stage.units.starts.now }
         requires marked { MarkedFor self.old.stage.chart.borders.grid self.old.stage.chart.borders.states.now self.old.stage.chart.table.now unit self.old.marks.now }
@@ -140,7 +145,12 @@ impl Finder<'_, '_> {
         let mut words = [0; 132];
         border_words::fill(self.stage.chart.borders, &mut words);
         let full = words::full_word(self.stage.chart.borders.grid.width);
-        let mut near = Near::unmade();
+        let mut near_words = [0; 32];
+        let mut stamps = [None; 32];
+        let mut near = Near {
+            words: &mut near_words,
+            stamps: &mut stamps,
+        };
         let mut codes = [0; CELLS];
         let mut borders = [0; BORDERS];
         let mut next = Some(from);

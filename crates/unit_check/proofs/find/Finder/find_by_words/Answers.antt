@@ -1,9 +1,10 @@
 -- `unit_check::find::Finder::find_by_words` meets its contract: each unit so far fits somewhere, the next one has its marks, and the stamps hold. Assumes nothing.
-use mathlib.Core.Path.{◌∙◌}
+use mathlib.Core.Path.{refl, ◌∙◌}
 use native.Mathlib.Omega.{arith}
 use lib.ListN.{length-replicate}
 use Rattle.grid.proofs.Geometry.{cells_le}
 use Rattle.lists.proofs.ListLaws.{zeros_at}
+use Rattle.cell_words.proofs.NearLaws.{none_stamped}
 use Rattle.unit_check.proofs.FindLaws.{fit_on, fit_there, pending_first, pending_next, unfit_none, unfit_some, still_less}
 use Rattle.unit_check.proofs.FinderLaws.{kept_all, kept_then}
 use Rattle.unit_check.proofs.HeldLaws.{units_held, fits_held}
@@ -18,7 +19,7 @@ loop-next-init g c =
     record {
       kept = kept_all _;
       pending = pending_first c.requires.from_exists c.requires.all_fit c.requires.marked;
-      stamped = c.unmade-near.ensures _ _ _ c.args.self.now.stage.chart.borders.fits.limits.height_fits;
+      stamped = none_stamped c.args.self.now.stage.chart.borders.fits.limits.height_fits _ _ _ refl refl;
       codes_long = length-replicate _ _;
       borders_long = length-replicate _ _;
     }
@@ -86,7 +87,7 @@ loop-next-preserved g c =
     record {
       kept = kept_then _ k c.find_soon-next.ensures.kept;
       pending = pending_next (rw k.stage at c.find_soon-next.ensures.sought);
-      stamped = rw i.kept.stage at (rw (e.grid_is, e.states_are, e.table_is) at c.fits.ensures.held);
+      stamped = rw i.kept.stage at (rw (e.grid_is, e.states_are, e.table_is) at c.fits.ensures.held.stamped);
       codes_long = c.fits.auto.codes ∙ i.codes_long;
       borders_long = c.fits.auto.borders ∙ i.borders_long;
     }
