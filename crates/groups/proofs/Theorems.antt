@@ -243,6 +243,11 @@ front_starts {g} {ids} {count} {starts} {flat} w =
           record { some = rw (same k h, end k) b.some; within = rw (end k) b.within; are = rw (same k h, end k) b.are };
     })
 
+-- each group has one start
+pub starts_count : (n : ℕ) (ids : List ℕ) (count : ℕ) → length (starts_of n ids count) ≡ count
+unfolding starts_of
+starts_count n ids count = table_long (start_of n ids) count
+
 -- WHAT A GROUPING LEFT in slices that it was lent is a `Groups`: the cells' groups, the groups' starts, and the cells in turn
 module _ {g : Grid} {st : List ℕ} {p : Bool} {ids₀ starts₀ flat₀ ids starts flat : List ℕ} {count : ℕ} (l : Lent (cells g) ids₀ starts₀ flat₀)
     (w : Grouped g st p ids₀ starts₀ flat₀ ids starts flat count) where
@@ -256,6 +261,11 @@ module _ {g : Grid} {st : List ℕ} {p : Bool} {ids₀ starts₀ flat₀ ids sta
   made_ids =
       let n : length (group_ids g st p) ≡ cells g = ids_length g st p in
       rw (w.ids_are, ← n) (front ids₀ (group_ids g st p) (omega (arith, n, l.ids_long)))
+
+  pub made_starts : take count starts ≡ starts_of (cells g) (group_ids g st p) (group_count g st p)
+  made_starts =
+      let n : length (starts_of (cells g) (group_ids g st p) (group_count g st p)) ≡ group_count g st p = starts_count (cells g) (group_ids g st p) (group_count g st p) in
+      rw (w.starts_are, w.count_is) (rw n at (front starts₀ (starts_of (cells g) (group_ids g st p) (group_count g st p)) (omega (arith, n, count_small g st p, l.starts_long))))
 
   pub made : InTurn g (take (cells g) ids) (length (take count starts)) (take count starts) flat
   made = rw made_ids (front_starts (in_turn_lem l w))
