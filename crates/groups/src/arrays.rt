@@ -1,5 +1,5 @@
 // Arrays in which a board's groups are written, for those who read them and keep none.
-ghost use Rattle.std.specs.Prelude.{◌≡◌, ◌≤◌, replicate};
+ghost use Rattle.std.specs.Prelude.{◌≡◌, ◌≤◌, length, replicate};
 ghost use Rattle.grid.specs.Grid.{cells};
 ghost use Rattle.groups.specs.Groups.{group_ids, group_count};
 ghost use Rattle.groups.specs.Turn.{starts_of};
@@ -29,11 +29,12 @@ impl<const N: usize> GroupArrays<N> {
         }
     }
 
-    // Groups a board in these arrays: units, or potential units.
+    // Groups a board of at most N cells in these arrays: units, or potential units.
     pub fn group(&mut self, borders: Borders<'_>, potential: bool) -> Groups<'_>
         requires { cells borders.grid ≤ N }
         ensures grid_is { result.grid ≡ borders.entry.grid }
         ensures ids_are { result.ids.now ≡ group_ids borders.entry.grid borders.entry.states.now potential }
+        ensures count_is { length result.starts.now ≡ group_count borders.entry.grid borders.entry.states.now potential }
         ensures starts_are { result.starts.now ≡ starts_of (cells borders.entry.grid) (group_ids borders.entry.grid borders.entry.states.now potential) (group_count borders.entry.grid borders.entry.states.now potential) }
     {
         let count = crate::group_cells(
