@@ -3,7 +3,7 @@
 use Prim.Native.Nat.{ℕ, ◌+◌, ◌*◌, ◌≤◌}
 use mathlib.Core.Path.{◌≡◌, ap, sym, ◌∙◌}
 use mathlib.Core.Logic.{◌⊎◌, inl, inr, ◌≢◌, ⊎_elim, ◌↔◌}
-use mathlib.Core.Bool.{not}
+use mathlib.Core.Bool.{Bool, true, false, not}
 use mathlib.Core.List.{List, [], ◌++◌}
 use native.Mathlib.Omega.{arith}
 use borrow.Author.Tests.{eqb-true, eqb-false, eq-eqb, ne_eqb, not-true}
@@ -27,6 +27,7 @@ use Rattle.grid.specs.Orders.{around, forward, unit_order}
 use Rattle.borders.proofs.Directions.{Ahead, down_or_right, in_around, in_unit_order}
 use Rattle.groups.specs.Groups.{cells_in, cells_of}
 use Rattle.groups.proofs.GroupLaws.{in_cells, cells_in_lem}
+use Rattle.boundary.specs.Listing.{boundary}
 use Rattle.boundary.specs.Boundary.{ahead, connected_at, wall_at, outer_wall_at, unit_cell, unit_boundary, potential_cell, potential_boundary}
 use Rattle.boundary.proofs.Lengths.{when_most, when_either, keep_most, gather_most}
 
@@ -240,3 +241,8 @@ module _ (g : Grid) (states ids : List ℕ) (k : ℕ) where
 pub cells_most : (g : Grid) (ids : List ℕ) (k : ℕ) → length (cells_of g ids k) ≤ cells g
 unfolding cells_in
 cells_most g ids k = omega (arith, keep_most (λ c. eqb (get_or ids c 0) k) (range (cells g)), range_length (cells g))
+
+-- 9·h·w entries are enough
+pub boundary_most : (g : Grid) (states ids : List ℕ) (potential : Bool) (k : ℕ) → length (boundary g states ids potential k) ≤ 9 * cells g
+boundary_most g states ids true k = omega (arith, potential_most g states ids k, cells_most g ids k)
+boundary_most g states ids false k = omega (arith, unit_most g states ids k, cells_most g ids k)

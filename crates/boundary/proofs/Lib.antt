@@ -3,4 +3,3 @@ pub mod BoundaryLaws
 pub mod Agreement
 pub mod AppendLaws
 pub mod ListingLaws
-pub mod AnswerLaws

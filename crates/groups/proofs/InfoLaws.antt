@@ -13,6 +13,9 @@ use Rattle.std.proofs.lemmas.List.{get_or-take}
 use Rattle.limits.specs.Limits.{most_cells}
 use Rattle.lists.specs.Choice.{both, pick}
 use Rattle.lists.specs.Lists.{range, all}
+use Rattle.std.specs.Prelude.{Option, Some, None, MatchOption}
+use Rattle.std.specs.Borrow.{Bor}
+use Rattle.std.specs.Slice.{IsItemAt}
 use Rattle.std.specs.List.{IsAllAdjacentAnswer}
 use Rattle.lists.proofs.Cases.{le_or_lt}
 use Rattle.lists.proofs.ChoiceLaws.{both_true, both_false, same_truth}
@@ -50,6 +53,12 @@ module _ (n count : ℕ) (starts : List ℕ) where
   by_rises : get_or starts 0 0 ≡ 0 → starts_rise n count starts ≡ all rises (range count)
   unfolding starts_rise
   by_rises q = rw (eq-eqb (get_or starts 0 0) 0 q)
+
+-- what the library reads of the next start, or n where there is none
+pub end_told : (n : ℕ) (starts : List ℕ) (k : ℕ) (r : Option (Bor ℕ)) {e : ℕ} → IsItemAt starts (k + 1) r → MatchOption r (e ≡ n) (λ x. e ≡ x.now)
+    → e ≡ end_of n (length starts) starts k
+end_told n starts k None h m = m ∙ end_last n (length starts) starts k h.3
+end_told n starts k (Some x) h m = m ∙ h.3.1 0 ∙ end_next n (length starts) starts k h.3.0
 
 -- starts rise where each is below the next, as the library tests, and the last below n
 module _ (n : ℕ) (starts : List ℕ) where

@@ -199,32 +199,6 @@ in_turn_lem {g} {st} {p} {starts₀ = starts₀} {flat₀ = flat₀} l w =
       between = between l w;
     }
 
--- ARRAYS OF 1,024 PLACES, lent to a grouping
-
-blank_long : length blank_places ≡ most_cells
-unfolding blank_places
-blank_long = refl
-
-module _ {g : Grid} (limits : Limits g) where
-  pub arrays_fit : cells g ≤ length blank_places
-  arrays_fit = omega (arith, blank_long, cells_le g limits)
-
-  pub arrays_lent : Lent (cells g) blank_places blank_places blank_places
-  arrays_lent = record { ids_long = arrays_fit; starts_long = arrays_fit; flat_long = arrays_fit }
-
-  -- their fronts have the groups
-  module _ {states : List ℕ} {p : Bool} {ids starts flat : List ℕ} {count : ℕ} (w : Grouped g states p blank_places blank_places blank_places ids starts flat count) where
-    pub ids_fit : cells g ≤ length ids
-    ids_fit = rw w.ids_are (simp length-sets arrays_fit)
-
-    pub ids_part : cells g ≡ length (take (cells g) ids)
-    ids_part = sym (length-take-le (cells g) ids ids_fit)
-
-    pub ids_are : take (cells g) ids ≡ group_ids g states p
-    ids_are =
-        let n : length (group_ids g states p) ≡ cells g = ids_length g states p in
-        rw (w.ids_are, ← n) (front blank_places (group_ids g states p) (omega (arith, n, arrays_fit)))
-
 -- without the places behind the last group's start
 front_starts : {g : Grid} {ids : List ℕ} {count : ℕ} {starts flat : List ℕ} → InTurn g ids count starts flat → InTurn g ids (length (take count starts)) (take count starts) flat
 front_starts {g} {ids} {count} {starts} {flat} w =
@@ -243,19 +217,23 @@ front_starts {g} {ids} {count} {starts} {flat} w =
           record { some = rw (same k h, end k) b.some; within = rw (end k) b.within; are = rw (same k h, end k) b.are };
     })
 
+-- each group has one start
+pub starts_length : (g : Grid) (st : List ℕ) (p : Bool) → length (starts_of (cells g) (group_ids g st p) (group_count g st p)) ≡ group_count g st p
+unfolding starts_of
+starts_length g st p = table_long (start_of (cells g) (group_ids g st p)) (group_count g st p)
+
 -- WHAT A GROUPING LEFT in slices that it was lent is a `Groups`: the cells' groups, the groups' starts, and the cells in turn
 module _ {g : Grid} {st : List ℕ} {p : Bool} {ids₀ starts₀ flat₀ ids starts flat : List ℕ} {count : ℕ} (l : Lent (cells g) ids₀ starts₀ flat₀)
     (w : Grouped g st p ids₀ starts₀ flat₀ ids starts flat count) where
-  pub made_ids_fit : cells g ≤ length ids
-  made_ids_fit = rw w.ids_are (simp length-sets l.ids_long)
-
-  pub made_starts_fit : count ≤ length starts
-  made_starts_fit = (in_turn_lem l w).starts_long
-
   pub made_ids : take (cells g) ids ≡ group_ids g st p
   made_ids =
       let n : length (group_ids g st p) ≡ cells g = ids_length g st p in
       rw (w.ids_are, ← n) (front ids₀ (group_ids g st p) (omega (arith, n, l.ids_long)))
+
+  pub made_starts : take count starts ≡ starts_of (cells g) (group_ids g st p) (group_count g st p)
+  made_starts =
+      rw (w.starts_are, w.count_is)
+      (rw (starts_length g st p) at (front starts₀ (starts_of (cells g) (group_ids g st p) (group_count g st p)) (omega (arith, starts_length g st p, count_small g st p, l.starts_long))))
 
   pub made : InTurn g (take (cells g) ids) (length (take count starts)) (take count starts) flat
   made = rw made_ids (front_starts (in_turn_lem l w))
@@ -270,9 +248,13 @@ module _ {g : Grid} {ids starts flat : List ℕ} {count : ℕ} (w : InTurn g ids
 
 -- THE HAND-OUT OF A GROUPING'S OWN RECORD AND BUFFER
 
+blank_long : length blank_places ≡ most_cells
+unfolding blank_places
+blank_long = refl
+
 module _ (g : Grid) (st : List ℕ) (p : Bool) (limits : Limits g) where
   blank_fits : cells g ≤ length blank_places
-  blank_fits = arrays_fit limits
+  blank_fits = omega (arith, blank_long, cells_le g limits)
 
   -- such a record holds together
   pub own_record : Holds (info_of g st p)

@@ -10,7 +10,7 @@ ghost use Rattle.shape_check.specs.Answer.{shape_outcome};
 use answers::Refusal;
 use board::Board;
 use borders::Borders;
-use groups::Groups;
+use groups::GroupArrays;
 use limits::CELLS;
 
 // The check of borders: inner Walls, and else the units in order.
@@ -18,17 +18,8 @@ pub fn shape_fault(b: Borders<'_>, buffer: &mut [u16]) -> Option<usize>
     requires { 9 * (b.grid.height * b.grid.width) ≤ length buffer.old }
     ensures { Finds (shape_fault b.entry.grid b.entry.states.now) buffer.old buffer.new result }
 {
-    let n = b.grid.cell_count();
-    let mut ids = [0u16; CELLS];
-    let mut starts = [0u16; CELLS];
-    let mut flat = [0u16; CELLS];
-    let count = groups::group_cells(b, false, &mut ids, &mut starts, &mut flat);
-    let units = Groups {
-        grid: b.grid,
-        ids: &ids[..n],
-        starts: &starts[..count],
-        flat: &flat,
-    };
+    let mut arrays = GroupArrays::<CELLS>::blank();
+    let units = arrays.group(b, false);
     if let Some(len) = inner_walls::inner_wall(b, units.ids, buffer) {
         return Some(len);
     }

@@ -1,31 +1,28 @@
 -- The stage: the first unit that fits nowhere is the first with a fault, and what finding and writing are handed. Assumes nothing.
 use Prim.Native.Nat.{ℕ, zero, suc, ◌+◌, ◌-◌, ◌≤◌, ◌<◌}
 use mathlib.Core.Path.{◌≡◌, refl, sym, ◌∙◌}
-use mathlib.Core.Bool.{true}
 use mathlib.Core.List.{List, ◌++◌}
 use mathlib.Core.Option.{Option, none, some}
 use native.Mathlib.Omega.{arith}
 use native.Mathlib.Nat.{sub-zero}
 use native.Mathlib.Numerals.{add-one}
-use lib.ListN.{length, take, replicate, length-replicate}
-use lib.Seq.{length-take-le}
+use lib.ListN.{length, replicate}
 use Rattle.std.specs.Prelude as std
 use Rattle.lists.specs.Choice.{give, or_else}
 use Rattle.lists.specs.Lists.{count_from, range, first}
 use Rattle.lists.proofs.ListLaws.{count_from_step, count_from_end, zeros_at}
 use Rattle.answers.specs.Answers.{Finds}
 use Rattle.grid.specs.declared.Grid.{Grid}
-use Rattle.grid.specs.Grid.{Limits, cells}
-use Rattle.groups.specs.Lent.{Lent, Grouped, InTurn}
-use Rattle.groups.proofs.Theorems.{made_ids, made_starts_fit}
+use Rattle.grid.specs.Grid.{Limits}
+use Rattle.groups.specs.Lent.{InTurn}
 use Rattle.boundary.specs.Appended.{Appended}
 use Rattle.shape.specs.Shape.{UnitInfo, unit_of, failures, boundaries, unit_fault}
 use Rattle.offsets.specs.declared.table.CellInfo.{CellInfo}
-use Rattle.offsets.specs.Table.{Table, units_in, potentials_in, Filled}
+use Rattle.offsets.specs.Table.{Table, units_in, potentials_in}
 use Rattle.adjacency.specs.Adjacency.{Unmarked}
 use Rattle.unit_check.specs.Find.{unit_cells, fits_in, FirstUnfit}
 use Rattle.unit_check.specs.Write.{list_at}
-use Rattle.unit_check.specs.Units.{unit_stage, first_list}
+use Rattle.unit_check.specs.Units.{first_list}
 use Rattle.unit_check.proofs.FindLaws.{unit_is}
 
 -- THE FIRST UNIT THAT FITS NOWHERE
@@ -86,18 +83,3 @@ module _ (g : Grid) (states : List ℕ) (table : List CellInfo) {n : ℕ} (count
 
 pub none_marked : (n : ℕ) → Unmarked (replicate n 0)
 none_marked = zeros_at
-
-pub lent : (n m : ℕ) → n ≤ m → Lent n (replicate m 0) (replicate m 0) (replicate m 0)
-lent n m h = record { ids_long = simp length-replicate h; starts_long = simp length-replicate h; flat_long = simp length-replicate h }
-
--- THE STAGE is that of the units and potential units that the table tells
-
-module _ {g : Grid} {states ids pids₀ pstarts₀ pflat₀ pids pstarts pflat : List ℕ} {count : ℕ} (l : Lent (cells g) pids₀ pstarts₀ pflat₀)
-    (w : Grouped g states true pids₀ pstarts₀ pflat₀ pids pstarts pflat count) {table : List CellInfo} (f : Filled g ids (take (cells g) pids) table) where
-  stage_is : (n : ℕ) → unit_stage g states ids n ≡ first_list g states table (length (take count pstarts)) n
-  stage_is n =
-      let k : length (take count pstarts) ≡ count = length-take-le count pstarts (made_starts_fit l w) in
-      rw (f.units, f.potentials, made_ids l w, k, w.count_is)
-
-  pub stage_finds : (n : ℕ) {b b' : List ℕ} {r : std.Option ℕ} → Finds (first_list g states table (length (take count pstarts)) n) b b' r → Finds (unit_stage g states ids n) b b' r
-  stage_finds n v = rw (stage_is n) v

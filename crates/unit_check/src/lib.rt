@@ -8,7 +8,7 @@ ghost use Rattle.unit_check.specs.Units.{unit_stage, Checked};
 
 use adjacency::{Near, Potentials};
 use borders::Borders;
-use groups::Groups;
+use groups::{GroupArrays, Groups};
 use limits::CELLS;
 use offsets::chart::Chart;
 use offsets::table::{self, CellInfo};
@@ -31,16 +31,8 @@ fn check_in<'a, const CELLS: usize, const STARTS: usize, const NEAR: usize, cons
     ensures { Finds (unit_stage borders.entry.grid borders.entry.states.now units.entry.ids.now (length units.entry.starts.now)) buffer.old buffer.new result }
 {
     let grid = borders.grid;
-    let mut ids = [0; CELLS];
-    let mut starts = [0; CELLS];
-    let mut flat = [0; CELLS];
-    let count = groups::group_cells(borders, true, &mut ids, &mut starts, &mut flat);
-    let potentials = Groups {
-        grid,
-        ids: &ids[..grid.cell_count()],
-        starts: &starts[..count],
-        flat: &flat,
-    };
+    let mut arrays = GroupArrays::<CELLS>::blank();
+    let potentials = arrays.group(borders, true);
     let mut table = [CellInfo::default(); CELLS];
     table::fill(grid, units.ids, potentials.ids, &mut table);
     let mut marks = [0; CELLS];
