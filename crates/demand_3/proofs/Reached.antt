@@ -2,26 +2,24 @@
 -- and size, given walls and clues are the making's: the ledger's theorem, around which the puzzle's constants stay. Assumes nothing.
 use Prim.Native.Nat.{ℕ}
 use mathlib.Core.Path.{◌≡◌, refl, ap, sym, ◌∙◌}
-use mathlib.Core.Logic.{◌≢◌, ⊎_elim}
-use mathlib.Core.Bool.{Bool, true, false}
 use mathlib.Core.List.{List, [], ◌∷◌, map}
 use native.Mathlib.Omega.{arith}
-use borrow.Author.Tests.{ne_eqb, le-leb}
+use borrow.Author.Tests.{le-leb}
 use lib.Dec.{eqb}
 use Rattle.limits.specs.Limits.{most_borders}
 use Rattle.lists.specs.Choice.{pick}
-use Rattle.lists.proofs.Cases.{eq_or_ne}
 use Rattle.grid.specs.Grid.{grid, border_count}
 use Rattle.grid.proofs.Geometry.{limits_ok, border_count_le}
 use Rattle.ledger.specs.declared.Book.{Book}
 use Rattle.ledger.specs.Ledger as ledger
 use Rattle.ledger.specs.Ledger.{Decision, decisions, single, standing, whole, stroke_code, undo_code, first_code, ledger_of}
 use Rattle.ledger.specs.Books.{state_at, placed, taken, book_after}
-use Rattle.ledger.proofs.Codes.{clear_both}
 use Rattle.ledger.proofs.Reached as book
+use Rattle.ledger.proofs.Reached.{Around}
 use Rattle.puzzle.specs.declared.Puzzle.{Puzzle}
+use Rattle.puzzle.specs.declared.Made.{Made}
 use Rattle.rooms.specs.Rooms.{is_given}
-use Rattle.puzzle.specs.Puzzle.{fresh_state, fresh_puzzle, answer, book_of, together, puzzle_code, onto, answered, stroke_of, undo_of}
+use Rattle.puzzle.specs.Puzzle.{fresh_state, fresh_puzzle, answer, book_of, together, puzzle_code, onto, stroke_of, undo_of}
 use Rattle.demand_3.specs.Run.{Call, decide, stroke, undo, ask, puzzle_after, run, on_ledger, ledger_after}
 use Rattle.puzzle.proofs.Basics.{states_length, states_at}
 use Rattle.puzzle.proofs.Making.{Accepted, given_short, clues_short, given_kept, clues_kept}
@@ -47,39 +45,32 @@ module _ (h w : ℕ) (given clues : List ℕ) (a : Accepted h w given clues) whe
             (λ e k. states_at most_borders (fresh_state given) e (omega arith));
       }
 
+  -- the ledger's laws, around the constants of the making
+  abbrev law : Around Puzzle Made (border_count (grid h w)) (is_given given)
+  law =
+      record {
+        around = onto fresh;
+        code = puzzle_code;
+        answer = answer;
+        ready = λ b k. unfold together in
+            rw (limits_ok (grid h w) a.limits, given_kept h w given clues a, clues_kept h w given clues a, le-leb _ _ (given_short h w given clues a), le-leb _ _ (clues_short h w given clues a), a.lists, k);
+      }
+
   module _ (L : List (List Decision)) (b : Book) (r : book.Reached n (is_given given) L b) where
-    onto_code : puzzle_code (onto fresh b) ≡ 0
-    unfolding together
-    onto_code =
-        rw (limits_ok (grid h w) a.limits, given_kept h w given clues a, clues_kept h w given clues a, le-leb _ _ (given_short h w given clues a), le-leb _ _ (clues_short h w given clues a), a.lists, book.reached_holds n (is_given given) L b r)
+    stroke_told : (ds : List Decision) → stroke_of (onto fresh b) ds ≡ answer (stroke_code n (state_at b.states) ds) (onto fresh (pick (eqb (stroke_code n (state_at b.states) ds) 0) (placed b ds) b))
+    stroke_told ds = book.told law L b r (stroke_code n (state_at b.states) ds) (placed b ds)
 
     -- a call on the puzzle is the same call on its book
-    answer_puzzle : (k : ℕ) (b' : Book) → (answered (onto fresh b) k b').puzzle ≡ onto fresh (pick (eqb k 0) b' b)
-    answer_puzzle k b' = go (eqb k 0)
-      where
-        go : (t : Bool) → (pick t (answer 0 (onto fresh b')) (answer k (onto fresh b))).puzzle ≡ onto fresh (pick t b' b)
-        go true = refl
-        go false = refl
-
-    after_stroke : (ds : List Decision) → (stroke_of (onto fresh b) ds).puzzle ≡ onto fresh (pick (eqb (stroke_code n (state_at b.states) ds) 0) (placed b ds) b)
-    after_stroke ds =
-        let k = stroke_code n (state_at b.states) ds in
-        ap (λ m. (answered (onto fresh b) (first_code m k) (placed b ds)).puzzle) onto_code ∙ answer_puzzle k (placed b ds)
-
     onto_after : (c : Call) → puzzle_after (onto fresh b) c ≡ onto fresh (book_after n b (on_ledger c))
     unfolding puzzle_after book_after
-    onto_after (decide e wall) = after_stroke (single e wall)
-    onto_after (stroke entries) = after_stroke (decisions entries)
-    onto_after undo =
-        ap (λ m. (answered (onto fresh b) (first_code m (undo_code b.len)) (taken b)).puzzle) onto_code ∙ answer_puzzle (undo_code b.len) (taken b)
+    onto_after (decide e wall) = ap (λ d. d.puzzle) (stroke_told (single e wall))
+    onto_after (stroke entries) = ap (λ d. d.puzzle) (stroke_told (decisions entries))
+    onto_after undo = ap (λ d. d.puzzle) (book.told law L b r (undo_code b.len) (taken b))
     onto_after (ask buf) = refl
 
     -- the ledger decides which strokes are accepted
     pub stroke_accepted : (ds : List Decision) → stroke_code n (standing (is_given given) (whole L)) ds ≡ 0 → (stroke_of (onto (fresh_puzzle (grid h w) given clues) b) ds).code ≡ 0
-    stroke_accepted ds q =
-        let k = stroke_code n (state_at b.states) ds in
-        let z : k ≡ 0 = book.same_code n (is_given given) L b r ds ∙ q in
-        ap (λ m. (answered (onto fresh b) (first_code m k) (placed b ds)).code) onto_code ∙ ap (λ m. (answered (onto fresh b) m (placed b ds)).code) z
+    stroke_accepted ds q = ap (λ d. d.code) (stroke_told ds) ∙ book.same_code n (is_given given) L b r ds ∙ q
 
   -- a call on the puzzle is the same call on the ledger
   pub reached_after : (L : List (List Decision)) (p : Puzzle) → Reached h w given clues L p → (c : Call)
@@ -99,21 +90,15 @@ module _ (h w : ℕ) (given clues : List ℕ) (a : Accepted h w given clues) whe
   reached cs = reached_run [] fresh fresh_reached cs
 
   pub reached_code : (L : List (List Decision)) (p : Puzzle) → Reached h w given clues L p → puzzle_code p ≡ 0
-  reached_code L p r = ap puzzle_code r.constants ∙ onto_code L (book_of p) r.stood
+  reached_code L p r = ap puzzle_code r.constants ∙ law.ready (book_of p) (book.reached_holds n (is_given given) L (book_of p) r.stood)
 
   -- an undo gives back the very puzzle before an accepted stroke that is not empty, where calls have made it
   module _ (L : List (List Decision)) (d : Decision) (ds : List Decision) where
     undo_onto : (b : Book) → book.Reached n (is_given given) L b → (stroke_of (onto fresh b) (d ∷ ds)).code ≡ 0 → undo_of (stroke_of (onto fresh b) (d ∷ ds)).puzzle ≡ answer 0 (onto fresh b)
     undo_onto b r z =
-        let code = stroke_code n (state_at b.states) (d ∷ ds) in
-        let q : code ≡ 0 = (clear_both (puzzle_code (onto fresh b)) code (code_of _ (onto fresh b) (placed b (d ∷ ds)) z)).1 in
-        let s = ledger.stroke (d ∷ ds) in
-        let next = onto_code (ledger.ledger_after n (is_given given) L s) (book_after n b s) (book.reached_after n (is_given given) L b r s) in
-        let c : puzzle_code (onto fresh (placed b (d ∷ ds))) ≡ 0 = ap (λ k. puzzle_code (onto fresh k)) (sym (book.after_placed n b (d ∷ ds) q)) ∙ next in
-        rw (onto_code L b r, q, c, book.undo_placed n (is_given given) L b r d ds, book.undo_stroke n (is_given given) L b r d ds q)
-      where
-        code_of : (x : ℕ) (p : Puzzle) (b : Book) → (answered p x b).code ≡ 0 → x ≡ 0
-        code_of x p b z = ⊎_elim (λ (e : x ≡ 0). e) (λ (e : x ≢ 0). rw (ne_eqb x 0 e) at z) (eq_or_ne x 0)
+        let e = stroke_told L b r (d ∷ ds) in
+        let q = sym (ap (λ x. x.code) e) ∙ z in
+        ap (λ x. undo_of x.puzzle) e ∙ rw q (book.told_back law L b r d ds q)
 
     pub undo_puzzle : (p : Puzzle) → Reached h w given clues L p → (stroke_of p (d ∷ ds)).code ≡ 0 → undo_of (stroke_of p (d ∷ ds)).puzzle ≡ answer 0 p
     undo_puzzle p r z = rw r.constants (undo_onto (book_of p) r.stood (rw r.constants at z))

@@ -32,7 +32,7 @@ vanishes : (s b m n c : ℕ) → s < m → s ≡ s * b % m → b ^ n ≡ c * m �
 vanishes s b m n c h e p = powers s b m h e n ∙ ap (λ x. s * x % m) p ∙ ap (λ x. x % m) (sym (mul_assoc s c m)) ∙ mul-mod_left (s * c) m
 
 module _ (s : ℕ) (h : s < 2 ^ 32) where
-  left_fits : (k : ℕ) → xor_left k s < 2 ^ 32
+  pub left_fits : (k : ℕ) → xor_left k s < 2 ^ 32
   unfolding xor_left
   left_fits k = xor_lt 32 s (s * 2 ^ k % 2 ^ 32) h (mod-lt (s * 2 ^ k) (pow_pos 32))
 

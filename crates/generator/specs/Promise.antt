@@ -1,5 +1,5 @@
 -- What is promised of a file that is written (SPEC 11.6 to 11.8), in the terms of the files' reader and of the puzzle that is run. Assumes nothing.
-use Rattle.std.specs.Prelude.{ℕ, zero, suc, ◌+◌, ◌*◌, ◌/◌, ◌%◌, ◌^◌, ◌≤◌, ◌≡◌, ◌⊎◌, Bool, List, [], ◌∷◌, map, eqb, length, drop}
+use Rattle.std.specs.Prelude.{ℕ, zero, suc, ◌+◌, ◌*◌, ◌≤◌, ◌≡◌, ◌⊎◌, List, [], ◌∷◌, map, length, drop}
 use Rattle.std.proofs.Math.Option.{some}
 use Rattle.limits.specs.Limits.{no_clue}
 use Rattle.lists.specs.Lists.{In}
@@ -15,11 +15,7 @@ use Rattle.demand_3.specs.Demand3.{Demand3}
 use Rattle.case_run.specs.CaseRun.{opened, opened_of, as_call, calls_in}
 use Rattle.generator.specs.Generator.{draw_from, calls_from, BorderBelow, case_of}
 
--- THE STATE, bit by bit (SPEC 11.1): bit j of a number, bit 0 being the lowest
-unfoldable pub bit : ℕ → ℕ → Bool
-bit s j = eqb (s / 2 ^ j % 2) 1
-
--- after so many calls (SPEC 11.9)
+-- THE STATE after so many calls (SPEC 11.9)
 unfoldable pub state_from : ℕ → ℕ → ℕ → ℕ
 state_from borders zero s = s
 state_from borders (suc n) s = state_from borders n (draw_from borders s).state

@@ -19,8 +19,8 @@ use Rattle.lists.proofs.ChoiceLaws.{true_both, left_either, right_either}
 use Rattle.lists.proofs.Cases.{le_or_lt, eq_or_ne}
 use Rattle.lists.proofs.SetsLaws.{sets_out}
 use Rattle.ledger.specs.declared.Book.{Book}
-use Rattle.ledger.specs.Ledger.{Decision, Call, stroke, undo, ask, state_in, standing, whole, borders, stroke_code, undo_code, added, ledger_after, ledger_of}
-use Rattle.ledger.specs.Books.{fresh_book, half, starts, names_from, names_of, names_in, state_at, first_starts, book_holds, state_all, clear_all, start_of, placed, taken, book_after, run}
+use Rattle.ledger.specs.Ledger.{Decision, Call, stroke, undo, ask, state_in, standing, whole, borders, stroke_code, undo_code, first_code, added, ledger_after, ledger_of}
+use Rattle.ledger.specs.Books.{zeros, fresh_book, none_given, half, starts, names_from, names_of, names_in, state_at, first_starts, book_holds, state_all, clear_all, start_of, placed, taken, book_after, run}
 use Rattle.ledger.proofs.Standing.{Sound, count_both, borders_append, state_behind, state_front, not_named, sound_empty, sound_length, sound_front, standing_named, standing_same, undecided, not_decided, holds_together}
 use Rattle.ledger.proofs.Strokes.{Fits, code_fits, code_same, sound_stroke}
 use Rattle.ledger.proofs.NameLaws.{half_append, NoneEmpty, whole_last, names_all, all_last, all_half, all_length, names_length, names_half, first_mark, start_last}
@@ -282,3 +282,31 @@ module _ (n : ℕ) (given : ℕ → Bool) where
 
     pub run_holds : (cs : List Call) → book_holds n given (run n (fresh_book s) cs) ≡ true
     run_holds cs = reached_holds (ledger_of n given [] cs) (run n (fresh_book s) cs) (reached cs)
+
+-- from a book of zeros, where no border is given
+pub reached_lone : (n : ℕ) → n ≤ most_borders → (cs : List Call) → Reached n none_given (ledger_of n none_given [] cs) (run n (fresh_book zeros) cs)
+reached_lone n few = reached n none_given zeros (omega (arith, zeros_length)) few (λ e h. zero_at e)
+
+-- A RECORD R AROUND A BOOK, a board, a puzzle or a room graph: the number of its own questions, 1 and 2, hangs on its book alone, and a call answers a
+-- number and the record, with another book where that is 0
+pub record Around (R D : Type 0) (n : ℕ) (given : ℕ → Bool) : Type 0 where
+  pub around : Book → R
+  pub code : R → ℕ
+  pub answer : ℕ → R → D
+  pub ready : (b : Book) → book_holds n given b ≡ true → code (around b) ≡ 0
+
+module _ {R D : Type 0} {n : ℕ} {given : ℕ → Bool} (a : Around R D n given) where
+  abbrev pub answered : Book → ℕ → Book → D
+  answered b k b' = let q = first_code (a.code (a.around b)) k in pick (eqb q 0) (a.answer 0 (a.around b')) (a.answer q (a.around b))
+
+  -- a call on the record is the same call on its book
+  pub told : (L : List (List Decision)) (b : Book) → Reached n given L b → (k : ℕ) (b' : Book) → answered b k b' ≡ a.answer k (a.around (pick (eqb k 0) b' b))
+  told L b r k b' = rw (a.ready b (reached_holds n given L b r)) (⊎_elim (λ (p : k ≡ 0). rw p) (λ (p : k ≢ 0). rw (ne_eqb k 0 p)) (eq_or_ne k 0))
+
+  -- an undo after an accepted stroke that is not empty gives back the very record
+  pub told_back : (L : List (List Decision)) (b : Book) → Reached n given L b → (d : Decision) (ds : List Decision) → stroke_code n (state_at b.states) (d ∷ ds) ≡ 0
+      → answered (placed b (d ∷ ds)) (undo_code (placed b (d ∷ ds)).len) (taken (placed b (d ∷ ds))) ≡ a.answer 0 (a.around b)
+  told_back L b r d ds q =
+      let s = stroke (d ∷ ds) in
+      let next = rw (after_placed n b (d ∷ ds) q) at (reached_after n given L b r s) in
+      told (ledger_after n given L s) (placed b (d ∷ ds)) next _ _ ∙ rw (undo_placed n given L b r d ds, undo_stroke n given L b r d ds q) refl
