@@ -10,7 +10,7 @@ use borrow.Author.Tests.{lt-leb, le-leb, eq-eqb, ne_eqb, ltb-true, leb-true}
 use lib.Dec.{eqb, ltb, leb}
 use lib.ListN.{length, get_or, drop, set, drop_of_length-le}
 use lib.Seq.{drop-cons, sets}
-use Rattle.lists.specs.Choice.{both, pick}
+use Rattle.lists.specs.Choice.{pick}
 use Rattle.lists.specs.Lists.{count, all}
 use Rattle.lists.proofs.Cases.{le_or_lt}
 use Rattle.lists.proofs.ChoiceLaws.{both_true, same_truth}
@@ -35,22 +35,6 @@ module _ (es : List ℕ) (i : ℕ) where
 
   no_entry : length es ≤ i → drop i es ≡ []
   no_entry h = drop_of_length-le es h
-
-  -- a test of each decision
-  module _ (p : Decision → Bool) (k : all p (decisions (drop i es)) ≡ all p (decisions es)) where
-    next_test : (h : i < length es) → both (p (decision_of (get_or es i 0))) (all p (decisions (drop (i + 1) es))) ≡ all p (decisions es)
-    unfolding all
-    next_test h = ap (λ l. all p (decisions l)) (sym (next_entry h)) ∙ k
-
-    pub test_on : i < length es → p (decision_of (get_or es i 0)) ≡ true → all p (decisions (drop (i + 1) es)) ≡ all p (decisions es)
-    test_on h t = rw t at (next_test h)
-
-    pub test_fails : i < length es → p (decision_of (get_or es i 0)) ≡ false → false ≡ all p (decisions es)
-    test_fails h t = rw t at (next_test h)
-
-    pub test_end : length es ≤ i → true ≡ all p (decisions es)
-    unfolding all
-    test_end h = ap (λ l. all p (decisions l)) (sym (no_entry h)) ∙ k
 
   -- an entry's border exists where all do
   pub entry_below : (n : ℕ) → all_exist n (decisions es) ≡ true → i < length es → get_or es i 0 / 2 < n

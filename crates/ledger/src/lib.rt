@@ -237,12 +237,7 @@ fn all_free(states: &[u8], entries: &[u16]) -> bool
     requires { all_exist (length states.now) (decisions entries.now) ≡ true }
     ensures { result ≡ all_free (state_at states.now) (decisions entries.now) }
 {
-    for &entry in entries {
-        if states[border_of(entry)] != 0 {
-            return false;
-        }
-    }
-    true
+    entries.iter().all(|&entry| states[border_of(entry)] == 0)
 }
 
 // Whether a state goes with a mark: 0 for undecided, 1 for a given wall, 2 for a border that the ledger names. By a `match` the compiler does
