@@ -1,4 +1,4 @@
--- One turn and the end of each loop over a stroke's entries, and over the names that are taken back. Assumes nothing.
+-- One turn and the end of each loop over a stroke's entries, and back over names. Assumes nothing.
 use Prim.Native.Nat.{ℕ, zero, suc, ◌+◌, ◌-◌, ◌/◌, ◌%◌, ◌≤◌, ◌<◌}
 use mathlib.Core.Path.{◌≡◌, refl, ap, sym, ◌∙◌}
 use mathlib.Core.Logic.{◌≢◌, ⊎_elim}
@@ -17,11 +17,10 @@ use Rattle.lists.proofs.ChoiceLaws.{both_true, same_truth}
 use Rattle.lists.proofs.ListLaws.{all_true, true_all}
 use Rattle.lists.proofs.CountLaws.{count_in}
 use Rattle.ledger.specs.Ledger.{Decision, decision_of, decisions, borders, state_for, all_exist, none_twice}
-use Rattle.ledger.specs.Books.{half, starts, name_of, names_from, borders_in, state_all, clear_all, start_of}
+use Rattle.ledger.specs.Books.{half, starts, name_of, names_from, state_all, start_of}
 use Rattle.ledger.specs.Marks.{new_names}
 use Rattle.ledger.proofs.Strokes.{all_borders}
 use Rattle.ledger.proofs.MarkLaws.{new_names_lem, names_new}
-use Rattle.ledger.proofs.Loops.{next_border, no_border}
 
 all_at : (p : Decision → Bool) (es : List ℕ) (i : ℕ) → all p (decisions es) ≡ true → i < length es → p (decision_of (get_or es i 0)) ≡ true
 unfolding all
@@ -105,16 +104,6 @@ unfolding none_twice all count
 too_short [] h = refl
 too_short (x ∷ []) h = rw (eq-eqb (x / 2) (x / 2) refl)
 too_short (x ∷ y ∷ es) h = absurd (omega arith)
-
--- names that are taken back
-module _ (l : List ℕ) (len i : ℕ) (long : len ≤ length l) (s t : List ℕ) (q : clear_all s (drop i (borders_in l len)) ≡ t) where
-  pub clear_turn : i < len → clear_all (set s (half (get_or l i 0)) 0) (drop (i + 1) (borders_in l len)) ≡ t
-  unfolding clear_all
-  clear_turn h = ap (clear_all s) (sym (next_border l len long i (half (get_or l i 0)) h refl)) ∙ q
-
-  pub clear_end : len ≤ i → s ≡ t
-  unfolding clear_all
-  clear_end h = ap (clear_all s) (sym (no_border l len long i h)) ∙ q
 
 -- one step back over the names: a start is found, or the search goes on
 module _ (l : List ℕ) (len at : ℕ) (some : 0 < at) (q : start_of l at ≡ start_of l len) where

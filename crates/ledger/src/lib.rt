@@ -2,11 +2,12 @@
 // question refuses a stroke or an undo, and how a stroke is placed and taken back. A book is changed where it stands.
 #![tactic(auto)]
 
-ghost use Rattle.std.specs.Prelude.{◌≡◌, true, ◌%◌, ◌+◌, ◌-◌, ◌≤◌, length, map, drop, replicate, eqb};
+ghost use Rattle.std.specs.Prelude.{◌≡◌, true, ◌%◌, ◌+◌, ◌-◌, ◌*◌, ◌≤◌, length, map, drop, replicate, eqb, ltb};
 ghost use Rattle.limits.specs.Limits.{most_borders};
+ghost use Rattle.lists.specs.Lists.{all};
 ghost use Rattle.answers.specs.Refusals.{code_of};
 ghost use Rattle.ledger.specs.Ledger.{decisions, state_for, borders, all_exist, none_twice, all_free, stroke_code, undo_code};
-ghost use Rattle.ledger.specs.Books.{book, half, state_at, book_holds, name_of, start_of};
+ghost use Rattle.ledger.specs.Books.{book, half, clear_all, state_at, book_holds, name_of, start_of};
 ghost use Rattle.ledger.specs.Marks.{fits_of, Marked, LentBook, fit_all, given_in, Unmarked, Named, Entry};
 
 use answers::Refusal;
@@ -24,7 +25,7 @@ pub struct Book {
 impl Book {
     ghost use Rattle.std.proofs.lemmas.List.Edits.{sets};
     ghost use Rattle.ledger.specs.Moves.{Held, HeldBook, GivenMarks, left};
-    ghost use Rattle.ledger.specs.Books.{zeros, fresh_book, names_in, names_of, state_all, clear_all, placed, taken};
+    ghost use Rattle.ledger.specs.Books.{zeros, fresh_book, names_in, names_of, state_all, placed, taken};
 
     // A book without a decision.
     #[tactic(auto, unfolding(crate::specs::Books::zeros))]
@@ -92,9 +93,7 @@ impl Book {
         requires { Named self.old.names from self.old.len }
         ensures { self.new ≡ book (clear_all self.old.states (drop from (names_in self.old))) self.old.names self.old.len }
     {
-        for i in from..self.len {
-            self.states[border_of(self.names[i])] = 0;
-        }
+        clear_states(&mut self.states, &self.names[..self.len][from..]);
     }
 
     // The places of the names from place `from` on are free again.
@@ -143,6 +142,16 @@ pub fn start_of(names: &[u16]) -> usize
         }
     }
     0
+}
+
+// The borders of these names are undecided again.
+pub fn clear_states(states: &mut [u8], names: &[u16])
+    requires { all (λ x. ltb x (2 * length states.old)) names.now ≡ true }
+    ensures { states.new ≡ clear_all states.old (map half names.now) }
+{
+    for &name in names {
+        states[border_of(name)] = 0;
+    }
 }
 
 // Which question refuses a stroke over n borders, 3, 14 or 4: each is put to the whole stroke before the next.
