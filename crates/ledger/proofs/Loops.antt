@@ -1,18 +1,15 @@
 -- One turn and the end of each loop over a ledger and its marks. Assumes nothing.
-use Prim.Native.Nat.{ℕ, ◌+◌, ◌-◌, ◌≤◌, ◌<◌}
+use Prim.Native.Nat.{ℕ, ◌-◌, ◌≤◌}
 use mathlib.Core.Path.{◌≡◌, refl, ap, sym, ◌∙◌}
 use mathlib.Core.Bool.{Bool, true, false, ◌&&◌}
-use mathlib.Core.List.{List, [], ◌∷◌}
-use native.Mathlib.Omega.{arith}
-use native.Mathlib.Numerals.{add-one}
+use mathlib.Core.List.{List}
 use lib.Dec.{ltb}
-use lib.ListN.{length, get_or, take, drop, drop_of_length-le, length-map, get_or-map}
-use lib.Seq.{drop-cons, get_or-take, length-take-le}
+use lib.ListN.{length, get_or, take}
+use lib.Seq.{get_or-take, length-take-le}
 use Rattle.lists.specs.Choice.{both, pick}
 use Rattle.lists.specs.Lists.{In, range, count_from, all}
 use Rattle.lists.proofs.ChoiceLaws.{same_truth, both_right}
 use Rattle.lists.proofs.ListLaws.{all_true, true_all, in_range, all_start, all_end}
-use Rattle.ledger.specs.Books.{half, borders_in}
 use Rattle.ledger.specs.Marks.{fits_of, fit_all}
 
 pub misfit_below : (t : Bool) → ltb (pick t 0 1) 1 ≡ t
@@ -51,15 +48,3 @@ new_or_not true true rest = refl
 new_or_not true false rest = refl
 new_or_not false true rest = refl
 new_or_not false false rest = refl
-
-module _ (names : List ℕ) (len : ℕ) (long : len ≤ length names) where
-  -- the borders of the names from i on
-  pub next_border : (i e : ℕ) → i < len → e ≡ half (get_or names i 0) → drop i (borders_in names len) ≡ e ∷ drop (i + 1) (borders_in names len)
-  next_border i e h q =
-      let l = borders_in names len in
-      let size : length l ≡ len = simp length-map (length-take-le len names long) in
-      rw
-      (add-one, drop-cons l i 0 (let k : i < length l = omega (arith, size) in k), get_or-map half (take len names) i 0, get_or-take len names i 0 h, q)
-
-  pub no_border : (i : ℕ) → len ≤ i → drop i (borders_in names len) ≡ []
-  no_border i h = drop_of_length-le (borders_in names len) (let k : length (borders_in names len) ≤ i = simp length-map (omega (arith, length-take-le len names long)) in k)

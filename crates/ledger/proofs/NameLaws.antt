@@ -9,11 +9,11 @@ use native.Mathlib.Nat.{add-zero}
 use borrow.Author.Tests.{eq-eqb, ne_eqb}
 use lib.Dec.{eqb}
 use lib.ListN.{length, get_or, take, length-append}
-use lib.Seq.{get_or-take}
+use lib.Seq.{get_or-take, length-take-le}
 use Rattle.lists.specs.Choice.{pick}
 use Rattle.lists.specs.Lists.{In}
 use Rattle.ledger.specs.Ledger.{Decision, whole, borders}
-use Rattle.ledger.specs.Books.{half, starts, name_of, names_from, names_of, start_of}
+use Rattle.ledger.specs.Books.{half, starts, first_starts, name_of, names_from, names_of, start_of}
 use Rattle.ledger.proofs.Standing.{borders_append}
 
 -- STROKES PUT TOGETHER
@@ -119,6 +119,22 @@ start_le l (suc k) = go (starts l k) (start_le l k)
     go : (t : Bool) → start_of l k ≤ k → pick t k (start_of l k) ≤ suc k
     go true h = omega arith
     go false h = omega arith
+
+-- whether the first of the first len names starts a stroke
+pub first_none : (l : List ℕ) (len : ℕ) → len ≡ 0 → eqb len 0 ≡ first_starts l len
+first_none l len z = rw (eq-eqb len 0 z)
+
+pub first_some : (l : List ℕ) (len : ℕ) → len ≢ 0 → starts (take len l) 0 ≡ first_starts l len
+first_some l len z = rw (ne_eqb len 0 z, get_or-take len l 0 0 (omega (arith, z)))
+
+-- names behind the first k tell nothing
+start_within : (l : List ℕ) (len k : ℕ) → k ≤ len → start_of (take len l) k ≡ start_of l k
+unfolding start_of
+start_within l len zero h = refl
+start_within l len (suc k) h = rw (get_or-take len l k 0 h, start_within l len k (omega arith))
+
+pub start_front : (l : List ℕ) (len : ℕ) → len ≤ length l → start_of (take len l) (length (take len l)) ≡ start_of l len
+start_front l len h = rw (length-take-le len l h) (start_within l len len (omega arith))
 
 -- a stroke starts at a, and none behind it
 start_at : (l : List ℕ) (a : ℕ) → starts l a ≡ true → (k : ℕ) → ((j : ℕ) → 1 ≤ j → j ≤ k → starts l (a + j) ≡ false) → start_of l (suc (a + k)) ≡ a

@@ -1,4 +1,4 @@
--- One turn and the end of each loop over a stroke's entries, and over the names that are taken back. Assumes nothing.
+-- One turn and the end of each loop over a stroke's entries, and back over names. Assumes nothing.
 use Prim.Native.Nat.{ℕ, zero, suc, ◌+◌, ◌-◌, ◌/◌, ◌%◌, ◌≤◌, ◌<◌}
 use mathlib.Core.Path.{◌≡◌, refl, ap, sym, ◌∙◌}
 use mathlib.Core.Logic.{◌≢◌, ⊎_elim}
@@ -10,18 +10,17 @@ use borrow.Author.Tests.{lt-leb, le-leb, eq-eqb, ne_eqb, ltb-true, leb-true}
 use lib.Dec.{eqb, ltb, leb}
 use lib.ListN.{length, get_or, drop, set, drop_of_length-le}
 use lib.Seq.{drop-cons, sets}
-use Rattle.lists.specs.Choice.{both, pick}
+use Rattle.lists.specs.Choice.{pick}
 use Rattle.lists.specs.Lists.{count, all}
 use Rattle.lists.proofs.Cases.{le_or_lt}
 use Rattle.lists.proofs.ChoiceLaws.{both_true, same_truth}
 use Rattle.lists.proofs.ListLaws.{all_true, true_all}
 use Rattle.lists.proofs.CountLaws.{count_in}
 use Rattle.ledger.specs.Ledger.{Decision, decision_of, decisions, borders, state_for, all_exist, none_twice}
-use Rattle.ledger.specs.Books.{half, starts, name_of, names_from, borders_in, state_all, clear_all, start_of}
+use Rattle.ledger.specs.Books.{half, starts, name_of, names_from, state_all, start_of}
 use Rattle.ledger.specs.Marks.{new_names}
 use Rattle.ledger.proofs.Strokes.{all_borders}
 use Rattle.ledger.proofs.MarkLaws.{new_names_lem, names_new}
-use Rattle.ledger.proofs.Loops.{next_border, no_border}
 
 all_at : (p : Decision → Bool) (es : List ℕ) (i : ℕ) → all p (decisions es) ≡ true → i < length es → p (decision_of (get_or es i 0)) ≡ true
 unfolding all
@@ -35,22 +34,6 @@ module _ (es : List ℕ) (i : ℕ) where
 
   no_entry : length es ≤ i → drop i es ≡ []
   no_entry h = drop_of_length-le es h
-
-  -- a test of each decision
-  module _ (p : Decision → Bool) (k : all p (decisions (drop i es)) ≡ all p (decisions es)) where
-    next_test : (h : i < length es) → both (p (decision_of (get_or es i 0))) (all p (decisions (drop (i + 1) es))) ≡ all p (decisions es)
-    unfolding all
-    next_test h = ap (λ l. all p (decisions l)) (sym (next_entry h)) ∙ k
-
-    pub test_on : i < length es → p (decision_of (get_or es i 0)) ≡ true → all p (decisions (drop (i + 1) es)) ≡ all p (decisions es)
-    test_on h t = rw t at (next_test h)
-
-    pub test_fails : i < length es → p (decision_of (get_or es i 0)) ≡ false → false ≡ all p (decisions es)
-    test_fails h t = rw t at (next_test h)
-
-    pub test_end : length es ≤ i → true ≡ all p (decisions es)
-    unfolding all
-    test_end h = ap (λ l. all p (decisions l)) (sym (no_entry h)) ∙ k
 
   -- an entry's border exists where all do
   pub entry_below : (n : ℕ) → all_exist n (decisions es) ≡ true → i < length es → get_or es i 0 / 2 < n
@@ -121,16 +104,6 @@ unfolding none_twice all count
 too_short [] h = refl
 too_short (x ∷ []) h = rw (eq-eqb (x / 2) (x / 2) refl)
 too_short (x ∷ y ∷ es) h = absurd (omega arith)
-
--- names that are taken back
-module _ (l : List ℕ) (len i : ℕ) (long : len ≤ length l) (s t : List ℕ) (q : clear_all s (drop i (borders_in l len)) ≡ t) where
-  pub clear_turn : i < len → clear_all (set s (half (get_or l i 0)) 0) (drop (i + 1) (borders_in l len)) ≡ t
-  unfolding clear_all
-  clear_turn h = ap (clear_all s) (sym (next_border l len long i (half (get_or l i 0)) h refl)) ∙ q
-
-  pub clear_end : len ≤ i → s ≡ t
-  unfolding clear_all
-  clear_end h = ap (clear_all s) (sym (no_border l len long i h)) ∙ q
 
 -- one step back over the names: a start is found, or the search goes on
 module _ (l : List ℕ) (len at : ℕ) (some : 0 < at) (q : start_of l at ≡ start_of l len) where

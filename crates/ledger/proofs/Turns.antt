@@ -8,8 +8,9 @@ use native.Mathlib.Omega.{arith}
 use native.Mathlib.Numerals.{add-one}
 use borrow.Author.Tests.{lt-leb, lt-ltb, ltb-true}
 use lib.Dec.{eqb, ltb}
-use lib.ListN.{length, get_or, drop, set, replicate, drop_of_length-le, length-map, get_or-map, length-set, length-replicate}
-use lib.Seq.{drop-cons, sets}
+use lib.ListN.{length, get_or, take, drop, set, replicate, drop_of_length-le, length-map, length-drop, get_or-map, length-replicate}
+use lib.Seq.{drop-cons, sets, take-length, get_or-take, length-take-le}
+use Rattle.std.proofs.lemmas.List.{drop-map, take-append-drop}
 use borrow.Rule.Slice.PartMut.{put_mid, mid_of, mid_len}
 use Rattle.std.specs.Prelude.{max}
 use Rattle.limits.specs.Limits.{most_borders}
@@ -18,16 +19,16 @@ use Rattle.lists.specs.Lists.{In, all, count_from}
 use Rattle.lists.proofs.Cases.{true_or_false, not_both}
 use Rattle.lists.proofs.ChoiceLaws.{both_right}
 use Rattle.lists.proofs.GreatestLaws.{greater_rest}
-use Rattle.lists.proofs.ListLaws.{all_true, true_all, get_d_in, all_step}
+use Rattle.lists.proofs.ListLaws.{in_right, all_true, true_all, in_get_d, get_d_in, all_step}
 use Rattle.lists.proofs.SetsLaws.{part_written}
 use Rattle.lists.proofs.Bridges.{filled}
 use Rattle.ledger.specs.declared.Book.{Book}
 use Rattle.ledger.specs.Ledger.{Decision, decision_of, decisions}
-use Rattle.ledger.specs.Books.{book, half, names_from, names_of, names_in, state_all, clear_all}
+use Rattle.ledger.specs.Books.{book, half, borders_in, names_from, names_of, state_all, clear_all}
 use Rattle.ledger.specs.Marks.{fits_of, fit_all, new_names, mark_all, Marked, Named}
 use Rattle.ledger.proofs.MarkLaws.{new_names_lem}
 use Rattle.ledger.proofs.Loops.{new_or_not, misfit_below}
-use Rattle.ledger.proofs.StrokeLoops.{states_end, names_end, clear_turn, clear_end}
+use Rattle.ledger.proofs.StrokeLoops.{states_end, names_end}
 
 next_of : {A : Type 0} (l : List A) (i : ℕ) (d : A) → i < length l → drop i l ≡ get_or l i d ∷ drop (i + 1) l
 next_of l i d h = rw (add-one, drop-cons l i d h)
@@ -116,29 +117,34 @@ module _ (b : Book) (es : List ℕ) (b' : Book) (i : ℕ) (h : length es ≤ i) 
   pub named_end : Naming b es b' i → book b'.states b'.names (b'.len + length es) ≡ book b.states (sets b.names b.len (names_of (decisions es))) (b.len + length es)
   named_end w = rw (names_end es i b'.names _ b.len h w.names, w.same_states, w.same_len)
 
--- BORDERS cleared as far as the names before place i
-pub record Clearing (b : Book) (from : ℕ) (b' : Book) (i : ℕ) : Type 0 where
-  pub long : length b'.states ≡ most_borders
-  pub states : clear_all b'.states (drop i (names_in b)) ≡ clear_all b.states (drop from (names_in b))
-  pub same_names : b'.names ≡ b.names
-  pub same_len : b'.len ≡ b.len
+-- BORDERS of names cleared as far as the names before place i
+module _ (l : List ℕ) (i : ℕ) (s t : List ℕ) (k : clear_all s (drop i (map half l)) ≡ t) where
+  pub clear_on : (e : ℕ) → i < length l → e ≡ half (get_or l i 0) → clear_all (set s e 0) (drop (i + 1) (map half l)) ≡ t
+  unfolding clear_all
+  clear_on e h q = rw q (ap (clear_all s) (sym (next_half l 0 i h)) ∙ k)
 
-clear_length_set : (s : List ℕ) (e : ℕ) → length (set s e 0) ≡ length s
-clear_length_set s e = simp length-set
+  pub cleared : length l ≤ i → s ≡ t
+  unfolding clear_all
+  cleared h = let none : drop i (map half l) ≡ [] = drop_of_length-le (map half l) (simp length-map h) in rw none at k
 
-module _ (b : Book) (from : ℕ) (k : Named b.names from b.len) (b' : Book) (i : ℕ) (w : Clearing b from b' i) where
-  pub clear_on : (e : ℕ) → i < b.len → e ≡ half (get_or b'.names i 0) → Clearing b from (book (set b'.states e 0) b'.names b'.len) (i + 1)
-  clear_on e h q =
-      let p : e ≡ half (get_or b.names i 0) = q ∙ ap (λ l. half (get_or l i 0)) w.same_names in
-      record {
-        long = clear_length_set b'.states e ∙ w.long;
-        states = rw p (clear_turn b.names b.len i k.long b'.states _ w.states h);
-        same_names = w.same_names;
-        same_len = w.same_len;
-      }
+-- the names from `from` on, as a part of the first len
+module _ (l : List ℕ) (from len : ℕ) (k : Named l from len) where
+  part : take (length (take len l) - from) (drop from (take len l)) ≡ drop from (take len l)
+  part = ap (λ n. take n (drop from (take len l))) (sym (length-drop from (take len l))) ∙ take-length (drop from (take len l))
 
-  pub cleared : b.len ≤ i → book b'.states b'.names b'.len ≡ book (clear_all b.states (drop from (names_in b))) b.names b.len
-  cleared h = rw (clear_end b.names b.len i k.long b'.states _ w.states h, w.same_names, w.same_len)
+  pub part_below : all (λ x. ltb x (2 * most_borders)) (take (length (take len l) - from) (drop from (take len l))) ≡ true
+  part_below =
+      let xs = take len l in
+      rw part
+      (true_all (λ x. ltb x (2 * most_borders)) (drop from xs)
+      (λ x i.
+      let o = in_get_d 0 x xs (rw (take-append-drop from xs) at (in_right x (take from xs) (drop from xs) i)) in
+      let h : o.0 < len = omega (arith, o.1, length-take-le len l k.long) in
+      let e : get_or l o.0 0 ≡ x = sym (get_or-take len l o.0 0 h) ∙ o.2 in
+      lt-ltb x (2 * most_borders) (omega (arith, k.places o.0 h, e))))
+
+  pub part_half : map half (take (length (take len l) - from) (drop from (take len l))) ≡ drop from (borders_in l len)
+  part_half = ap (map half) part ∙ sym (drop-map half from (take len l))
 
 -- the places of names are filled with zeros
 pub freed : (names : List ℕ) (from len : ℕ) → from ≤ len → len ≤ length names → (ys : List ℕ) → length ys ≡ length (mid_of from (len - from) names)

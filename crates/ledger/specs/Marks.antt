@@ -32,6 +32,14 @@ pub record Marked (n : ℕ) (m l : List ℕ) (r : Bool) (m' : List ℕ) : Type 0
   pub answer : r ≡ new_names n m l
   pub marks : r ≡ true → m' ≡ mark_all m l
 
+-- a book's slices are long enough, and the marks are those of given walls
+pub record LentBook (n : ℕ) (s l m : List ℕ) : Type 0 where
+  pub states_long : n ≤ length s
+  pub names_long : n ≤ length l
+  pub marks_long : n ≤ length m
+  pub marks_given : (e : ℕ) → get_or m e 0 ≤ 1
+  pub few : n ≤ most_borders
+
 -- marks of n borders, all free
 pub record Unmarked (n : ℕ) (m : List ℕ) : Type 0 where
   pub marks_long : n ≤ length m

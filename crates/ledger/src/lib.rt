@@ -2,12 +2,13 @@
 // question refuses a stroke or an undo, and how a stroke is placed and taken back. A book is changed where it stands.
 #![tactic(auto)]
 
-ghost use Rattle.std.specs.Prelude.{◌≡◌, true, ◌%◌, ◌+◌, ◌-◌, ◌≤◌, length, map, drop, replicate, eqb};
+ghost use Rattle.std.specs.Prelude.{◌≡◌, true, ◌%◌, ◌+◌, ◌-◌, ◌*◌, ◌≤◌, length, map, drop, replicate, eqb, ltb};
 ghost use Rattle.limits.specs.Limits.{most_borders};
+ghost use Rattle.lists.specs.Lists.{all};
 ghost use Rattle.answers.specs.Refusals.{code_of};
 ghost use Rattle.ledger.specs.Ledger.{decisions, state_for, borders, all_exist, none_twice, all_free, stroke_code, undo_code};
-ghost use Rattle.ledger.specs.Books.{half, state_at, first_starts, book_holds, name_of, start_of};
-ghost use Rattle.ledger.specs.Marks.{fits_of, Marked, fit_all, given_in, Unmarked, Named, Entry};
+ghost use Rattle.ledger.specs.Books.{book, half, clear_all, state_at, book_holds, name_of, start_of};
+ghost use Rattle.ledger.specs.Marks.{fits_of, Marked, LentBook, fit_all, given_in, Unmarked, Named, Entry};
 
 use answers::Refusal;
 
@@ -24,7 +25,7 @@ pub struct Book {
 impl Book {
     ghost use Rattle.std.proofs.lemmas.List.Edits.{sets};
     ghost use Rattle.ledger.specs.Moves.{Held, HeldBook, GivenMarks, left};
-    ghost use Rattle.ledger.specs.Books.{zeros, fresh_book, book, names_in, names_of, state_all, clear_all, placed, taken};
+    ghost use Rattle.ledger.specs.Books.{zeros, fresh_book, names_in, names_of, state_all, placed, taken};
 
     // A book without a decision.
     #[tactic(auto, unfolding(crate::specs::Books::zeros))]
@@ -38,28 +39,12 @@ impl Book {
         }
     }
 
-    // Whether the first name starts a stroke, where there is one.
-    fn first_starts(&self) -> bool
-        ensures { result ≡ first_starts self.now.names self.now.len }
-    {
-        self.len == 0 || self.names[0] % 2 == 1
-    }
-
     // Question 2 over n borders: `marks` comes in with 1 at each given wall and 0 elsewhere.
     pub fn holds(&self, n: usize, marks: &mut [u8]) -> bool
         requires { GivenMarks n marks.old }
         ensures { result ≡ book_holds n (given_in marks.old) self.now }
     {
-        if n < self.len {
-            return false;
-        }
-        if !self.first_starts() {
-            return false;
-        }
-        if !mark_names(&self.names[..self.len], n, marks) {
-            return false;
-        }
-        all_fit(&self.states[..n], marks)
+        book_holds(&self.states, &self.names, self.len, n, marks)
     }
 
     // Gives the borders of a stroke their states.
@@ -100,12 +85,7 @@ impl Book {
         requires { self.now.len ≤ most_borders }
         ensures { result ≡ start_of self.now.names self.now.len }
     {
-        for at in (0..self.len).rev() {
-            if self.names[at] % 2 == 1 {
-                return at;
-            }
-        }
-        0
+        start_of(&self.names[..self.len])
     }
 
     // The borders named from place `from` on are undecided again.
@@ -113,9 +93,7 @@ impl Book {
         requires { Named self.old.names from self.old.len }
         ensures { self.new ≡ book (clear_all self.old.states (drop from (names_in self.old))) self.old.names self.old.len }
     {
-        for i in from..self.len {
-            self.states[border_of(self.names[i])] = 0;
-        }
+        clear_states(&mut self.states, &self.names[..self.len][from..]);
     }
 
     // The places of the names from place `from` on are free again.
@@ -138,6 +116,41 @@ impl Book {
         self.clear_states(from);
         self.clear_names(from);
         Ok(())
+    }
+}
+
+// Question 2 of a book over n borders, by its slices: `marks` comes in with 1 at each given wall and 0 elsewhere.
+pub fn book_holds(states: &[u8], names: &[u16], len: usize, n: usize, marks: &mut [u8]) -> bool
+    requires { LentBook n states.now names.now marks.old }
+    ensures { result ≡ book_holds n (given_in marks.old) (book states.now names.now len) }
+{
+    if n < len {
+        return false;
+    }
+    let names = &names[..len];
+    let starts = len == 0 || names[0] % 2 == 1;
+    starts && mark_names(names, n, marks) && all_fit(&states[..n], marks)
+}
+
+// Where the last stroke of these names starts.
+pub fn start_of(names: &[u16]) -> usize
+    ensures { result ≡ start_of names.now (length names.now) }
+{
+    for at in (0..names.len()).rev() {
+        if names[at] % 2 == 1 {
+            return at;
+        }
+    }
+    0
+}
+
+// The borders of these names are undecided again.
+pub fn clear_states(states: &mut [u8], names: &[u16])
+    requires { all (λ x. ltb x (2 * length states.old)) names.now ≡ true }
+    ensures { states.new ≡ clear_all states.old (map half names.now) }
+{
+    for &name in names {
+        states[border_of(name)] = 0;
     }
 }
 
@@ -237,12 +250,7 @@ fn all_free(states: &[u8], entries: &[u16]) -> bool
     requires { all_exist (length states.now) (decisions entries.now) ≡ true }
     ensures { result ≡ all_free (state_at states.now) (decisions entries.now) }
 {
-    for &entry in entries {
-        if states[border_of(entry)] != 0 {
-            return false;
-        }
-    }
-    true
+    entries.iter().all(|&entry| states[border_of(entry)] == 0)
 }
 
 // Whether a state goes with a mark: 0 for undecided, 1 for a given wall, 2 for a border that the ledger names. By a `match` the compiler does

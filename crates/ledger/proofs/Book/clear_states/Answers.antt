@@ -1,9 +1,19 @@
--- `ledger::Book::clear_states` meets its contract: the borders of the names from i on are still to be cleared. Assumes nothing.
-use Rattle.ledger.proofs.Turns.{clear_on, cleared}
+-- `ledger::Book::clear_states` meets its contract: the names from `from` on are borders that have a state. Assumes nothing.
+use mathlib.Core.Path.{◌≡◌, ap, ◌∙◌}
+use borrow.Author.Rules.{rules}
+use lib.ListN.{length}
+use Rattle.limits.specs.Limits.{most_borders}
+use Rattle.ledger.specs.Books.{book, clear_all}
+use Rattle.ledger.proofs.Turns.{part_below, part_half}
 use Rattle.ledger.proofs.Book.clear_states.Goals as goal
 
-pub loop-i-preserved : goal.loop-i-preserved
-loop-i-preserved c = clear_on c.args.self.now c.args.from c.requires c.loop-i.self c.loop-i.i c.loop-i.invariant c.border_of.result c.loop-i-test.true c.border_of.ensures
+pub clear_states-requires : goal.clear_states-requires
+clear_states-requires c =
+    let b = c.args.self.now in
+    let long : length b.states ≡ most_borders = search rules in
+    rw long (part_below b.names c.args.from b.len c.requires)
 
 pub returns : goal.returns
-returns c = cleared c.args.self.now c.args.from c.requires c.loop-i.self c.loop-i.i c.loop-i.invariant c.loop-i-test.false
+returns c =
+    let b = c.args.self.now in
+    ap (λ s. book s b.names b.len) (c.clear_states.ensures ∙ ap (clear_all b.states) (part_half b.names c.args.from b.len c.requires))
