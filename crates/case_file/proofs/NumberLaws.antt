@@ -1,17 +1,18 @@
 -- The numbers of a list: how many there are, the k-th, and the loop that copies them. Assumes nothing.
 use Prim.Native.Nat.{ℕ, zero, suc, ◌+◌, ◌*◌, ◌-◌, ◌/◌, ◌≤◌, ◌<◌, min}
-use mathlib.Core.Path.{◌≡◌, refl, ◌∙◌}
-use mathlib.Core.List.{List, [], ◌∷◌}
+use mathlib.Core.Path.{◌≡◌, refl, sym, ap, ◌∙◌}
+use mathlib.Core.List.{List, [], ◌∷◌, ◌++◌, append-nil}
 use native.Mathlib.Omega.{arith}
 use native.Mathlib.Numerals.{add-one}
 use lib.ListN.{length, get_or, set, take, drop, length-take, length-drop, drop_of_length-le}
 use lib.Dec.{leb}
-use lib.Seq.{drop-cons, sets, get_or-take, get_or-drop}
+use lib.Seq.{drop-cons, sets, sets-eq, length-take-le, get_or-take, get_or-drop}
+use Rattle.lists.proofs.SetsLaws.{front_written}
 use borrow.Author.Tests.{le-leb}
 use Rattle.lists.specs.Choice.{pick}
-use Rattle.std.specs.Prelude.{Ok}
+use Rattle.std.specs.Prelude.{Option, Some, None, MatchOption}
+use Rattle.std.specs.Option.{unwrap_or}
 use Rattle.answers.specs.Answers.{refused, listed, written}
-use Rattle.answers.specs.Refusals.{Lists}
 use Rattle.case_file.specs.Sound.{words_of}
 use Rattle.case_file.specs.Layout.{word_at, numbers_at}
 
@@ -49,6 +50,13 @@ module _ (bs : List ℕ) (at count : ℕ) where
       words_at (take (2 * count) (drop at bs)) k (omega (arith, numbers_count))
       ∙ rw (byte_in (2 * k) (omega (arith, numbers_count)), byte_in (2 * k + 1) (omega (arith, numbers_count)), e)
 
+  -- and is read there
+  pub number_read : (k : ℕ) (read : Option ℕ) {n : ℕ} → k < n → n ≡ length (numbers_at bs at count)
+      → MatchOption read (length bs < at + 2 * k + 2) (λ word. (at + 2 * k + 2 ≤ length bs) × (word ≡ word_at bs (at + 2 * k)))
+      → unwrap_or read 0 ≡ get_or (numbers_at bs at count) k 0
+  number_read k None h e m = absurd (omega (arith, m, number_in k h e))
+  number_read k (Some word) h e m = m.1 ∙ sym (number_at k h e)
+
 -- The loop that copies the numbers xs: the rest of them, stored from place k on, gives all of them stored from place 0 on.
 pub record Copying (xs out₀ out : List ℕ) (k : ℕ) : Type 0 where
   pub left : sets out k (drop k xs) ≡ sets out₀ 0 xs
@@ -61,7 +69,12 @@ module _ {xs out₀ out : List ℕ} {k : ℕ} (f : Copying xs out₀ out k) wher
         rw add-one (rw q at f.left);
   }
 
-  -- the end of the loop: all are copied
-  pub copied : {n : ℕ} → n ≡ length xs → n ≤ k → n ≤ length out₀
-      → let o = pick (leb (length xs) (length out₀)) (listed xs) (refused 6) in Lists o (Ok n) × (out ≡ written o out₀)
-  copied e h l = let d : length xs ≤ k = omega arith in rw (le-leb (length xs) (length out₀) (omega arith)) (simp e, rw (drop_of_length-le xs d) at f.left)
+  -- the end of the loop over the front of a buffer: all are copied
+  pub copied : (buf : List ℕ) {n : ℕ} → n ≡ length xs → n ≤ length buf → out₀ ≡ take n buf → n ≤ k
+      → out ++ drop n buf ≡ written (pick (leb (length xs) (length buf)) (listed xs) (refused 6)) buf
+  copied buf {n} e h q l =
+      let d : length xs ≤ k = omega arith in
+      let full : length out₀ ≡ length xs = ap length q ∙ length-take-le n buf h ∙ e in
+      let whole : sets out₀ 0 xs ≡ xs = sets-eq xs out₀ 0 (omega arith) ∙ ap (λ r. xs ++ r) (drop_of_length-le out₀ (omega arith)) ∙ append-nil xs in
+      let o : out ≡ xs = rw (drop_of_length-le xs d) at f.left ∙ whole in
+      rw (le-leb (length xs) (length buf) (omega arith), o, e) (front_written buf xs (omega arith))

@@ -2,7 +2,7 @@
 // `numbers` and `call_at` then read the given walls, the clues and the calls.
 #![tactic(auto)]
 
-ghost use Rattle.std.specs.Prelude.{◌≡◌, ◌+◌, ◌≤◌, ◌<◌, length, drop, get_or};
+ghost use Rattle.std.specs.Prelude.{◌≡◌, ◌+◌, ◌≤◌, ◌<◌, length, drop, get_or, MatchOption};
 ghost use Rattle.answers.specs.Answers.{written};
 ghost use Rattle.answers.specs.Refusals.{Lists, code_of};
 ghost use Rattle.case_file.specs.Sound.{decode_of, rest_of, numbers_of, call_list_of, call_of};
@@ -35,12 +35,12 @@ pub struct Layout {
     pub calls: Span,
 }
 
-// The 16-bit number at a byte, big-endian.
-fn word(file: &[u8], at: usize) -> u16
-    requires { at + 1 < length file.now }
-    ensures { result ≡ word_at file.now at }
+// The 16-bit number at a byte, big-endian, if the file does not end before it or in it.
+pub fn word(file: &[u8], at: usize) -> Option<u16>
+    ensures { MatchOption result (length file.now < at + 2) (λ word. (at + 2 ≤ length file.now) × (word ≡ word_at file.now at)) }
 {
-    u16::from_be_bytes([file[at], file[at + 1]])
+    let &bytes = file.get(at..)?.first_chunk::<2>()?;
+    Some(u16::from_be_bytes(bytes))
 }
 
 // The call at a byte and the byte behind it, if there is one that is sound.
@@ -51,10 +51,7 @@ pub fn call_at(file: &[u8], at: usize) -> Option<(Call, usize)>
     match kind {
         0 => Some((Call::Undo, at + 1)),
         1 | 2 => {
-            if file.len() - at < 3 {
-                return None;
-            }
-            let border = usize::from(word(file, at + 1));
+            let border = usize::from(word(file, at + 1)?);
             Some((Call::Decide(border, kind == 2), at + 3))
         }
         3 => Some((Call::Ask, at + 1)),
@@ -64,29 +61,21 @@ pub fn call_at(file: &[u8], at: usize) -> Option<(Call, usize)>
 
 // The list of numbers whose count stands at a byte, and the byte behind it, if the file has room for it.
 fn numbers_at(file: &[u8], at: usize) -> Option<(Span, usize)>
-    requires { at ≤ length file.now }
     ensures { result ≡ counted_at file.now at (numbers_of (drop at file.now)) }
 {
-    let left = file.len() - at;
-    if left < 2 {
+    let count = usize::from(word(file, at)?);
+    let end = at + 2 + 2 * count;
+    if file.len() < end {
         return None;
     }
-    let count = usize::from(word(file, at));
-    if left - 2 < 2 * count {
-        return None;
-    }
-    Some((Span { at: at + 2, count }, at + 2 + 2 * count))
+    Some((Span { at: at + 2, count }, end))
 }
 
 // The calls whose count stands at a byte, and the byte behind them, if each of them is sound.
 fn calls_at(file: &[u8], at: usize) -> Option<(Span, usize)>
-    requires { at ≤ length file.now }
     ensures { result ≡ counted_at file.now at (call_list_of (drop at file.now)) }
 {
-    if file.len() - at < 2 {
-        return None;
-    }
-    let count = usize::from(word(file, at));
+    let count = usize::from(word(file, at)?);
     let mut next = at + 2;
     for _ in 0..count {
         (_, next) = call_at(file, next)?;
@@ -121,14 +110,13 @@ pub fn decode(file: &[u8]) -> Result<Layout, Refusal>
     ensures value { result ≡ file_of (decode_of file.now) }
     ensures result_value { code_of result ≡ refusal_of (decode_of file.now) }
 {
-    if file.len() < 3 {
+    let Some(long) = word(file, 1) else {
         return Err(Refusal::UnsoundFile);
-    }
+    };
     if file[0] != 1 {
         return Err(Refusal::UnsoundFile);
     }
-    let long = usize::from(word(file, 1));
-    if long != file.len() - 3 {
+    if usize::from(long) != file.len() - 3 {
         return Err(Refusal::UnsoundFile);
     }
     if 60000 < long {
@@ -151,7 +139,7 @@ pub fn number(file: &[u8], list: Span, k: usize) -> usize
     if reach(file, list) <= k {
         return 0;
     }
-    usize::from(word(file, list.at + 2 * k))
+    usize::from(word(file, list.at + 2 * k).unwrap_or(0))
 }
 
 // Writes the numbers of a list of the file to the buffer's first places, and answers how many.
@@ -163,8 +151,8 @@ pub fn numbers(file: &[u8], list: Span, buffer: &mut [u16]) -> Result<usize, Ref
     if buffer.len() < n {
         return Err(Refusal::ShortBuffer);
     }
-    for k in 0..n {
-        buffer[k] = word(file, list.at + 2 * k);
+    for (k, number) in buffer[..n].iter_mut().enumerate() {
+        *number = word(file, list.at + 2 * k).unwrap_or(0);
     }
     Ok(n)
 }

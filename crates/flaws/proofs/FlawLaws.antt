@@ -1,18 +1,23 @@
 -- What the definitions of a flaw come to: calls one by one, and that a file that is not sound has a flaw. Assumes nothing.
-use Prim.Native.Nat.{ℕ, suc, ◌+◌, ◌-◌, ◌<◌, ◌≤◌}
+use Prim.Native.Nat.{ℕ, suc, ◌+◌, ◌-◌, ◌*◌, ◌/◌, ◌<◌, ◌≤◌}
 use mathlib.Core.Path.{◌≡◌, refl, sym, ap, ◌∙◌}
 use mathlib.Core.List.{List}
 use mathlib.Core.Option.{Option, none, some}
+use native.Mathlib.Nat.{add-zero}
 use native.Mathlib.Omega.{arith}
-use lib.ListN.{drop}
-use Rattle.std.specs.Prelude.{Some, None, false}
+use borrow.Author.Tests.{le-leb, lt-leb}
+use lib.ListN.{length, drop}
+use Rattle.std.specs.Prelude.{Some, None, false, MatchOption, IsSomeAnd}
+use Rattle.std.specs.Prelude as std
 use Rattle.case_file.specs.Sound.{Case}
 use Rattle.case_file.specs.Sound.{call_of as Sound·callOf}
-use Rattle.case_file.specs.Layout.{step_at, file_of}
+use Rattle.case_file.specs.Layout.{word_at, step_at, file_of}
+use Rattle.case_file.proofs.ReadLaws.{numbers_length}
+use Rattle.case_file.proofs.NumberLaws.{number_at}
 use Rattle.case_file.specs.declared.Call.{Call}
 use Rattle.flaws.specs.declared.Flaw.{Flaw}
 use Rattle.flaws.specs.declared.Flaw.TheVariants as flaw
-use Rattle.flaws.specs.Flaws.{call_of, at_call, calls_of, part_of, of_file, is_sound, sound_of}
+use Rattle.flaws.specs.Flaws.{count_of, behind_of, call_of, at_call, calls_of, call_list_of, clues_of, walls_of, lists_of, part_of, of_file, is_sound, sound_of}
 
 -- the calls that are left: one more, one that is none, and the end
 module _ (bs : List ℕ) (count k next : ℕ) where
@@ -29,6 +34,35 @@ module _ (bs : List ℕ) (count k next : ℕ) where
   pub calls_end : count ≤ k → flaw.Behind next ≡ calls_of (count - k) bs next
   unfolding calls_of
   calls_end h = let e : count - k ≡ 0 = omega arith in sym (ap (λ n. calls_of n bs next) e)
+
+-- THE COUNT at a byte is the number that stands there
+module _ (bs : List ℕ) (at : ℕ) where
+  pub count_is : at + 2 ≤ length bs → count_of bs at ≡ word_at bs at
+  count_is h = number_at bs at 1 0 {n = 1} (omega arith) (sym (numbers_length bs at 1 (omega arith))) ∙ ap (word_at bs) (add-zero at)
+
+  module _ (count : ℕ) (h : (at + 2 ≤ length bs) × (count ≡ word_at bs at)) where
+    read : count_of bs at ≡ count
+    read = count_is h.0 ∙ sym h.1
+
+    pub behind_cut : length bs < at + 2 + 2 * count → None ≡ behind_of bs at
+    behind_cut l = rw (read, le-leb (at + 2) (length bs) h.0, lt-leb count ((length bs - 2 - at) / 2) (omega arith)) refl
+
+    pub behind_fits : at + 2 + 2 * count ≤ length bs → Some (at + 2 + 2 * count) ≡ behind_of bs at
+    behind_fits l = rw (read, le-leb (at + 2) (length bs) h.0, le-leb count ((length bs - 2 - at) / 2) (omega arith)) refl
+
+    pub calls_there : calls_of count bs (at + 2) ≡ call_list_of bs at
+    calls_there = rw (read, le-leb (at + 2) (length bs) h.0) refl
+
+-- a count that is read and widened
+pub count_told : (bs : List ℕ) (at : ℕ) (word wide : std.Option ℕ) → MatchOption word (length bs < at + 2) (λ w. (at + 2 ≤ length bs) × (w ≡ word_at bs at))
+    → MatchOption word (wide ≡ None) (λ w. IsSomeAnd wide (λ n. n ≡ w)) → at + 2 ≤ length bs → wide ≡ Some (count_of bs at)
+count_told bs at None wide m q h = absurd (omega (arith, m, h))
+count_told bs at (Some w) None m q h = absurd q
+count_told bs at (Some w) (Some n) m q h = ap Some (q ∙ m.1 ∙ sym (count_is bs at h))
+
+-- the parts behind one another
+pub parts_there : (bs : List ℕ) (clues calls : ℕ) → Some clues ≡ behind_of bs 5 → Some calls ≡ behind_of bs clues → call_list_of bs calls ≡ lists_of bs
+parts_there bs clues calls p q = ap (λ o. clues_of bs clues o) q ∙ ap (λ o. walls_of bs o) p
 
 -- a part that is wrong is a flaw
 pub never_sound : (bs : List ℕ) → is_sound (Some (part_of bs)) ≡ false

@@ -3,9 +3,7 @@
 
 ghost use Rattle.std.specs.Prelude.{◌≡◌, ◌+◌, ◌<◌, length, MatchOption};
 ghost use Rattle.case_file.specs.Sound.{decode_of};
-ghost use Rattle.flaws.specs.Flaws.{flaw_of, part_of, lists_of, calls_of, call_of, behind_of, count_of, is_sound, sound_of};
-
-use case_file::Span;
+ghost use Rattle.flaws.specs.Flaws.{flaw_of, part_of, lists_of, calls_of, call_of, behind_of, is_sound, sound_of};
 
 // A number is the byte at which the part stands; the count of given walls stands at byte 5 of every file.
 #[derive(Clone, Copy, Debug, PartialEq, Eq)]
@@ -30,30 +28,16 @@ pub enum Flaw {
     Behind(usize),
 }
 
-// The count at a byte; 0 where the file ends before it.
-fn count_at(file: &[u8], at: usize) -> usize
-    ensures { result ≡ count_of file.now at }
-{
-    case_file::number(file, Span { at, count: 1 }, 0)
-}
-
-// How many bytes stand behind a count at a byte, if the file does not end before it or in it.
-fn room(file: &[u8], at: usize) -> Option<usize>
-    ensures { MatchOption result (length file.now < at + 2) (λ left. at + 2 + left ≡ length file.now) }
-{
-    file.len().checked_sub(2)?.checked_sub(at)
-}
-
 // The byte behind the list of numbers whose count stands at a byte, if the file has room for it.
 fn behind(file: &[u8], at: usize) -> Option<usize>
     ensures { result ≡ behind_of file.now at }
 {
-    let left = room(file, at)?;
-    let count = count_at(file, at);
-    if left / 2 < count {
+    let count = usize::from(case_file::word(file, at)?);
+    let end = at + 2 + 2 * count;
+    if file.len() < end {
         return None;
     }
-    Some(at + 2 + 2 * count)
+    Some(end)
 }
 
 // What is wrong with the call at a byte, which is none that is sound.
@@ -90,10 +74,10 @@ fn lists(file: &[u8]) -> Flaw
     let Some(calls_at) = behind(file, clues_at) else {
         return Flaw::Clues(clues_at);
     };
-    if room(file, calls_at).is_none() {
+    let Some(count) = case_file::word(file, calls_at) else {
         return Flaw::Calls(calls_at);
-    }
-    calls(file, calls_at + 2, count_at(file, calls_at))
+    };
+    calls(file, calls_at + 2, usize::from(count))
 }
 
 // The part of an unsound file that is wrong.
@@ -109,7 +93,7 @@ fn part(file: &[u8]) -> Flaw
     if file[0] != 1 {
         return Flaw::Version;
     }
-    if count_at(file, 1) != file.len() - 3 {
+    if case_file::word(file, 1).map(usize::from) != Some(file.len() - 3) {
         return Flaw::Length;
     }
     lists(file)

@@ -4,4 +4,4 @@ use Rattle.case_file.proofs.NumberLaws.{Copying}
 use Rattle.case_file.proofs.numbers.Given as goal
 
 abbrev pub invariant-loop-k : goal.invariant-loop-k
-invariant-loop-k l = Copying (numbers_at l.file l.list.at l.list.count) l.initial.buffer l.buffer l.k
+invariant-loop-k l = Copying (numbers_at l.file l.list.at l.list.count) l.initial.number-items l.number-items l.k
