@@ -22,7 +22,7 @@ pub extern "C" fn sendai_group(i: GroupInfo, buffer: &[u16], k: usize, out: &mut
     ensures value { result ≡ length (copied_of (hand_out_of i buffer.now k) (length out.old)) }
     ensures out_after { out.new ≡ sets out.old 0 (copied_of (hand_out_of i buffer.now k) (length out.old)) }
 {
-    let part = groups::group(i, buffer, k);
+    let part = i.group(buffer, k);
     if out.len() < part.len() {
         return 0;
     }

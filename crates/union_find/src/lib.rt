@@ -17,6 +17,21 @@ pub struct UnionFind {
     pub n: usize,
 }
 
+// A record of zeros, which a refused making returns.
+impl Default for UnionFind {
+    ghost use Rattle.union_find.specs.UnionFind.{zeros, union_of};
+
+    ghost is_default = { λ union. union ≡ union_of zeros 0 };
+
+    #[tactic(auto, unfolding(crate::specs::UnionFind::zeros))]
+    fn default() -> UnionFind {
+        UnionFind {
+            parent: [0; CELLS],
+            n: 0,
+        }
+    }
+}
+
 impl UnionFind {
     ghost use Rattle.std.specs.Prelude.{◌<◌};
     ghost use Rattle.std.proofs.lemmas.List.Edits.{sets};
@@ -189,16 +204,12 @@ pub struct United {
 impl From<Result<UnionFind, Refusal>> for Made {
     ghost from_gives = { λ making made. made ≡ made_as making };
 
-    #[tactic(auto, unfolding(crate::specs::UnionFind::zeros))]
     fn from(making: Result<UnionFind, Refusal>) -> Made {
         match making {
             Ok(union) => Made { code: 0, union },
             Err(refusal) => Made {
                 code: u8::from(refusal),
-                union: UnionFind {
-                    parent: [0; CELLS],
-                    n: 0,
-                },
+                union: UnionFind::default(),
             },
         }
     }

@@ -119,7 +119,7 @@ impl Desk {
         let mut buffer = [0u16; limits::CELLS];
         let made = groups::compute_connected_components(&self.board, is_potential, &mut buffer);
         let Grouping { info, .. } = made.into();
-        let part = groups::group(info, &buffer, group);
+        let part = info.group(&buffer, group);
         let len = part.len();
         let cells = Spaced(part);
         println!(self.out; "{len}{cells}")
