@@ -1,5 +1,5 @@
 // A cell's row and column.
-#[derive(Clone, Copy, Debug, PartialEq, Eq)]
+#[derive(Clone, Copy)]
 pub struct Spot {
     pub row: usize,
     pub col: usize,
