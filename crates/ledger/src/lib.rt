@@ -4,6 +4,7 @@
 
 ghost use Rattle.std.specs.Prelude.{◌≡◌, true, ◌%◌, ◌+◌, ◌-◌, ◌*◌, ◌≤◌, length, map, drop, replicate, eqb, ltb};
 ghost use Rattle.limits.specs.Limits.{most_borders};
+ghost use Rattle.lists.specs.Choice.{pick};
 ghost use Rattle.lists.specs.Lists.{all};
 ghost use Rattle.answers.specs.Refusals.{code_of};
 ghost use Rattle.ledger.specs.Ledger.{decisions, state_for, borders, all_exist, none_twice, all_free, stroke_code, undo_code};
@@ -25,7 +26,7 @@ pub struct Book {
 impl Book {
     ghost use Rattle.std.proofs.lemmas.List.Edits.{sets};
     ghost use Rattle.ledger.specs.Moves.{Held, HeldBook, GivenMarks, left};
-    ghost use Rattle.ledger.specs.Books.{zeros, fresh_book, names_in, names_of, state_all, placed, taken};
+    ghost use Rattle.ledger.specs.Books.{zeros, fresh_book, none_given, names_in, names_of, state_all, placed, taken};
 
     // A book without a decision.
     #[tactic(auto, unfolding(crate::specs::Books::zeros))]
@@ -45,6 +46,18 @@ impl Book {
         ensures { result ≡ book_holds n (given_in marks.old) self.now }
     {
         book_holds(&self.states, &self.names, self.len, n, marks)
+    }
+
+    // Question 2 over n borders of which none is given: of lone boards and room graphs.
+    pub fn check(&self, n: usize) -> Result<(), Refusal>
+        requires { n ≤ most_borders }
+        ensures { code_of result ≡ pick (book_holds n none_given self.now) 0 2 }
+    {
+        let mut marks = [0u8; limits::BORDERS];
+        if !self.holds(n, &mut marks) {
+            return Err(Refusal::Record);
+        }
+        Ok(())
     }
 
     // Gives the borders of a stroke their states.
