@@ -35,8 +35,8 @@ module _ (g : Grid) (k : Book) where
   ready_code r = rw (limits_ok g r.limits, r.holds)
 
   -- question 2, by what the code tests
-  pub by_book : sizes_ok g ≡ true → (n : ℕ) → n ≡ border_count g → (t : Bool) → book_holds n none_given k ≡ t → pick t 0 2 ≡ check_of g k
-  by_book p n e t q = rw (p, ← e, q)
+  pub by_book : sizes_ok g ≡ true → (n : ℕ) → n ≡ border_count g → pick (book_holds n none_given k) 0 2 ≡ check_of g k
+  by_book p n e = rw (p, ← e)
 
 -- a board that neither refuses
 pub board_ready : (b : Board) (code : ℕ) → code ≡ board_code b → code ≡ 0 → Ready b.grid b.book

@@ -58,11 +58,7 @@ impl Board {
         if !self.grid.is_within_limits() {
             return Err(Refusal::Size);
         }
-        let mut marks = [0u8; limits::BORDERS];
-        if !self.book.holds(self.grid.border_count(), &mut marks) {
-            return Err(Refusal::Record);
-        }
-        Ok(())
+        self.book.check(self.grid.border_count())
     }
 
     // The borders as they stand.

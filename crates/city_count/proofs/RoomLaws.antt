@@ -1,6 +1,6 @@
 -- A graph that questions 1 and 2 accept, as facts; and a law for each answer. Assumes nothing.
 use Prim.Native.Nat.{ℕ, ◌≤◌, ◌<◌}
-use mathlib.Core.Path.{◌≡◌, refl, sym, ◌∙◌}
+use mathlib.Core.Path.{◌≡◌, refl, ap, sym, ◌∙◌}
 use mathlib.Core.Bool.{Bool, true, false}
 use mathlib.Core.List.{List, [], ◌∷◌}
 use mathlib.Core.Option.{Option, none, some}
@@ -46,11 +46,11 @@ module _ (n m : ℕ) (us vs : List ℕ) (b : Book) where
     pub no_ends : ends_exist n m us vs ≡ false → 2 ≡ check_of n m us vs b
     no_ends e = rw (le-leb n most_cells h, le-leb m most_borders k, e)
 
-    pub by_book : ends_exist n m us vs ≡ true → (t : Bool) → book_holds m none_given b ≡ t → pick t 0 2 ≡ check_of n m us vs b
-    by_book e t p = rw (le-leb n most_cells h, le-leb m most_borders k, e, p)
+    pub by_book : ends_exist n m us vs ≡ true → pick (book_holds m none_given b) 0 2 ≡ check_of n m us vs b
+    by_book e = rw (le-leb n most_cells h, le-leb m most_borders k, e)
 
   pub ready_code : Ready n m us vs b → check_of n m us vs b ≡ 0
-  ready_code r = sym (by_book r.fits.few_vertices r.fits.few_edges (sym (ends_all n us vs m m (omega arith) r.fits.ends)) true r.holds)
+  ready_code r = sym (ap (λ t. pick t 0 2) (sym r.holds) ∙ by_book r.fits.few_vertices r.fits.few_edges (sym (ends_all n us vs m m (omega arith) r.fits.ends)))
 
   pub ready : check_of n m us vs b ≡ 0 → Ready n m us vs b
   ready = go (both (leb n most_cells) (leb m most_borders)) refl (both (ends_exist n m us vs) (book_holds m none_given b)) refl

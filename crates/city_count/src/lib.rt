@@ -92,11 +92,7 @@ impl CityCountConstraint {
         ) {
             return Err(Refusal::Record);
         }
-        let mut marks = [0u8; limits::BORDERS];
-        if !self.book.holds(self.edges, &mut marks) {
-            return Err(Refusal::Record);
-        }
-        Ok(())
+        self.book.check(self.edges)
     }
 
     // The graph with its edges' states.

@@ -18,7 +18,7 @@ use Rattle.lists.proofs.SetsLaws.{sets_out, sets_in}
 use Rattle.ledger.specs.Ledger.{Decision, state_for, state_in, borders}
 use Rattle.ledger.specs.declared.Book.{Book}
 use Rattle.ledger.specs.Books.{zeros, none_given, book_holds, state_all, clear_all}
-use Rattle.ledger.specs.Marks.{given_in, Unmarked}
+use Rattle.ledger.specs.Marks.{given_in}
 use Rattle.ledger.specs.Moves.{GivenMarks}
 
 pub zero_at : (e : ℕ) → get_or zeros e 0 ≡ 0
@@ -38,9 +38,6 @@ by_marks n b t k = sym (k ∙ rw none_given_lem)
 
 pub no_marks : (n : ℕ) → n ≤ most_borders → GivenMarks n zeros
 no_marks n h = record { marks_long = omega (arith, zeros_length); marks_given = λ e. omega (arith, zero_at e); few = h }
-
-pub unmarked : (n : ℕ) → n ≤ most_borders → Unmarked n zeros
-unmarked n h = record { marks_long = omega (arith, zeros_length); marks_free = zero_at }
 
 -- a border that is not named, or named, in front
 head_not : (x e : ℕ) (l : List ℕ) → count e (x ∷ l) ≡ 0 → (e ≢ x) × (count e l ≡ 0)

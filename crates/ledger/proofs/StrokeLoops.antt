@@ -2,11 +2,11 @@
 use Prim.Native.Nat.{ℕ, zero, suc, ◌+◌, ◌-◌, ◌/◌, ◌%◌, ◌≤◌, ◌<◌}
 use mathlib.Core.Path.{◌≡◌, refl, ap, sym, ◌∙◌}
 use mathlib.Core.Logic.{◌≢◌, ⊎_elim}
-use mathlib.Core.Bool.{Bool, true, false}
+use mathlib.Core.Bool.{Bool, true}
 use mathlib.Core.List.{List, [], ◌∷◌}
 use native.Mathlib.Omega.{arith}
 use native.Mathlib.Numerals.{add-one}
-use borrow.Author.Tests.{lt-leb, le-leb, eq-eqb, ne_eqb, ltb-true, leb-true}
+use borrow.Author.Tests.{le-leb, eq-eqb, ne_eqb, ltb-true, leb-true}
 use lib.Dec.{eqb, ltb, leb}
 use lib.ListN.{length, get_or, drop, set, drop_of_length-le}
 use lib.Seq.{drop-cons, sets}
@@ -60,9 +60,9 @@ module _ (es : List ℕ) (i : ℕ) where
   unfolding names_from
   names_end l t len h q = ap (λ m. sets l (len + i) (names_from i (decisions m))) (sym (no_entry h)) ∙ q
 
--- no border twice, by marks: m after the first i entries, of marks m₀ at the start
+-- no border twice, by marks that are free at first
 module _ (n : ℕ) (es m₀ : List ℕ) (exist : all_exist n (decisions es) ≡ true) (long : n ≤ length m₀) (free : (e : ℕ) → get_or m₀ e 0 ≡ 0) where
-  by_marks : new_names n m₀ (borders (decisions es)) ≡ none_twice (borders (decisions es))
+  pub by_marks : new_names n m₀ (borders (decisions es)) ≡ none_twice (borders (decisions es))
   unfolding none_twice
   by_marks =
       let bs = borders (decisions es) in
@@ -79,24 +79,6 @@ module _ (n : ℕ) (es m₀ : List ℕ) (exist : all_exist n (decisions es) ≡ 
             (λ (h : count e bs < 1). omega arith)
             (le_or_lt 1 (count e bs));
       })
-
-  module _ (m : List ℕ) (i : ℕ) (k : new_names n m (borders (decisions (drop i es))) ≡ new_names n m₀ (borders (decisions es))) where
-    head : i < length es → new_names n m (get_or es i 0 / 2 ∷ borders (decisions (drop (i + 1) es))) ≡ new_names n m₀ (borders (decisions es))
-    head h = ap (λ l. new_names n m (borders (decisions l))) (sym (next_entry es i h)) ∙ k
-
-    pub marks_on : i < length es → get_or m (get_or es i 0 / 2) 0 ≡ 0
-        → new_names n (set m (get_or es i 0 / 2) 2) (borders (decisions (drop (i + 1) es))) ≡ new_names n m₀ (borders (decisions es))
-    unfolding new_names
-    marks_on h z = rw (lt-leb n (get_or es i 0 / 2) (entry_below es i n exist h), eq-eqb (get_or m (get_or es i 0 / 2) 0) 0 z) at (head h)
-
-    pub marks_fail : i < length es → get_or m (get_or es i 0 / 2) 0 ≢ 0 → false ≡ none_twice (borders (decisions es))
-    unfolding new_names
-    marks_fail h z =
-        (rw (lt-leb n (get_or es i 0 / 2) (entry_below es i n exist h), ne_eqb (get_or m (get_or es i 0 / 2) 0) 0 z) at (head h)) ∙ by_marks
-
-    pub marks_end : length es ≤ i → true ≡ none_twice (borders (decisions es))
-    unfolding new_names
-    marks_end h = ap (λ l. new_names n m (borders (decisions l))) (sym (no_entry es i h)) ∙ k ∙ by_marks
 
 -- a stroke of none or one has no border twice
 pub too_short : (es : List ℕ) → length es < 2 → true ≡ none_twice (borders (decisions es))

@@ -17,13 +17,13 @@ use Rattle.limits.specs.Limits.{most_borders}
 use Rattle.lists.specs.Choice.{both, pick}
 use Rattle.lists.specs.Lists.{In, all, count_from}
 use Rattle.lists.proofs.Cases.{true_or_false, not_both}
-use Rattle.lists.proofs.ChoiceLaws.{both_right}
+use Rattle.lists.proofs.ChoiceLaws.{both_true, both_right}
 use Rattle.lists.proofs.GreatestLaws.{greater_rest}
 use Rattle.lists.proofs.ListLaws.{in_right, all_true, true_all, in_get_d, get_d_in, all_step}
 use Rattle.lists.proofs.SetsLaws.{part_written}
 use Rattle.lists.proofs.Bridges.{filled}
 use Rattle.ledger.specs.declared.Book.{Book}
-use Rattle.ledger.specs.Ledger.{Decision, decision_of, decisions}
+use Rattle.ledger.specs.Ledger.{Decision, decision_of, decisions, borders}
 use Rattle.ledger.specs.Books.{book, half, borders_in, names_from, names_of, state_all, clear_all}
 use Rattle.ledger.specs.Marks.{fits_of, fit_all, new_names, mark_all, Marked, Named}
 use Rattle.ledger.proofs.MarkLaws.{new_names_lem}
@@ -49,6 +49,16 @@ pub record Walk (l : List ℕ) (n : ℕ) (m₀ m : List ℕ) (i : ℕ) (new : Bo
   pub answer : both new (new_names n m (drop i (map half l))) ≡ new_names n m₀ (map half l)
   pub marks : mark_all m (drop i (map half l)) ≡ mark_all m₀ (map half l)
 
+-- which border is the last does not tell where all of them are borders
+new_within : (n k : ℕ) (l m : List ℕ) → n ≤ k → all (λ x. ltb x (2 * n)) l ≡ true → new_names k m (map half l) ≡ new_names n m (map half l)
+unfolding new_names all
+new_within n k [] m room b = refl
+new_within n k (x ∷ l) m room b =
+    let t = both_true (ltb x (2 * n)) (all (λ x. ltb x (2 * n)) l) b in
+    let h = ltb-true x (2 * n) t.0 in
+    rw (lt-leb n (half x) (omega (arith, h)), lt-leb k (half x) (omega (arith, h, room)))
+    (ap (λ r. pick (eqb (get_or m (half x) 0) 0) r false) (new_within n k l (set m (half x) 2) room t.1))
+
 half_in : (l : List ℕ) (x : ℕ) → In x l → In (half x) (map half l)
 half_in [] x k = absurd k
 half_in (y ∷ l) x (inl q) = inl (ap half q)
@@ -69,13 +79,21 @@ module _ (l : List ℕ) (n : ℕ) where
         marks = λ t. absurd (not_both false t refl);
       }
 
+  -- names of n borders, marked among k
+  module _ (k : ℕ) (room : n ≤ k) (b : all (λ x. ltb x (2 * n)) l ≡ true) where
+    pub marked_within : (m m' : List ℕ) (r : Bool) → Marked k m (map half l) r m' → Marked n m (map half l) r m'
+    marked_within m m' r w = record { answer = w.answer ∙ new_within n k l m room b; marks = w.marks }
+
+    pub halves_below : all (λ x. ltb (half x) k) l ≡ true
+    halves_below =
+        true_all (λ x. ltb (half x) k) l
+        (λ x i. let h = ltb-true x (2 * n) (all_true (λ x. ltb x (2 * n)) l b x i) in lt-ltb (half x) k (omega (arith, h, room)))
+
   next_half : (i : ℕ) → i < length l → drop i (map half l) ≡ half (get_or l i 0) ∷ drop (i + 1) (map half l)
   next_half i h = next_of (map half l) i 0 (simp length-map h) ∙ rw (get_or-map half l i 0)
 
-  pub border_below : (i : ℕ) → i < length l → all (λ x. ltb x (2 * n)) l ≡ true → half (get_or l i 0) < n
-  border_below i h b =
-      let f : ltb (get_or l i 0) (2 * n) ≡ true = all_true (λ x. ltb x (2 * n)) l b (get_or l i 0) (get_d_in 0 l i h) in
-      let k = ltb-true (get_or l i 0) (2 * n) f in omega arith
+  pub border_below : (i : ℕ) → i < length l → all (λ x. ltb (half x) n) l ≡ true → half (get_or l i 0) < n
+  border_below i h b = ltb-true (half (get_or l i 0)) n (all_true (λ x. ltb (half x) n) l b (get_or l i 0) (get_d_in 0 l i h))
 
   pub walk_on : (m₀ m : List ℕ) (i e : ℕ) (new new' : Bool) → Walk l n m₀ m i new → i < length l → e ≡ half (get_or l i 0) → e < n
       → new' ≡ new && eqb (get_or m e 0) 0 → Walk l n m₀ (set m e 2) (i + 1) new'
@@ -92,6 +110,11 @@ module _ (l : List ℕ) (n : ℕ) where
   walk_end m₀ m i new w h =
       let none : drop i (map half l) ≡ [] = drop_of_length-le (map half l) (simp length-map h) in
       record { answer = sym (both_right new) ∙ (rw none at w.answer); marks = λ t. rw none at w.marks }
+
+-- the borders of entries
+pub entries_half : (es : List ℕ) → map half es ≡ borders (decisions es)
+entries_half [] = refl
+entries_half (x ∷ es) = ap (λ l. half x ∷ l) (entries_half es)
 
 -- a test of all decisions, by their entries
 pub all_entries : (p : Decision → Bool) (es : List ℕ) → all (λ x. p (decision_of x)) es ≡ all p (decisions es)
@@ -132,16 +155,16 @@ module _ (l : List ℕ) (from len : ℕ) (k : Named l from len) where
   part : take (length (take len l) - from) (drop from (take len l)) ≡ drop from (take len l)
   part = ap (λ n. take n (drop from (take len l))) (sym (length-drop from (take len l))) ∙ take-length (drop from (take len l))
 
-  pub part_below : all (λ x. ltb x (2 * most_borders)) (take (length (take len l) - from) (drop from (take len l))) ≡ true
+  pub part_below : all (λ x. ltb (half x) most_borders) (take (length (take len l) - from) (drop from (take len l))) ≡ true
   part_below =
       let xs = take len l in
       rw part
-      (true_all (λ x. ltb x (2 * most_borders)) (drop from xs)
+      (true_all (λ x. ltb (half x) most_borders) (drop from xs)
       (λ x i.
       let o = in_get_d 0 x xs (rw (take-append-drop from xs) at (in_right x (take from xs) (drop from xs) i)) in
       let h : o.0 < len = omega (arith, o.1, length-take-le len l k.long) in
       let e : get_or l o.0 0 ≡ x = sym (get_or-take len l o.0 0 h) ∙ o.2 in
-      lt-ltb x (2 * most_borders) (omega (arith, k.places o.0 h, e))))
+      lt-ltb (half x) most_borders (rw e at (k.places o.0 h))))
 
   pub part_half : map half (take (length (take len l) - from) (drop from (take len l))) ≡ drop from (borders_in l len)
   part_half = ap (map half) part ∙ sym (drop-map half from (take len l))

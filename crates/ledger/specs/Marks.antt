@@ -40,11 +40,6 @@ pub record LentBook (n : ℕ) (s l m : List ℕ) : Type 0 where
   pub marks_given : (e : ℕ) → get_or m e 0 ≤ 1
   pub few : n ≤ most_borders
 
--- marks of n borders, all free
-pub record Unmarked (n : ℕ) (m : List ℕ) : Type 0 where
-  pub marks_long : n ≤ length m
-  pub marks_free : (e : ℕ) → get_or m e 0 ≡ 0
-
 -- the names from `from` up to `len` are there, and each names a border that has a place
 pub record Named (l : List ℕ) (from len : ℕ) : Type 0 where
   pub in_turn : from ≤ len

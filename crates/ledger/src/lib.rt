@@ -4,11 +4,12 @@
 
 ghost use Rattle.std.specs.Prelude.{◌≡◌, true, ◌%◌, ◌+◌, ◌-◌, ◌*◌, ◌≤◌, length, map, drop, replicate, eqb, ltb};
 ghost use Rattle.limits.specs.Limits.{most_borders};
+ghost use Rattle.lists.specs.Choice.{pick};
 ghost use Rattle.lists.specs.Lists.{all};
 ghost use Rattle.answers.specs.Refusals.{code_of};
 ghost use Rattle.ledger.specs.Ledger.{decisions, state_for, borders, all_exist, none_twice, all_free, stroke_code, undo_code};
 ghost use Rattle.ledger.specs.Books.{book, half, clear_all, state_at, book_holds, name_of, start_of};
-ghost use Rattle.ledger.specs.Marks.{fits_of, Marked, LentBook, fit_all, given_in, Unmarked, Named, Entry};
+ghost use Rattle.ledger.specs.Marks.{fits_of, Marked, LentBook, fit_all, given_in, Named, Entry};
 
 use answers::Refusal;
 
@@ -25,7 +26,7 @@ pub struct Book {
 impl Book {
     ghost use Rattle.std.proofs.lemmas.List.Edits.{sets};
     ghost use Rattle.ledger.specs.Moves.{Held, HeldBook, GivenMarks, left};
-    ghost use Rattle.ledger.specs.Books.{zeros, fresh_book, names_in, names_of, state_all, placed, taken};
+    ghost use Rattle.ledger.specs.Books.{zeros, fresh_book, none_given, names_in, names_of, state_all, placed, taken};
 
     // A book without a decision.
     #[tactic(auto, unfolding(crate::specs::Books::zeros))]
@@ -45,6 +46,18 @@ impl Book {
         ensures { result ≡ book_holds n (given_in marks.old) self.now }
     {
         book_holds(&self.states, &self.names, self.len, n, marks)
+    }
+
+    // Question 2 over n borders of which none is given: of lone boards and room graphs.
+    pub fn check(&self, n: usize) -> Result<(), Refusal>
+        requires { n ≤ most_borders }
+        ensures { code_of result ≡ pick (book_holds n none_given self.now) 0 2 }
+    {
+        let mut marks = [0u8; limits::BORDERS];
+        if !self.holds(n, &mut marks) {
+            return Err(Refusal::Record);
+        }
+        Ok(())
     }
 
     // Gives the borders of a stroke their states.
@@ -146,7 +159,7 @@ pub fn start_of(names: &[u16]) -> usize
 
 // The borders of these names are undecided again.
 pub fn clear_states(states: &mut [u8], names: &[u16])
-    requires { all (λ x. ltb x (2 * length states.old)) names.now ≡ true }
+    requires { all (λ x. ltb (half x) (length states.old)) names.now ≡ true }
     ensures { states.new ≡ clear_all states.old (map half names.now) }
 {
     for &name in names {
@@ -186,12 +199,17 @@ fn mark_names(names: &[u16], n: usize, marks: &mut [u8]) -> bool
     requires { (n ≤ length marks.old) × (n ≤ most_borders) }
     ensures { Marked n marks.old (map half names.now) result marks.new }
 {
-    if !lists::all_below(names, 2 * n) {
-        return false;
-    }
+    lists::all_below(names, 2 * n) && mark_each(names, marks)
+}
+
+// Marks the border of each name or entry. False where one is marked already when it is come to.
+fn mark_each(xs: &[u16], marks: &mut [u8]) -> bool
+    requires { all (λ x. ltb (half x) (length marks.old)) xs.now ≡ true }
+    ensures { Marked (length marks.old) marks.old (map half xs.now) result marks.new }
+{
     let mut new = true;
-    for &name in names {
-        let e = border_of(name);
+    for &x in xs {
+        let e = border_of(x);
         new &= marks[e] == 0;
         marks[e] = 2;
     }
@@ -217,22 +235,6 @@ fn all_exist(entries: &[u16], n: usize) -> bool
     entries.iter().all(|&entry| border_of(entry) < n)
 }
 
-// Whether each border of a stroke is new when it is come to, by marks that are free at first.
-fn each_new(entries: &[u16], marks: &mut [u8]) -> bool
-    requires entries_value { all_exist (length marks.old) (decisions entries.now) ≡ true }
-    requires unmarked { Unmarked (length marks.old) marks.old }
-    ensures { result ≡ none_twice (borders (decisions entries.now)) }
-{
-    for &entry in entries {
-        let e = border_of(entry);
-        if marks[e] != 0 {
-            return false;
-        }
-        marks[e] = 2;
-    }
-    true
-}
-
 // Whether no border stands twice in a stroke. A stroke of one needs no marks.
 fn none_twice(entries: &[u16]) -> bool
     requires { all_exist most_borders (decisions entries.now) ≡ true }
@@ -242,7 +244,7 @@ fn none_twice(entries: &[u16]) -> bool
         return true;
     }
     let mut marks = [0u8; limits::BORDERS];
-    each_new(entries, &mut marks)
+    mark_each(entries, &mut marks)
 }
 
 // Whether each border of a stroke is undecided.

@@ -1,15 +1,18 @@
 -- Vertices that are their own parents: the stores of `alone`, and what they leave. Assumes nothing.
 use Prim.Native.Nat.{ℕ, zero, suc, ◌+◌, ◌-◌, ◌≤◌, ◌<◌}
-use mathlib.Core.Path.{◌≡◌, refl, ◌∙◌}
+use mathlib.Core.Path.{◌≡◌, refl, ap, sym, ◌∙◌}
 use mathlib.Core.Logic.{⊎_elim}
 use mathlib.Core.List.{List}
 use native.Mathlib.Omega.{arith}
 use native.Mathlib.Numerals.{add-one}
 use native.Mathlib.Nat.{sub-zero}
-use lib.ListN.{get_or, set, length, length-set}
-use lib.Seq.{sets, get_or-set_same, get_or-set_other}
+use lib.ListN.{get_or, set, take, length, length-set}
+use borrow.Rule.Slice.PartMut.{put_mid}
+use lib.Seq.{sets, length-sets, length-take-le, take-length, get_or-set_same, get_or-set_other}
 use Rattle.lists.specs.Lists.{count_from, range}
 use Rattle.lists.proofs.Cases.{le_or_lt}
+use Rattle.lists.proofs.ListLaws.{range_length}
+use Rattle.lists.proofs.SetsLaws.{front, part_written}
 use Rattle.union_find.specs.Chains.{up}
 
 -- what is left to store from place i on
@@ -28,6 +31,16 @@ module _ (p : List ℕ) (i n : ℕ) where
 pub left_all : (p : List ℕ) (n : ℕ) → left p 0 n ≡ sets p 0 (range n)
 unfolding range
 left_all p n = simp sub-zero
+
+-- the first n places, when nothing is left
+pub left_whole : (p own : List ℕ) (n : ℕ) → n ≤ length p → own ≡ left (take n p) 0 n → put_mid 0 n p own ≡ sets p 0 (range n)
+left_whole p own n h q =
+    let size : length (take n p) ≡ n = length-take-le n p h in
+    let all : sets (take n p) 0 (range n) ≡ range n =
+    sym (take-length (sets (take n p) 0 (range n)))
+    ∙ ap (λ k. take k (sets (take n p) 0 (range n))) (length-sets (take n p) 0 (range n) ∙ size ∙ sym (range_length n))
+    ∙ front (take n p) (range n) (omega (arith, size, range_length n)) in
+    ap (put_mid 0 n p) (q ∙ left_all (take n p) n ∙ all) ∙ part_written p (range n) 0 n (sym (range_length n)) (omega (arith, range_length n, h))
 
 -- each vertex is its own parent
 count_below : (k a : ℕ) (p : List ℕ) (x : ℕ) → x < a → get_or (sets p a (count_from a k)) x 0 ≡ get_or p x 0

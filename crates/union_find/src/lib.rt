@@ -70,8 +70,9 @@ impl UnionFind {
         requires { self.old.n ≤ most_cells }
         ensures { self.new ≡ union_of (sets self.old.parent 0 (range self.old.n)) self.old.n }
     {
-        for i in 0..self.n {
-            self.parent[i] = i as u16;
+        let n = self.n;
+        for (i, own) in self.parent[..n].iter_mut().enumerate() {
+            *own = i as u16;
         }
     }
 
