@@ -20,6 +20,17 @@ pub struct Board {
     pub book: Book,
 }
 
+// A record of zeros, which a refused making returns.
+impl Default for Board {
+    ghost use Rattle.board.specs.Board.{zero_board};
+
+    ghost is_default = { λ board. board ≡ zero_board };
+
+    fn default() -> Board {
+        Board::empty(Grid::default())
+    }
+}
+
 // A board with the number of the question that refuses: 0 where the call was accepted.
 #[repr(C)]
 #[derive(Clone, Copy)]
@@ -106,7 +117,7 @@ impl From<Result<Board, Refusal>> for Decided {
             Ok(board) => Decided { code: 0, board },
             Err(refusal) => Decided {
                 code: u8::from(refusal),
-                board: Board::empty(Grid::default()),
+                board: Board::default(),
             },
         }
     }

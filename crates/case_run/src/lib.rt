@@ -66,7 +66,7 @@ impl From<Result<Remaining, Refusal>> for Opened {
             },
             Err(refusal) => Opened {
                 code: u8::from(refusal),
-                puzzle: puzzle::make(0, 0, &[], &[]).puzzle,
+                puzzle: Puzzle::default(),
                 at: 0,
                 count: 0,
             },

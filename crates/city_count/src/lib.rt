@@ -31,6 +31,17 @@ pub struct CityCountConstraint {
     pub book: Book,
 }
 
+// A record of zeros, which a refused making returns.
+impl Default for CityCountConstraint {
+    ghost use Rattle.city_count.specs.Room.{zero_room};
+
+    ghost is_default = { λ room. room ≡ zero_room };
+
+    fn default() -> CityCountConstraint {
+        CityCountConstraint::empty(0, 0, 0)
+    }
+}
+
 // A room graph with the number of the question that refuses: 0 where the making or call was accepted.
 #[repr(C)]
 #[derive(Clone, Copy)]
@@ -190,7 +201,7 @@ impl From<Result<CityCountConstraint, Refusal>> for Decided {
             Ok(room) => Decided { code: 0, room },
             Err(refusal) => Decided {
                 code: u8::from(refusal),
-                room: CityCountConstraint::empty(0, 0, 0),
+                room: CityCountConstraint::default(),
             },
         }
     }

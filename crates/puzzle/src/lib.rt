@@ -17,7 +17,6 @@ use answers::Refusal;
 use board::Board;
 use borders::Borders;
 use grid::Grid;
-use ledger::Book;
 use room_checks::CluedBoard;
 
 // The board has the given walls as Wall; its ledger names none of them. The first `given_len` places of `given` are the given walls,
@@ -30,6 +29,21 @@ pub struct Puzzle {
     pub given_len: usize,
     pub clues: [u16; limits::CELLS],
     pub clues_len: usize,
+}
+
+// A record of zeros, which a refused making returns.
+impl Default for Puzzle {
+    ghost is_default = { λ puzzle. puzzle ≡ zero_puzzle };
+
+    fn default() -> Puzzle {
+        Puzzle {
+            board: Board::default(),
+            given: [0; limits::BORDERS],
+            given_len: 0,
+            clues: [0; limits::CELLS],
+            clues_len: 0,
+        }
+    }
 }
 
 // A puzzle with a question's number: 0 where the making or call was accepted.
@@ -55,25 +69,6 @@ pub struct Fault {
 }
 
 impl Puzzle {
-    // A record whose every number is 0.
-    fn zero() -> Puzzle
-        ensures { result ≡ zero_puzzle }
-    {
-        Puzzle {
-            board: Board {
-                grid: Grid {
-                    height: 0,
-                    width: 0,
-                },
-                book: Book::new(),
-            },
-            given: [0u16; limits::BORDERS],
-            given_len: 0,
-            clues: [0u16; limits::CELLS],
-            clues_len: 0,
-        }
-    }
-
     // Makes a fresh puzzle of a record of zeros: its given walls are Wall, and nothing else is decided.
     fn start(&mut self, grid: Grid, given: &[u16], clues: &[u16])
         requires zeros { self.old ≡ zero_puzzle }
@@ -113,7 +108,7 @@ impl Puzzle {
     pub fn new(height: usize, width: usize, given: &[u16], clues: &[u16]) -> Result<Puzzle, Refusal>
         ensures { made result ≡ make_of height width given.now clues.now }
     {
-        let mut puzzle = Puzzle::zero();
+        let mut puzzle = Puzzle::default();
         puzzle.begin(height, width, given, clues)?;
         Ok(puzzle)
     }
@@ -271,7 +266,7 @@ pub fn make(height: usize, width: usize, given: &[u16], clues: &[u16]) -> Made
 {
     let mut out = Made {
         code: 0,
-        puzzle: Puzzle::zero(),
+        puzzle: Puzzle::default(),
     };
     out.code = answers::code_of(out.puzzle.begin(height, width, given, clues));
     out

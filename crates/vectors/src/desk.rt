@@ -26,19 +26,16 @@ pub struct Desk {
 }
 
 impl Desk {
-    // Records that are refused, until the script makes others.
+    // Records of zeros, until the script makes others.
     pub fn new(out: Stdout) -> Desk {
         Desk {
             out,
-            grid: Grid {
-                height: 0,
-                width: 0,
-            },
+            grid: Grid::default(),
             seed: 0,
-            board: board::Decided::from(Board::new(0, 0)).board,
-            union: union_find::Made::from(UnionFind::new(0)).union,
-            room: city_count::Decided::from(CityCountConstraint::new(0, &[], &[], 0)).room,
-            puzzle: puzzle::make(0, 0, &[], &[]).puzzle,
+            board: Board::default(),
+            union: UnionFind::default(),
+            room: CityCountConstraint::default(),
+            puzzle: Puzzle::default(),
             first: List::new(),
             second: List::new(),
         }

@@ -1,9 +1,0 @@
--- `puzzle::Puzzle::zero` meets its contract: its book has no decision, and its lists are zeros. Assumes nothing.
-use mathlib.Core.Path.{refl}
-use Rattle.ledger.specs.Books.{zeros}
-use Rattle.puzzle.specs.Puzzle.{no_clues}
-use Rattle.puzzle.proofs.Puzzle.zero.Goals as goal
-
-pub returns : goal.returns
-unfolding zeros no_clues
-returns c = rw c.new.ensures refl
