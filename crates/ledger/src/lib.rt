@@ -100,12 +100,10 @@ impl Book {
         requires { self.now.len ≤ most_borders }
         ensures { result ≡ start_of self.now.names self.now.len }
     {
-        for at in (0..self.len).rev() {
-            if self.names[at] % 2 == 1 {
-                return at;
-            }
-        }
-        0
+        self.names[..self.len]
+            .iter()
+            .rposition(|&name| name % 2 == 1)
+            .unwrap_or(0)
     }
 
     // The borders named from place `from` on are undecided again.
