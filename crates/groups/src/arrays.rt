@@ -7,12 +7,13 @@ ghost use Rattle.groups.specs.Turn.{starts_of};
 use crate::turned::Groups;
 use borders::Borders;
 
-// A place for each of N cells in each array that a grouping writes.
+// A place for each of N cells in each array that a grouping writes. `flat` stands next to `ids`: were they 4,096 bytes apart, reads of the
+// one would wait for writes to the other.
 #[derive(Drop)]
 pub struct GroupArrays<const N: usize> {
     ids: [u16; N],
-    starts: [u16; N],
     flat: [u16; N],
+    starts: [u16; N],
 }
 
 impl<const N: usize> GroupArrays<N> {

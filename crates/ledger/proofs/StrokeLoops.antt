@@ -1,5 +1,5 @@
 -- One turn and the end of each loop over a stroke's entries, and back over names. Assumes nothing.
-use Prim.Native.Nat.{ℕ, zero, suc, ◌+◌, ◌-◌, ◌/◌, ◌%◌, ◌≤◌, ◌<◌}
+use Prim.Native.Nat.{ℕ, zero, suc, ◌+◌, ◌/◌, ◌%◌, ◌≤◌, ◌<◌}
 use mathlib.Core.Path.{◌≡◌, refl, ap, sym, ◌∙◌}
 use mathlib.Core.Logic.{◌≢◌, ⊎_elim}
 use mathlib.Core.Bool.{Bool, true}
@@ -7,17 +7,17 @@ use mathlib.Core.List.{List, [], ◌∷◌}
 use native.Mathlib.Omega.{arith}
 use native.Mathlib.Numerals.{add-one}
 use borrow.Author.Tests.{le-leb, eq-eqb, ne_eqb, ltb-true, leb-true}
+use Rattle.std.specs.Prelude.{Option, Some, None, unwrap_or}
 use lib.Dec.{eqb, ltb, leb}
 use lib.ListN.{length, get_or, drop, set, drop_of_length-le}
 use lib.Seq.{drop-cons, sets}
-use Rattle.lists.specs.Choice.{pick}
 use Rattle.lists.specs.Lists.{count, all}
 use Rattle.lists.proofs.Cases.{le_or_lt}
 use Rattle.lists.proofs.ChoiceLaws.{both_true, same_truth}
 use Rattle.lists.proofs.ListLaws.{all_true, true_all}
 use Rattle.lists.proofs.CountLaws.{count_in}
 use Rattle.ledger.specs.Ledger.{Decision, decision_of, decisions, borders, state_for, all_exist, none_twice}
-use Rattle.ledger.specs.Books.{half, starts, name_of, names_from, state_all, start_of}
+use Rattle.ledger.specs.Books.{half, name_of, names_from, state_all, start_of}
 use Rattle.ledger.specs.Marks.{new_names}
 use Rattle.ledger.proofs.Strokes.{all_borders}
 use Rattle.ledger.proofs.MarkLaws.{new_names_lem, names_new}
@@ -87,18 +87,23 @@ too_short [] h = refl
 too_short (x ∷ []) h = rw (eq-eqb (x / 2) (x / 2) refl)
 too_short (x ∷ y ∷ es) h = absurd (omega arith)
 
--- one step back over the names: a start is found, or the search goes on
-module _ (l : List ℕ) (len at : ℕ) (some : 0 < at) (q : start_of l at ≡ start_of l len) where
-  step : pick (starts l (at - 1)) (at - 1) (start_of l (at - 1)) ≡ start_of l len
+-- the last place with a start is where the last stroke starts
+module _ (l : List ℕ) where
+  start_at : (n i : ℕ) → i < n → get_or l i 0 % 2 ≡ 1 → ((k : ℕ) → i < k → k < n → get_or l k 0 % 2 ≢ 1) → i ≡ start_of l n
   unfolding start_of
-  step = let e : suc (at - 1) ≡ at = omega arith in ap (start_of l) e ∙ q
+  start_at zero i h z after = absurd (omega arith)
+  start_at (suc n) i h z after =
+      ⊎_elim
+      (λ (e : n ≤ i). let q : n ≡ i = omega arith in rw (q, z) refl)
+      (λ (o : i < n). rw (ne_eqb (get_or l n 0 % 2) 1 (after n o (omega arith))) (start_at n i o z (λ k a b. after k a (omega arith))))
+      (le_or_lt n i)
 
-  pub start_here : get_or l (at - 1) 0 % 2 ≡ 1 → at - 1 ≡ start_of l len
-  start_here z = rw z at step
+  start_none : (n : ℕ) → ((k : ℕ) → k < n → get_or l k 0 % 2 ≢ 1) → 0 ≡ start_of l n
+  unfolding start_of
+  start_none zero none = refl
+  start_none (suc n) none = rw (ne_eqb (get_or l n 0 % 2) 1 (none n (omega arith))) (start_none n (λ k h. none k (omega arith)))
 
-  pub start_back : get_or l (at - 1) 0 % 2 ≢ 1 → start_of l (at - 1) ≡ start_of l len
-  start_back z = rw (ne_eqb (get_or l (at - 1) 0 % 2) 1 z) at step
-
-pub start_none : (l : List ℕ) (len at : ℕ) → at ≤ 0 → start_of l at ≡ start_of l len → 0 ≡ start_of l len
-unfolding start_of
-start_none l len at z q = let e : at ≡ 0 = omega arith in ap (start_of l) (sym e) ∙ q
+  pub start_told : (r : Option ℕ) {e : ℕ} → ((i : ℕ) → r ≡ Some i → (i < length l) × (get_or l i 0 % 2 ≡ 1) × ((k : ℕ) → i < k → k < length l → get_or l k 0 % 2 ≢ 1))
+      → (r ≡ None → (k : ℕ) → k < length l → get_or l k 0 % 2 ≢ 1) → e ≡ unwrap_or r 0 → e ≡ start_of l (length l)
+  start_told None some none q = q ∙ start_none (length l) (none refl)
+  start_told (Some i) some none q = let a = some i refl in q ∙ start_at (length l) i a.0 a.1 a.2

@@ -149,12 +149,7 @@ pub fn book_holds(states: &[u8], names: &[u16], len: usize, n: usize, marks: &mu
 pub fn start_of(names: &[u16]) -> usize
     ensures { result ≡ start_of names.now (length names.now) }
 {
-    for at in (0..names.len()).rev() {
-        if names[at] % 2 == 1 {
-            return at;
-        }
-    }
-    0
+    names.iter().rposition(|&name| name % 2 == 1).unwrap_or(0)
 }
 
 // The borders of these names are undecided again.
