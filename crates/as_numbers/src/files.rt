@@ -1,6 +1,5 @@
 // A case file's layout and its calls as numbers.
 ghost use Rattle.std.specs.Prelude.{◌≡◌};
-ghost use Rattle.lists.specs.Choice.{pick};
 ghost use Rattle.as_numbers.specs.Files.{parts_of, call_fields, step_fields};
 
 use answers::Refusal;
@@ -56,19 +55,12 @@ impl From<Result<Layout, Refusal>> for Parts {
     }
 }
 
-// A decide's kind by its value.
-fn kind_of(wall: bool) -> u8
-    ensures { result ≡ pick wall 2 1 }
-{
-    1 + u8::from(wall)
-}
-
 pub fn call_fields(call: Call, behind: usize) -> CallFields
     ensures { result ≡ call_fields call behind }
 {
     let (kind, border) = match call {
         Call::Undo => (0, 0),
-        Call::Decide(border, wall) => (kind_of(wall), border),
+        Call::Decide(border, wall) => (1 + u8::from(wall), border),
         Call::Ask => (3, 0),
     };
     CallFields {

@@ -8,7 +8,7 @@ use native.Mathlib.Omega.{arith}
 use borrow.Author.Tests.{ne_eqb}
 use lib.Dec.{eqb}
 use lib.ListN.{length, take}
-use lib.Seq.{sets, length-take-le}
+use lib.Seq.{length-take-le}
 use Rattle.lists.specs.Choice.{pick}
 use Rattle.lists.proofs.Cases.{eq_or_ne}
 use Rattle.borders.specs.Border.{StatesOk}
@@ -31,7 +31,7 @@ use Rattle.puzzle.specs.Puzzle.{grid_of, borders_of, given_of, clues_of, puzzle_
 use Rattle.demand_3.specs.Run.{puzzle_after, reply_to}
 use Rattle.demand_3.proofs.FaultLaws.{fault_most}
 use Rattle.puzzle.proofs.Ready.{ready, Ready}
-use Rattle.case_run.specs.CaseRun.{blank, check_line, ask_line, line_by, Counts, Turned}
+use Rattle.case_run.specs.CaseRun.{blank, as_call, check_line, ask_line, line_by}
 use Rattle.case_run.proofs.LineLaws.{blank_length}
 
 -- an answer that is a fault
@@ -98,7 +98,6 @@ module _ (p : Puzzle) (a : Answer) (buf' : List ℕ) (q : a ≡ (ask_of p blank)
   refused_line n e = by_refused n e ∙ line_is
 
 -- AN ASK, as the call that it is: it leaves the puzzle
-pub asked_turn : (p : Puzzle) (c : Call) (buf : List ℕ) {r : ℕ} {buf' : List ℕ} → c ≡ Ask → Counts r (line_by p Ask) × (buf' ≡ sets buf 0 (line_by p Ask))
-    → Turned r p p c × (buf' ≡ sets buf 0 (line_by p c))
+pub told_ask : (p : Puzzle) (c : Call) → c ≡ Ask → (p ≡ puzzle_after p (as_call c)) × (line_by p Ask ≡ line_by p c)
 unfolding puzzle_after
-asked_turn p c buf z e = rw z (record { turned = refl; count = e.0.count; fits = e.0.fits }, e.1)
+told_ask p c e = rw e (refl, refl)

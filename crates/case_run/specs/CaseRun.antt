@@ -113,12 +113,12 @@ printed_by p cs = lines_of cs (replies p (map as_call cs))
 abbrev pub line_by : Puzzle → Call → List ℕ
 line_by p c = reply_line (well_line c) (reply_to p (as_call c))
 
--- what the functions that write one line answer: how many bytes it has, and that they are no more than that
-pub record Counts (r : ℕ) (l : List ℕ) : Type 0 where
-  pub count : r ≡ length l
-  pub fits : r ≤ longest_line
+-- what an ask's line is told by: the line, and how many entries at the list's front it has
+pub record Tells (line : Line) (n : ℕ) (list l : List ℕ) : Type 0 where
+  pub few : n ≤ length list
+  pub bytes : line_of line (take n list) ≡ l
 
--- the same of a call: what it leaves of the puzzle p, and its line
+-- what is answered of a call: what it leaves of the puzzle p, how many bytes its line has, and that they are no more than that
 pub record Turned (r : ℕ) (after p : Puzzle) (c : Call) : Type 0 where
   pub turned : after ≡ puzzle_after p (as_call c)
   pub count : r ≡ length (line_by p c)

@@ -3,13 +3,12 @@
 
 ghost use Rattle.std.specs.Prelude.{◌≡◌, [], ◌≤◌, length, drop};
 ghost use Rattle.std.proofs.lemmas.List.Edits.{sets};
-ghost use Rattle.limits.specs.Limits.{most_entries, longest_line};
-ghost use Rattle.hand_over.specs.Sorted.{sorted_once};
+ghost use Rattle.limits.specs.Limits.{longest_line};
 ghost use Rattle.case_file.specs.Sound.{decode_of};
 ghost use Rattle.case_file.specs.declared.Call.TheVariants.{Ask};
 ghost use Rattle.answers.specs.Refusals.{code_of};
 ghost use Rattle.lines.specs.Line.{line_of};
-ghost use Rattle.case_run.specs.CaseRun.{opened_of, opened_in, ran_in, length_in, check_line, code_line, line_by, printed_by, code_in, done_in, ran_of, Counts, Turned};
+ghost use Rattle.case_run.specs.CaseRun.{opened_of, opened_in, ran_in, length_in, check_line, code_line, line_by, printed_by, code_in, done_in, ran_of, blank, Tells, Turned};
 
 use answers::Refusal;
 use case_file::Call;
@@ -122,24 +121,13 @@ pub fn open(file: &[u8]) -> Result<Remaining, Refusal>
     })
 }
 
-// A line without entries.
-fn bare_line(line: Line, out: &mut [u8]) -> usize
-    requires { longest_line ≤ length out.old }
-    ensures counts { Counts result (line_of line []) }
-    ensures out_after { out.new ≡ sets out.old 0 (line_of line []) }
-{
-    lines::put_line(line, &[], out)
-}
-
-// The line of a decide or an undo, or of why it is refused.
-fn done_line(well: Line, done: Result<(), Refusal>, out: &mut [u8]) -> usize
-    requires { longest_line ≤ length out.old }
-    ensures counts { Counts result (code_line well (code_of done)) }
-    ensures out_after { out.new ≡ sets out.old 0 (code_line well (code_of done)) }
+// The line of a decide or an undo, or of why it is refused: it has no entries.
+fn done_line(well: Line, done: Result<(), Refusal>) -> Line
+    ensures { line_of result [] ≡ code_line well (code_of done) }
 {
     match done {
-        Ok(()) => bare_line(well, out),
-        Err(refusal) => bare_line(Line::Refused(u8::from(refusal)), out),
+        Ok(()) => well,
+        Err(refusal) => Line::Refused(u8::from(refusal)),
     }
 }
 
@@ -153,33 +141,20 @@ fn check_line(check: Check) -> Line
     }
 }
 
-// The line of a fault, its entries handed over.
-fn fault_line(check: Check, list: &[u16], out: &mut [u8]) -> usize
-    requires { (length list.now ≤ most_entries) × (longest_line ≤ length out.old) }
-    ensures counts { Counts result (line_of (check_line check) (sorted_once list.now)) }
-    ensures out_after { out.new ≡ sets out.old 0 (line_of (check_line check) (sorted_once list.now)) }
+// The line of an ask, and how many entries it has, which are handed over to the list's front.
+fn ask_line(puzzle: &Puzzle, list: &mut [u16; limits::ENTRIES]) -> (Line, usize)
+    requires { list.old ≡ blank }
+    ensures { Tells result.0 result.1 list.new (line_by puzzle.now Ask) }
 {
-    let mut entries = [0; limits::ENTRIES];
-    let Ok(n) = hand_over::hand_over(list, &mut entries) else {
-        return 0;
-    };
-    let line = check_line(check);
-    lines::put_line(line, &entries[..n], out)
-}
-
-// The line of an ask.
-fn ask_line(puzzle: &Puzzle, out: &mut [u8]) -> usize
-    requires { longest_line ≤ length out.old }
-    ensures counts { Counts result (line_by puzzle.now Ask) }
-    ensures out_after { out.new ≡ sets out.old 0 (line_by puzzle.now Ask) }
-{
-    let mut list = [0; limits::ENTRIES];
-    let line = match puzzle.ask(&mut list) {
-        Ok(Some(Fault { check, len })) => return fault_line(check, &list[..len], out),
-        Ok(None) => Line::Clear,
-        Err(refusal) => Line::Refused(u8::from(refusal)),
-    };
-    bare_line(line, out)
+    match puzzle.ask(list) {
+        Ok(Some(Fault { check, len })) => {
+            let found = *list;
+            let n = hand_over::hand_over(&found[..len], list).unwrap_or(0);
+            (check_line(check), n)
+        }
+        Ok(None) => (Line::Clear, 0),
+        Err(refusal) => (Line::Refused(u8::from(refusal)), 0),
+    }
 }
 
 // One call on a puzzle, and its line: it answers how many bytes this has.
@@ -188,11 +163,16 @@ fn do_call(puzzle: &mut Puzzle, call: Call, out: &mut [u8]) -> usize
     ensures turned { Turned result puzzle.new puzzle.old call }
     ensures out_after { out.new ≡ sets out.old 0 (line_by puzzle.old call) }
 {
-    match call {
-        Call::Undo => done_line(Line::Undone, puzzle.undo(), out),
-        Call::Decide(border, wall) => done_line(Line::Decided, puzzle.decide(border, wall), out),
-        Call::Ask => ask_line(puzzle, out),
-    }
+    let line = match call {
+        Call::Undo => done_line(Line::Undone, puzzle.undo()),
+        Call::Decide(border, wall) => done_line(Line::Decided, puzzle.decide(border, wall)),
+        Call::Ask => {
+            let mut list = [0; limits::ENTRIES];
+            let (line, n) = ask_line(puzzle, &mut list);
+            return lines::put_line(line, &list[..n], out);
+        }
+    };
+    lines::put_line(line, &[], out)
 }
 
 // Runs so many calls of the file, from a byte on, and writes their lines to the buffer's front. It ends early at a call that is

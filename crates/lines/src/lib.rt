@@ -28,6 +28,7 @@ pub fn put_line(line: Line, list: &[u16], buffer: &mut [u8]) -> usize
     requires { needed list.now ≤ length buffer.old }
     ensures value { result ≡ length (line_of line list.now) }
     ensures buffer_after { buffer.new ≡ sets buffer.old 0 (line_of line list.now) }
+    ensures fits { result ≤ needed list.now }
 {
     let mut pen = Pen { buffer, len: 0 };
     pen.line(line, list);

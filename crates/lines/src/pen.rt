@@ -84,7 +84,8 @@ impl Pen<'_> {
 
     pub fn line(&mut self, line: Line, list: &[u16])
         requires { self.old.len + needed list.now ≤ length self.old.buffer.now }
-        ensures { Writes (line_of line list.now) self.old self.new }
+        ensures value { Writes (line_of line list.now) self.old self.new }
+        ensures room_left { self.new.len ≤ self.old.len + needed list.now }
     {
         self.words(line, list);
         self.put(b"\n");

@@ -1,46 +1,42 @@
--- `case_run::ask_line` meets its contract: a line for each answer. Assumes nothing.
-use Rattle.std.proofs.Common.{refl}
+-- `case_run::ask_line` meets its contract: a line for each answer, and a fault's list has the room that hand-over asks. Assumes nothing.
+use Rattle.std.proofs.Common.{refl, ap, ◌∙◌, length, arith}
 use Rattle.answers.specs.Refusals.{number_of}
 use Rattle.puzzle.specs.Answer.{Clear, Fault, Refused}
-use Rattle.case_run.specs.CaseRun.{blank}
-use Rattle.case_run.proofs.LineLaws.{by_line}
+use Rattle.case_run.proofs.LineLaws.{blank_length, listed}
 use Rattle.case_run.proofs.AskLaws.{fault_part, clear_line, fault_line, refused_line}
-use Rattle.case_run.proofs.ask_line.Goals.{in-Ok-None, in-Err}
 use Rattle.case_run.proofs.ask_line.Goals as goal
 
-pub slice_bounds-list-end : goal.slice_bounds-list-end
-unfolding blank
-slice_bounds-list-end c =
+pub slice_bounds-found-end : goal.slice_bounds-found-end
+slice_bounds-found-end c =
     let f = c.in-Ok-Some.field-0-0 in
-    let q = rw c.in-Ok-Some.field-0-is at c.in-Ok-Some.ensures.value in
-    (fault_part c.args.puzzle.now f.check f.len (Fault f.check f.len) c.ask.new.buffer refl q c.ask.auto.buffer).within
+    let q = rw (c.in-Ok-Some.field-0-is, c.requires) at c.in-Ok-Some.ensures.value in
+    (fault_part c.args.puzzle.now f.check f.len (Fault f.check f.len) c.ask.new.buffer refl q (c.ask.auto.buffer ∙ ap length c.requires)).within
 
-pub slice_bounds-fault_line-end : goal.slice_bounds-fault_line-end
-unfolding blank
-slice_bounds-fault_line-end c =
+pub slice_bounds-hand_over-end : goal.slice_bounds-hand_over-end
+slice_bounds-hand_over-end c =
     let f = c.in-Ok-Some.field-0-0 in
-    let q = rw c.in-Ok-Some.field-0-is at c.in-Ok-Some.ensures.value in
-    (fault_part c.args.puzzle.now f.check f.len (Fault f.check f.len) c.ask.new.buffer refl q c.ask.auto.buffer).long
+    let q = rw (c.in-Ok-Some.field-0-is, c.requires) at c.in-Ok-Some.ensures.value in
+    (fault_part c.args.puzzle.now f.check f.len (Fault f.check f.len) c.ask.new.buffer refl q (c.ask.auto.buffer ∙ ap length c.requires)).long
 
 pub returns-in-Ok-Some : goal.returns-in-Ok-Some
-unfolding blank
 returns-in-Ok-Some c =
     let f = c.in-Ok-Some.field-0-0 in
-    let q = rw c.in-Ok-Some.field-0-is at c.in-Ok-Some.ensures.value in
-    let e = fault_line c.args.puzzle.now (Fault f.check f.len) c.ask.new.buffer q c.ask.ensures.buffer_after f.check f.len refl in
-    let w = by_line _ _ c.args.out.now e (c.fault_line.ensures.counts, c.fault_line.ensures.out_after) in
-    record { counts = w.0; out_after = w.1 }
+    let p = c.args.puzzle.now in
+    let q = rw (c.in-Ok-Some.field-0-is, c.requires) at c.in-Ok-Some.ensures.value in
+    let l = c.ask.auto.buffer ∙ ap length c.requires in
+    let part = fault_part p f.check f.len (Fault f.check f.len) c.ask.new.buffer refl q l in
+    let handed = listed _ _ part.few (l ∙ blank_length) c.hand_over.result _ c.hand_over.ensures.value c.hand_over.ensures.buffer_after in
+    let e = fault_line p (Fault f.check f.len) c.ask.new.buffer q (rw c.requires at c.ask.ensures.buffer_after) f.check f.len refl in
+    record { few = rw c.unwrap_or-n.ensures handed.few; bytes = rw (c.unwrap_or-n.ensures, c.check_line.ensures, handed.is) e }
 
-pub returns : goal.returns
-unfolding blank
-returns c =
-    elim c.match-ask.branch [
-      | in-Ok-None w ↦ (let q = rw w.in-Ok-None.field-0-is at w.in-Ok-None.ensures.value in
-          let e = clear_line c.args.puzzle.now Clear c.ask.new.buffer q c.ask.ensures.buffer_after refl in
-          let x = by_line _ _ c.args.out.now e (rw w.line-is at c.bare_line.ensures.counts, rw w.line-is at c.bare_line.ensures.out_after) in
-          record { counts = x.0; out_after = x.1 })
-      | in-Err w ↦ (let k = number_of w.in-Err.refusal in
-          let e = refused_line c.args.puzzle.now (Refused k) c.ask.new.buffer w.in-Err.ensures.value c.ask.ensures.buffer_after k refl in
-          let x = by_line _ _ c.args.out.now e (rw (w.line-is, w.from.ensures) at c.bare_line.ensures.counts, rw (w.line-is, w.from.ensures) at c.bare_line.ensures.out_after) in
-          record { counts = x.0; out_after = x.1 })
-    ]
+pub returns-in-Ok-None : goal.returns-in-Ok-None
+returns-in-Ok-None c =
+    let q = rw (c.in-Ok-None.field-0-is, c.requires) at c.in-Ok-None.ensures.value in
+    record { few = omega arith; bytes = clear_line c.args.puzzle.now Clear c.ask.new.buffer q (rw c.requires at c.ask.ensures.buffer_after) refl }
+
+pub returns-in-Err : goal.returns-in-Err
+returns-in-Err c =
+    let k = number_of c.in-Err.refusal in
+    let q = rw c.requires at c.in-Err.ensures.value in
+    let e = refused_line c.args.puzzle.now (Refused k) c.ask.new.buffer q (rw c.requires at c.ask.ensures.buffer_after) k refl in
+    record { few = omega arith; bytes = rw c.from.ensures e }
