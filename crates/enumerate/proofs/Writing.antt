@@ -1,6 +1,6 @@
 -- Boards written one by one: two lists in turn are one list, places are enough for all, and in the end the first boards stand one behind the
 -- other. Assumes nothing.
-use Prim.Native.Nat.{◌-◌, ℕ, zero, suc, ◌+◌, ◌*◌, ◌≤◌, ◌<◌}
+use Prim.Native.Nat.{ℕ, zero, suc, ◌+◌, ◌*◌, ◌≤◌, ◌<◌}
 use mathlib.Core.Path.{◌≡◌, refl, ap, sym, ◌∙◌}
 use mathlib.Core.Logic.{inl, inr, ⊎_elim}
 use mathlib.Core.Bool.{Bool, true, false}
@@ -15,8 +15,6 @@ use lib.Seq.{sets, length-sets}
 use Rattle.lists.specs.Lists.{In, gather}
 use Rattle.lists.proofs.Cases.{le_or_lt}
 use Rattle.lists.proofs.SetsLaws.{sets_append}
-use borrow.Rule.Slice.PartMut.{put_mid}
-use Rattle.lists.proofs.SetsLaws.{part_written}
 use Rattle.enumerate.specs.Search.{Written, written, add, add_all, Fits}
 
 pub all_append : (w : Written) (a b : List (List ℕ)) → add_all w (a ++ b) ≡ add_all (add_all w a) b
@@ -40,12 +38,6 @@ place n w f h = go w.listing.count w.cap (length w.boards) h f.long
   where
     go : (k cap l : ℕ) → k < cap → cap * n ≤ l → k * n + n ≤ l
     go k cap l h f = omega (arith, suc-mul k n, mul-le-mul_right {m = suc k} {n = cap} n (omega arith))
-
--- a board that is copied there
-pub placed : (w : Written) (b : List ℕ) → Fits (length b) w → w.listing.count < w.cap → (ys : List ℕ) → ys ≡ b
-    → put_mid (w.listing.count * length b) (w.listing.count * length b + length b - w.listing.count * length b) w.boards ys ≡ sets w.boards (w.listing.count * length b) b
-placed w b f h ys q =
-    rw q (part_written w.boards b (w.listing.count * length b) _ (omega arith) (place (length b) w f h))
 
 fits_add : (n : ℕ) (w : Written) (b : List ℕ) → Fits n w → Fits n (add w b)
 fits_add n w b f =

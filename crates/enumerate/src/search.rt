@@ -39,8 +39,7 @@ impl Search<'_, '_> {
         ensures boards_after { written_in self.new ≡ add (written_in self.old) board.now }
     {
         if self.listing.count < self.cap {
-            let start = self.listing.count * board.len();
-            self.boards[start..start + board.len()].copy_from_slice(board);
+            lists::put(board, self.boards, self.listing.count * board.len());
             self.listing.count += 1;
             return;
         }
