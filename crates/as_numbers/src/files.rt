@@ -1,6 +1,6 @@
 // A case file's layout and its calls as numbers.
 ghost use Rattle.std.specs.Prelude.{◌≡◌};
-ghost use Rattle.as_numbers.specs.Files.{parts_of, call_fields, step_fields};
+ghost use Rattle.as_numbers.specs.Files.{parts_of, step_fields};
 
 use answers::Refusal;
 use case_file::{Call, Layout};
@@ -55,32 +55,26 @@ impl From<Result<Layout, Refusal>> for Parts {
     }
 }
 
-pub fn call_fields(call: Call, behind: usize) -> CallFields
-    ensures { result ≡ call_fields call behind }
-{
-    let (kind, border) = match call {
-        Call::Undo => (0, 0),
-        Call::Decide(border, wall) => (1 + u8::from(wall), border),
-        Call::Ask => (3, 0),
-    };
-    CallFields {
-        code: 0,
-        kind,
-        border,
-        behind,
-    }
-}
-
 impl From<Option<(Call, usize)>> for CallFields {
     ghost from_gives = { λ step fields. fields ≡ step_fields step };
 
     fn from(step: Option<(Call, usize)>) -> CallFields {
-        match step {
-            Some((call, behind)) => call_fields(call, behind),
-            None => CallFields {
+        let Some((call, behind)) = step else {
+            return CallFields {
                 code: u8::from(Refusal::UnsoundFile),
                 ..CallFields::default()
-            },
+            };
+        };
+        let (kind, border) = match call {
+            Call::Undo => (0, 0),
+            Call::Decide(border, wall) => (1 + u8::from(wall), border),
+            Call::Ask => (3, 0),
+        };
+        CallFields {
+            code: 0,
+            kind,
+            border,
+            behind,
         }
     }
 }
