@@ -44,12 +44,7 @@ fn side_at(kind: Kind, direction: Direction) -> u16
 fn back_of(direction: Direction) -> u16
     ensures { result ≡ back_of direction }
 {
-    match direction {
-        Direction::Up => 0,
-        Direction::Down => 0,
-        Direction::Left => 1,
-        Direction::Right => 0,
-    }
+    u16::from(direction == Direction::Left)
 }
 
 // The code of a cell: it reads so many rows further on as the cell is behind the unit's first cell, moved by its columns and 32 more.
