@@ -81,6 +81,7 @@ pub fn write_cells(_grid: Grid, table: &[CellInfo], cells: &[u16], codes: &mut [
 
 impl Member<'_> {
     // Writes the code of the cell's border in a direction, if it must land well.
+    #[inline(always)]
     fn note(self, direction: Direction, list: &mut Entries<'_>)
         requires { list.old.len + length (code_at self.chart.borders.grid self.chart.borders.states.now self.chart.table.now self.first (is_inner self.kind) self.cell direction) ≤ length list.old.buffer.now }
         ensures { Writes (code_at self.entry.chart.borders.grid self.entry.chart.borders.states.now self.entry.chart.table.now self.entry.first (is_inner self.entry.kind) self.entry.cell direction) list.old list.new }
@@ -95,6 +96,7 @@ impl Member<'_> {
     }
 
     // Writes the codes of all its borders that must land well.
+    #[inline(always)]
     fn note_all(self, list: &mut Entries<'_>)
         requires { list.old.len + length (codes_of self.chart.borders.grid self.chart.borders.states.now self.chart.table.now self.first (is_inner self.kind) self.cell) ≤ length list.old.buffer.now }
         ensures { Writes (codes_of self.entry.chart.borders.grid self.entry.chart.borders.states.now self.entry.chart.table.now self.entry.first (is_inner self.entry.kind) self.entry.cell) list.old list.new }
@@ -105,7 +107,8 @@ impl Member<'_> {
     }
 }
 
-// The same for all cells of the unit.
+// The same for all cells of the unit. Inlined down to the entry, the list is a local one, whose length stays in a register.
+#[inline(always)]
 fn note_cells(unit: UnitCells<'_>, kind: Kind, list: &mut Entries<'_>)
     requires { list.old.len + length (part_codes unit.chart.borders.grid unit.chart.borders.states.now unit.chart.table.now unit.cells.now (is_inner kind)) ≤ length list.old.buffer.now }
     ensures { Writes (part_codes unit.entry.chart.borders.grid unit.entry.chart.borders.states.now unit.entry.chart.table.now unit.entry.cells.now (is_inner kind)) list.old list.new }
