@@ -4,7 +4,6 @@ use mathlib.Core.Path.{◌≡◌, refl, ap, sym, ◌∙◌}
 use mathlib.Core.Bool.{Bool, true, false}
 use mathlib.Core.List.{List, [], ◌∷◌}
 use native.Mathlib.Omega.{arith}
-use native.Mathlib.Nat.{add-zero}
 use lib.ListN.{get_or, length, set, length-append}
 use Rattle.lists.specs.Choice.{pick, when}
 use Rattle.lists.specs.Lists.{gather}
@@ -13,7 +12,9 @@ use Rattle.grid.specs.declared.Direction.{Direction}
 use Rattle.grid.specs.Orders.{around, forward}
 use Rattle.grid.specs.declared.Grid.{Grid}
 use Rattle.boundary.specs.Appended.{Appended}
-use Rattle.boundary.proofs.AppendLaws.{appended_long, appended_then}
+use Rattle.boundary.specs.declared.Entries.{Entries}
+use Rattle.boundary.specs.Writes.{Writes}
+use Rattle.boundary.proofs.AppendLaws.{writes_none, writes_then, writes_long}
 use Rattle.boundary.proofs.Lengths.{when_most, gather_most}
 use Rattle.shape.specs.Shape.{head_or0}
 use Rattle.offsets.specs.declared.table.CellInfo.{CellInfo}
@@ -48,9 +49,9 @@ told_all {g} {table} {cs} u {f} f-is =
 -- A BORDER: k says whether it must land well
 module _ (g : Grid) (states : List ℕ) (table : List CellInfo) (f : ℕ) (inner : Bool) (c : ℕ) (d : Direction) {k : Bool}
     (k-is : k ≡ kept_of g states (units_in g table) inner (unit_in table f) c d) where
-  pub not_noted : k ≡ false → {b : List ℕ} {at : ℕ} → Appended b at (code_at g states table f inner c d) b at
+  pub not_noted : k ≡ false → {p : Entries} → Writes (code_at g states table f inner c d) p p
   unfolding when
-  not_noted e {at = at} = rw (sym k-is ∙ e) record { place = sym (add-zero at); stored = refl }
+  not_noted e = writes_none (rw (sym k-is ∙ e))
 
   module _ (e : k ≡ true) where
     code_is : code_at g states table f inner c d ≡ border_code g f inner c d ∷ []
@@ -60,8 +61,8 @@ module _ (g : Grid) (states : List ℕ) (table : List CellInfo) (f : ℕ) (inner
     pub note_room : {at n : ℕ} → at + length (code_at g states table f inner c d) ≤ n → at < n
     note_room p = omega (arith, p, ap length code_is)
 
-    pub noted : {v : ℕ} → v ≡ border_code g f inner c d → {b : List ℕ} {at : ℕ} → Appended b at (code_at g states table f inner c d) (set b at v) (at + 1)
-    noted q = rw code_is (put q)
+    pub noted : {v : ℕ} → v ≡ border_code g f inner c d → {p q : Entries} → Writes (v ∷ []) p q → Writes (code_at g states table f inner c d) p q
+    noted e w = rw (code_is, ← e) w
 
 -- all of a cell's borders, in turn
 pub codes_in_turn : (g : Grid) (states : List ℕ) (table : List CellInfo) (f : ℕ) (inner : Bool) (c : ℕ) → gather (code_at g states table f inner c) (directions_of inner) ≡ codes_of g states table f inner c
@@ -94,10 +95,10 @@ module _ (g : Grid) (states : List ℕ) (table : List CellInfo) (cs : List ℕ) 
   pub inner_asks : 0 + length (part_codes g states table cs true) ≤ length b
   inner_asks = omega (arith, part_most g states table cs true)
 
-  module _ {b₁ : List ℕ} {n : ℕ} (a : Appended b 0 (part_codes g states table cs true) b₁ n) where
-    pub outer_asks : n + length (part_codes g states table cs false) ≤ length b₁
-    outer_asks = omega (arith, part_most g states table cs true, part_most g states table cs false, a.place, appended_long a)
+  module _ {p q : Entries} (w : Writes (part_codes g states table cs true) p q) where
+    pub outer_asks : p.buffer.now ≡ b → p.len ≡ 0 → q.len + length (part_codes g states table cs false) ≤ length q.buffer.now
+    outer_asks same start = omega (arith, part_most g states table cs true, part_most g states table cs false, w.appended.place, writes_long w, ap length same)
 
-    pub both_noted : {b₂ : List ℕ} {r : ℕ} → Appended b₁ n (part_codes g states table cs false) b₂ r → Appended b 0 (border_codes g states table cs) b₂ r
+    pub both_noted : {r : Entries} → Writes (part_codes g states table cs false) q r → Appended p.buffer.now p.len (border_codes g states table cs) r.buffer.now r.len
     unfolding border_codes
-    both_noted o = appended_then a o
+    both_noted v = (writes_then w v).appended

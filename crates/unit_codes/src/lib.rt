@@ -5,11 +5,13 @@
 ghost use Rattle.std.specs.Prelude.{◌≡◌, ◌+◌, ◌-◌, ◌*◌, ◌≤◌, length};
 ghost use Rattle.shape.specs.Shape.{head_or0};
 ghost use Rattle.boundary.specs.Appended.{Appended};
+ghost use Rattle.boundary.specs.Writes.{Writes};
 ghost use Rattle.words.specs.Layout.{base_of, side_at, back_of};
 ghost use Rattle.offsets.specs.Landings.{is_inner};
 ghost use Rattle.offsets.specs.Trial.{Unit};
 ghost use Rattle.unit_codes.specs.Codes.{code_at, codes_of, part_codes, cell_codes, border_codes, Spaced};
 
+use boundary::Entries;
 use grid::{Direction, Grid};
 use member::Member;
 use offsets::landings::Kind;
@@ -79,41 +81,39 @@ pub fn write_cells(_grid: Grid, table: &[CellInfo], cells: &[u16], codes: &mut [
 
 impl Member<'_> {
     // Writes the code of the cell's border in a direction, if it must land well.
-    fn note(self, direction: Direction, codes: &mut [u16], at: usize) -> usize
-        requires { at + length (code_at self.chart.borders.grid self.chart.borders.states.now self.chart.table.now self.first (is_inner self.kind) self.cell direction) ≤ length codes.old }
-        ensures { Appended codes.old at (code_at self.entry.chart.borders.grid self.entry.chart.borders.states.now self.entry.chart.table.now self.entry.first (is_inner self.entry.kind) self.entry.cell direction) codes.new result }
+    #[inline(always)]
+    fn note(self, direction: Direction, list: &mut Entries<'_>)
+        requires { list.old.len + length (code_at self.chart.borders.grid self.chart.borders.states.now self.chart.table.now self.first (is_inner self.kind) self.cell direction) ≤ length list.old.buffer.now }
+        ensures { Writes (code_at self.entry.chart.borders.grid self.entry.chart.borders.states.now self.entry.chart.table.now self.entry.first (is_inner self.entry.kind) self.entry.cell direction) list.old list.new }
     {
         let first = self.chart.table[self.first];
-        if !self
+        if self
             .chart
             .keeps(first.unit, self.kind, self.cell, direction)
         {
-            return at;
+            list.push(border_code(self.kind, direction, self.chart.table[self.cell], first));
         }
-        codes[at] = border_code(self.kind, direction, self.chart.table[self.cell], first);
-        at + 1
     }
 
     // Writes the codes of all its borders that must land well.
-    fn note_all(self, codes: &mut [u16], at: usize) -> usize
-        requires { at + length (codes_of self.chart.borders.grid self.chart.borders.states.now self.chart.table.now self.first (is_inner self.kind) self.cell) ≤ length codes.old }
-        ensures { Appended codes.old at (codes_of self.entry.chart.borders.grid self.entry.chart.borders.states.now self.entry.chart.table.now self.entry.first (is_inner self.entry.kind) self.entry.cell) codes.new result }
+    #[inline(always)]
+    fn note_all(self, list: &mut Entries<'_>)
+        requires { list.old.len + length (codes_of self.chart.borders.grid self.chart.borders.states.now self.chart.table.now self.first (is_inner self.kind) self.cell) ≤ length list.old.buffer.now }
+        ensures { Writes (codes_of self.entry.chart.borders.grid self.entry.chart.borders.states.now self.entry.chart.table.now self.entry.first (is_inner self.entry.kind) self.entry.cell) list.old list.new }
     {
-        let mut n = at;
         for &direction in self.kind.directions() {
-            n = self.note(direction, codes, n);
+            self.note(direction, list);
         }
-        n
     }
 }
 
-// The same for all cells of the unit.
-fn note_cells(unit: UnitCells<'_>, kind: Kind, codes: &mut [u16], at: usize) -> usize
-    requires { at + length (part_codes unit.chart.borders.grid unit.chart.borders.states.now unit.chart.table.now unit.cells.now (is_inner kind)) ≤ length codes.old }
-    ensures { Appended codes.old at (part_codes unit.entry.chart.borders.grid unit.entry.chart.borders.states.now unit.entry.chart.table.now unit.entry.cells.now (is_inner kind)) codes.new result }
+// The same for all cells of the unit. Inlined down to the entry, the list is a local one, whose length stays in a register.
+#[inline(always)]
+fn note_cells(unit: UnitCells<'_>, kind: Kind, list: &mut Entries<'_>)
+    requires { list.old.len + length (part_codes unit.chart.borders.grid unit.chart.borders.states.now unit.chart.table.now unit.cells.now (is_inner kind)) ≤ length list.old.buffer.now }
+    ensures { Writes (part_codes unit.entry.chart.borders.grid unit.entry.chart.borders.states.now unit.entry.chart.table.now unit.entry.cells.now (is_inner kind)) list.old list.new }
 {
     let first = usize::from(unit.cells[0]);
-    let mut n = at;
     for &cell in unit.cells {
         let member = Member {
             chart: unit.chart,
@@ -121,9 +121,8 @@ fn note_cells(unit: UnitCells<'_>, kind: Kind, codes: &mut [u16], at: usize) -> 
             cell: usize::from(cell),
             kind,
         };
-        n = member.note_all(codes, n);
+        member.note_all(list);
     }
-    n
 }
 
 // Writes the codes of the unit's borders that must land well, at most six for each cell, and returns how many.
@@ -131,6 +130,11 @@ pub fn write_borders(unit: UnitCells<'_>, codes: &mut [u16]) -> usize
     requires { 6 * length unit.cells.now ≤ length codes.old }
     ensures { Appended codes.old 0 (border_codes unit.entry.chart.borders.grid unit.entry.chart.borders.states.now unit.entry.chart.table.now unit.entry.cells.now) codes.new result }
 {
-    let n = note_cells(unit, Kind::Inner, codes, 0);
-    note_cells(unit, Kind::Outer, codes, n)
+    let mut list = Entries {
+        buffer: codes,
+        len: 0,
+    };
+    note_cells(unit, Kind::Inner, &mut list);
+    note_cells(unit, Kind::Outer, &mut list);
+    list.len
 }

@@ -1,7 +1,7 @@
 -- `unit_codes::note_cells` meets its contract: at each turn the codes of the cells that are left are still to write. Assumes nothing.
 use lib.ListN.{drop}
 use Rattle.lists.specs.Lists.{gather}
-use Rattle.boundary.proofs.AppendLaws.{Rest}
+use Rattle.boundary.proofs.AppendLaws.{Leaves}
 use Rattle.shape.specs.Shape.{head_or0}
 use Rattle.offsets.specs.Landings.{is_inner}
 use Rattle.unit_codes.specs.Codes.{codes_of}
@@ -11,4 +11,4 @@ abbrev pub invariant-loop-cell : goal.invariant-loop-cell
 invariant-loop-cell l =
     let h = l.unit.chart in
     let of = codes_of h.borders.grid h.borders.states.now h.table.now (head_or0 l.cell-items) (is_inner l.kind) in
-    Rest l.initial.codes l.at (gather of l.cell-items) l.codes l.n (gather of (drop l.cell-index l.cell-items))
+    Leaves l.initial.list (gather of l.cell-items) l.list (gather of (drop l.cell-index l.cell-items))

@@ -4,17 +4,17 @@ use Rattle.unit_codes.proofs.CodeLaws.{spaced, border_coded}
 use Rattle.unit_codes.proofs.WriteLaws.{not_noted, note_room, noted}
 use Rattle.unit_codes.proofs.member.Member.note.Goals as goal
 
-pub returns-then-not-keeps : goal.returns-then-not-keeps
-returns-then-not-keeps c = not_noted _ _ _ _ _ _ _ c.keeps.ensures c.if-not-keeps.true
-
 pub border_code-requires : goal.border_code-requires
 border_code-requires c = let s = c.args.self in spaced s.chart.borders.fits.limits s.chart.table_of s.follows
 
-pub bounds-codes-at : goal.bounds-codes-at
-bounds-codes-at c = let s = c.args.self in note_room _ _ _ _ _ _ _ c.keeps.ensures c.if-not-keeps.false c.requires
+pub push-requires : goal.push-requires
+push-requires c = let s = c.args.self in note_room _ _ _ _ _ _ _ c.keeps.ensures c.if-keeps.true c.requires
 
-pub returns : goal.returns
-returns c =
+pub returns-then-keeps : goal.returns-then-keeps
+returns-then-keeps c =
     let s = c.args.self in
-    noted _ _ _ _ _ _ _ c.keeps.ensures c.if-not-keeps.false
-    (border_coded s.chart.borders.fits.limits s.chart.table_of s.follows (is_inner s.kind) c.args.direction c.border_code.ensures)
+    noted _ _ _ _ _ _ _ c.keeps.ensures c.if-keeps.true
+    (border_coded s.chart.borders.fits.limits s.chart.table_of s.follows (is_inner s.kind) c.args.direction c.border_code.ensures) c.push.ensures
+
+pub returns-else-keeps : goal.returns-else-keeps
+returns-else-keeps c = not_noted _ _ _ _ _ _ _ c.keeps.ensures c.if-keeps.false

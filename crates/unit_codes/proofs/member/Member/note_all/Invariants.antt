@@ -1,7 +1,7 @@
 -- `unit_codes::member::Member::note_all` meets its contract: the directions that are left are still to write. Assumes nothing.
 use lib.ListN.{drop}
 use Rattle.lists.specs.Lists.{gather}
-use Rattle.boundary.proofs.AppendLaws.{Rest}
+use Rattle.boundary.proofs.AppendLaws.{Leaves}
 use Rattle.offsets.specs.Landings.{is_inner}
 use Rattle.unit_codes.specs.Codes.{code_at}
 use Rattle.unit_codes.proofs.member.Member.note_all.Given as goal
@@ -10,4 +10,4 @@ abbrev pub invariant-loop-direction : goal.invariant-loop-direction
 invariant-loop-direction l =
     let s = l.self in
     let of = code_at s.chart.borders.grid s.chart.borders.states.now s.chart.table.now s.first (is_inner s.kind) s.cell in
-    Rest l.initial.codes l.at (gather of l.direction-items) l.codes l.n (gather of (drop l.direction-index l.direction-items))
+    Leaves l.initial.list (gather of l.direction-items) l.list (gather of (drop l.direction-index l.direction-items))
