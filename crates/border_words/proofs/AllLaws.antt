@@ -4,9 +4,10 @@ use mathlib.Core.Path.{◌≡◌, refl, ◌∙◌}
 use mathlib.Core.Logic.{⊎_elim}
 use mathlib.Core.Bool.{Bool, true, false}
 use mathlib.Core.List.{List}
-use native.Mathlib.Nat.{sub-zero}
+use native.Mathlib.Nat.{sub-zero, mul-le-mul, suc-mul, le_refl}
 use native.Mathlib.Omega.{arith}
-use lib.ListN.{get_or, length}
+use borrow.Rule.Slice.PartMut.{put_mid, mid_of}
+use lib.ListN.{get_or, length, take, drop}
 use Rattle.lists.specs.Choice.{pick}
 use Rattle.lists.proofs.Cases.{le_or_lt}
 use Rattle.grid.specs.declared.Direction.{Direction}
@@ -19,14 +20,31 @@ use Rattle.words.specs.Words.{bit}
 use Rattle.words.specs.Layout.{base_of, back_of, side_at}
 use Rattle.border_words.specs.Sides.{BorderWords}
 use Rattle.border_words.specs.Filled.{SideWord, Filled, Unfilled}
+use Rattle.border_words.proofs.FillLaws.{part_filled, behind_word, front_word}
 use Rattle.border_words.proofs.SideLaws.{right_says, left_says, down_says, up_says, down_none, up_none}
 
 -- the words of the borders under the cells, and of those right of them, for borders in state k
-abbrev Under : Grid → List ℕ → ℕ → ℕ → List ℕ → List ℕ → Type 0
+abbrev pub Under : Grid → List ℕ → ℕ → ℕ → List ℕ → List ℕ → Type 0
 Under g states k at words words' = Filled (λ y. SideWord (g.height * (g.width - 1) + y * g.width) g.width states k) (g.height - 1) at words words'
 
-abbrev Right-of : Grid → List ℕ → ℕ → ℕ → List ℕ → List ℕ → Type 0
+abbrev pub Right-of : Grid → List ℕ → ℕ → ℕ → List ℕ → List ℕ → Type 0
 Right-of g states k at words words' = Filled (λ y. SideWord (y * (g.width - 1)) (g.width - 1) states k) g.height at words words'
+
+-- parts of the table that were filled with rows of the states behind the borders right of cells, or of those borders
+module _ {g : Grid} {states : List ℕ} (f : Fits g states) (k at n : ℕ) (words vs : List ℕ) (part : List ℕ) (long : length vs ≡ length (mid_of at n words)) where
+  pub under_filled : n ≡ g.height - 1 → at + (g.height - 1) ≤ length words → part ≡ drop (g.height * (g.width - 1)) states
+      → ((y : ℕ) → y < length (mid_of at n words) → SideWord (y * g.width) g.width part k (get_or vs y 0)) → Under g states k at words (put_mid at n words vs)
+  under_filled e room p w =
+      part_filled (λ y. SideWord (g.height * (g.width - 1) + y * g.width) g.width states k) (g.height - 1) at n words vs e room long
+      (λ y h q. behind_word (g.height * (g.width - 1)) (y * g.width) g.width states k (get_or vs y 0) (rw p at (w y q)))
+
+  pub right_filled : n ≡ g.height → at + g.height ≤ length words → part ≡ take (g.height * (g.width - 1)) states
+      → ((y : ℕ) → y < length (mid_of at n words) → SideWord (y * (g.width - 1)) (g.width - 1) part k (get_or vs y 0)) → Right-of g states k at words (put_mid at n words vs)
+  right_filled e room p w =
+      part_filled (λ y. SideWord (y * (g.width - 1)) (g.width - 1) states k) g.height at n words vs e room long
+      (λ y h q.
+      front_word (g.height * (g.width - 1)) (y * (g.width - 1)) (g.width - 1) states k (get_or vs y 0)
+      (omega (arith, (let b : (y + 1) * (g.width - 1) ≤ g.height * (g.width - 1) = mul-le-mul (omega arith) (le_refl (g.width - 1)) in b), suc-mul y (g.width - 1))) (rw p at (w y q)))
 
 -- both, where the table was blank from place `at` on; nothing has changed there since
 module _ (g : Grid) (limits : Limits g) (states : List ℕ) (k at : ℕ) (words₀ words₁ words₂ words : List ℕ) (clear : (z : ℕ) → at ≤ z → ◌≡◌ {A = ℕ} (get_or words₀ z 0) 0)

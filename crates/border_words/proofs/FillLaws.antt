@@ -1,51 +1,65 @@
--- Row words of borders, as they are made one after the other: how it starts, one turn, and how it ends. Assumes nothing.
-use Prim.Native.Nat.{ℕ, ◌+◌, ◌-◌, ◌*◌, ◌≤◌, ◌<◌}
-use mathlib.Core.Path.{◌≡◌, refl, ◌∙◌}
-use mathlib.Core.Logic.{⊎_elim}
+-- Row words of borders, as they are made one after the other: one turn, and the part of the table where it ends. Assumes nothing.
+use Prim.Native.Nat.{ℕ, ◌+◌, ◌-◌, ◌≤◌, ◌<◌}
+use mathlib.Core.Path.{◌≡◌, ap, sym, ◌∙◌}
+use mathlib.Core.Logic.{inl, inr, ⊎_elim}
 use mathlib.Core.List.{List}
 use native.Mathlib.Omega.{arith}
-use native.Mathlib.Nat.{mul-le-mul, suc-mul, le_refl}
 use borrow.Author.Tests.{le-ltb, lt-leb}
-use lib.Dec.{eqb}
-use lib.ListN.{get_or, length, set, length-set, take, drop}
-use lib.Seq.{get_or-set_same, get_or-set_other}
+use borrow.Rule.Slice.PartMut.{put_mid, mid_of}
+use lib.Dec.{eqb, leb, ltb}
+use lib.ListN.{get_or, length, set, take, drop}
+use lib.Seq.{length-sets, get_or-set_same, get_or-set_other}
 use Rattle.std.proofs.lemmas.List.{length-take-le, length-drop, get_or-take, get_or-drop}
+use Rattle.lists.specs.Choice.{both}
 use Rattle.lists.proofs.Cases.{le_or_lt}
-use Rattle.grid.specs.declared.Grid.{Grid}
-use Rattle.grid.proofs.Geometry.{border_count_le}
-use Rattle.borders.specs.Fits.{Fits}
+use Rattle.lists.proofs.SetsLaws.{sets_in, sets_out, part_written}
 use Rattle.words.specs.Words.{Only}
 use Rattle.border_words.specs.Filled.{SideWord, Run, Filled}
 
-module _ (word : ℕ → ℕ → Type 0) (rows at : ℕ) (words₀ : List ℕ) where
-  -- the words of the first y rows are made
-  pub record FillWalk (words : List ℕ) (y : ℕ) : Type 0 where
-    pub high : y ≤ rows
-    pub filled : Filled word y at words₀ words
+-- one row more is made
+pub row_turn : (word : ℕ → ℕ → Type 0) (words : List ℕ) (y new : ℕ) → y < length words → ((z : ℕ) → z < y → word z (get_or words z 0)) → word y new
+    → (z : ℕ) → z < y + 1 → word z (get_or (set words y new) z 0)
+row_turn word words y new l w n z k = ⊎_elim (λ (q : y ≤ z). here (omega arith)) (λ (q : z < y). there q) (le_or_lt y z)
+  where
+    here : z ≡ y → word z (get_or (set words y new) z 0)
+    here q = rw (q, get_or-set_same words y new 0 l) n
 
-  pub fill_start : FillWalk words₀ 0
-  fill_start = record { high = omega arith; filled = record { made = λ y h. absurd (omega arith); before = λ z h. refl; behind = λ z h. refl; long = refl } }
+    there : z < y → word z (get_or (set words y new) z 0)
+    there q = rw (get_or-set_other words y z new 0 (λ (e : z ≡ y). omega arith)) (w z q)
 
-  pub fill_turn : {words : List ℕ} {y new : ℕ} → y < rows → at + y < length words → FillWalk words y → word y new → FillWalk (set words (at + y) new) (y + 1)
-  fill_turn {words} {y} {new} h l w n =
-      record {
-        high = omega arith;
-        filled = record {
-          made = λ z k. ⊎_elim (λ (q : y ≤ z). here z (omega arith)) (λ (q : z < y). there z q) (le_or_lt y z);
-          before = λ z k. get_or-set_other words (at + y) z new 0 (λ q. omega arith) ∙ w.filled.before z k;
-          behind = λ z k. get_or-set_other words (at + y) z new 0 (λ q. omega arith) ∙ w.filled.behind z (omega arith);
-          long = length-set words (at + y) new ∙ w.filled.long;
-        };
-      }
-    where
-      here : (z : ℕ) → z ≡ y → word z (get_or (set words (at + y) new) (at + z) 0)
-      here z q = rw (q, get_or-set_same words (at + y) new 0 l) n
+-- the rows of a part of the table, which was lent
+pub part_filled : (word : ℕ → ℕ → Type 0) (rows at k : ℕ) (words vs : List ℕ) → k ≡ rows → at + rows ≤ length words → length vs ≡ length (mid_of at k words)
+    → ((y : ℕ) → y < rows → y < length (mid_of at k words) → word y (get_or vs y 0)) → Filled word rows at words (put_mid at k words vs)
+part_filled word rows at k words vs e room long w =
+    let part : length (mid_of at k words) ≡ k = length-take-le k (drop at words) (omega (arith, length-drop at words, e, room)) in
+    let size : length vs ≡ rows = long ∙ part ∙ e in
+    rw (part_written words vs at k (e ∙ sym size) (omega (arith, size, room)))
+    record {
+      made = λ y h. rw (sets_in vs words at y (omega (arith, size, room)) (omega (arith, size, h))) (w y h (omega (arith, part, e, h)));
+      before = λ z h. sets_out vs words at z (inl h);
+      behind = λ z h. sets_out vs words at z (inr (omega (arith, size, h)));
+      long = length-sets words at vs;
+    }
 
-      there : (z : ℕ) → z < y → word z (get_or (set words (at + y) new) (at + z) 0)
-      there z q = rw (get_or-set_other words (at + y) (at + z) new 0 (λ (e : at + z ≡ at + y). omega arith)) (w.filled.made z q)
+-- a row of the states behind the first `from`
+pub behind_word : (from start len : ℕ) (states : List ℕ) (k word : ℕ) → SideWord start len (drop from states) k word → SideWord (from + start) len states k word
+behind_word from start len states k word b j =
+    b j
+    ∙ ap (λ t. both (leb 32 j) (both (ltb j (32 + len)) (eqb t k)))
+    (get_or-drop from states (start + (j - 32)) 0 ∙ (let e : from + (start + (j - 32)) ≡ from + start + (j - 32) = omega arith in ap (λ i. get_or states i 0) e))
 
-  pub fill_end : {words : List ℕ} {y : ℕ} → rows ≤ y → FillWalk words y → Filled word rows at words₀ words
-  fill_end {words} {y} h w = let e : y ≡ rows = omega arith in rw e at w.filled
+-- a row of the first `count` states
+pub front_word : (count start len : ℕ) (states : List ℕ) (k word : ℕ) → start + len ≤ count → SideWord start len (take count states) k word → SideWord start len states k word
+front_word count start len states k word h b j =
+    b j
+    ∙ ⊎_elim
+    (λ (m : 32 + len ≤ j). rw (le-ltb j (32 + len) m))
+    (λ (m : j < 32 + len).
+    ⊎_elim
+    (λ (q : 32 ≤ j). ap (λ t. both (leb 32 j) (both (ltb j (32 + len)) (eqb t k))) (get_or-take count states (start + (j - 32)) 0 (omega arith)))
+    (λ (q : j < 32). rw (lt-leb 32 j q))
+    (le_or_lt 32 j))
+    (le_or_lt (32 + len) j)
 
 -- the states of a run, cut out of all: their word is the run's
 module _ {from count : ℕ} {states : List ℕ} (r : Run from count states) where
@@ -73,19 +87,3 @@ module _ {from count : ℕ} {states : List ℕ} (r : Run from count states) wher
       (le_or_lt (32 + count) j))
       (λ (h : j < 32). rw (lt-leb 32 j h))
       (le_or_lt 32 j))
-
--- the borders right of row y, and those under it
-module _ {g : Grid} {states : List ℕ} (f : Fits g states) (y : ℕ) where
-  pub right_run : y < g.height → Run (y * (g.width - 1)) (g.width - 1) states
-  right_run h =
-      let a = mul-le-mul h (le_refl (g.width - 1)) in
-      let e = suc-mul y (g.width - 1) in
-      let b = border_count_le g f.limits in
-      record { narrow = omega arith; small = omega arith; states_long = omega (arith, f.borders) }
-
-  pub down_run : y < g.height - 1 → Run (g.height * (g.width - 1) + y * g.width) g.width states
-  down_run h =
-      let a : (y + 1) * g.width ≤ (g.height - 1) * g.width = mul-le-mul (omega arith) (le_refl g.width) in
-      let e = suc-mul y g.width in
-      let b = border_count_le g f.limits in
-      record { narrow = omega arith; small = omega arith; states_long = omega (arith, f.borders) }

@@ -9,7 +9,6 @@ SideWord from count states k word = Only count (λ x. eqb (get_or states (from +
 -- these borders have states
 pub record Run (from count : ℕ) (states : List ℕ) : Type 0 where
   pub narrow : count ≤ 32
-  pub small : from ≤ 1984
   pub states_long : from + count ≤ length states
 
 -- `rows` words from place `at` on are made, and no other has changed

@@ -2,12 +2,13 @@
 // offsets at once.
 #![tactic(auto)]
 
-ghost use Rattle.std.specs.Prelude.{◌+◌, ◌-◌, ◌*◌, ◌≤◌, eqb, get_or, length};
+ghost use Rattle.std.specs.Prelude.{ℕ, ◌≡◌, ◌*◌, ◌≤◌, ◌<◌, eqb, get_or, length};
 ghost use Rattle.words.specs.Words.{Only};
 ghost use Rattle.border_words.specs.Sides.{BorderWords};
-ghost use Rattle.border_words.specs.Filled.{SideWord, Filled, Unfilled};
+ghost use Rattle.border_words.specs.Filled.{SideWord, Unfilled};
 
 use borders::Borders;
+use grid::Grid;
 
 // The word of a row of borders.
 fn side_word(states: &[u8], state: u8) -> u64
@@ -17,41 +18,30 @@ fn side_word(states: &[u8], state: u8) -> u64
     words::row(states.len(), |x| states[x] == state)
 }
 
-// The words of the borders right of each row's cells, from place `at` on.
-fn fill_right(borders: Borders<'_>, state: u8, at: usize, words: &mut [u64])
-    requires words_long { at + borders.grid.height ≤ length words.old }
-    requires at_bound { at ≤ 132 }
-    ensures { Filled (λ y. SideWord (y * (borders.entry.grid.width - 1)) (borders.entry.grid.width - 1) borders.entry.states.now state) borders.entry.grid.height at words.old words.new }
+// The words of rows of borders, each `len` long, one behind the other.
+fn fill_side(states: &[u8], len: usize, state: u8, words: &mut [u64])
+    requires narrow { len ≤ 32 }
+    requires states_long { length words.old * len ≤ length states.now }
+    ensures long { length words.new ≡ length words.old }
+    ensures rows { (y : ℕ) → y < length words.old → SideWord (y * len) len states.now state (get_or words.new y 0) }
 {
-    let count = borders.grid.width - 1;
-    for y in 0..borders.grid.height {
-        let from = y * count;
-        words[at + y] = side_word(&borders.states[from..from + count], state);
+    for (y, word) in words.iter_mut().enumerate() {
+        let from = y * len;
+        *word = side_word(&states[from..from + len], state);
     }
 }
 
-// The words of the borders under each row's cells but the last row's, from place `at` on.
-fn fill_down(borders: Borders<'_>, state: u8, at: usize, words: &mut [u64])
-    requires words_long { at + borders.grid.height ≤ length words.old }
-    requires at_bound { at ≤ 132 }
-    ensures { Filled (λ y. SideWord (borders.entry.grid.height * (borders.entry.grid.width - 1) + y * borders.entry.grid.width) borders.entry.grid.width borders.entry.states.now state) (borders.entry.grid.height - 1) at words.old words.new }
-{
-    let width = borders.grid.width;
-    let below = borders.grid.height * (width - 1);
-    for y in 0..borders.grid.height - 1 {
-        let from = below + y * width;
-        words[at + y] = side_word(&borders.states[from..from + width], state);
-    }
-}
-
-// All words of a board's borders, into a table that is blank.
+// All words of a board's borders, into a table that is blank: those of the borders under the cells of each row but the last, and of those
+// right of them.
 pub fn fill(borders: Borders<'_>, words: &mut [u64])
     requires words_long { 132 ≤ length words.old }
     requires unfilled { Unfilled words.old }
     ensures { BorderWords borders.entry.grid borders.entry.states.now words.new }
 {
-    fill_down(borders, 2, 1, words);
-    fill_right(borders, 2, 33, words);
-    fill_down(borders, 1, 67, words);
-    fill_right(borders, 1, 99, words);
+    let Grid { height, width } = borders.grid;
+    let (right, down) = borders.states.split_at(height * (width - 1));
+    fill_side(down, width, 2, &mut words[1..height]);
+    fill_side(right, width - 1, 2, &mut words[33..33 + height]);
+    fill_side(down, width, 1, &mut words[67..66 + height]);
+    fill_side(right, width - 1, 1, &mut words[99..99 + height]);
 }

@@ -54,13 +54,10 @@ fn border_at(grid: Grid, y: usize, x: usize) -> Option<usize>
     Some(beyond.border)
 }
 
-// The border at a place, and none outside the board. A negative place is outside, and only after that test is it halved.
+// The border at a place, and none outside the board: a negative place is outside.
 pub fn land(grid: Grid, y: i32, x: i32) -> Option<usize>
     requires { Limits grid }
     ensures { result ≡ land_of grid y x }
 {
-    if y < 0 || x < 0 {
-        return None;
-    }
-    border_at(grid, y as usize, x as usize)
+    border_at(grid, usize::try_from(y).ok()?, usize::try_from(x).ok()?)
 }
