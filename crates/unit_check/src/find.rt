@@ -179,7 +179,7 @@ impl Finder<'_, '_> {
             return Some(0);
         }
         let unit = self.find_soon(0)?;
-        if soon::tries_all(self.stage.chart.borders.grid) {
+        if soon::tries_all(self.stage.chart.borders) {
             return Some(unit);
         }
         self.find_by_words::<CELLS, BORDERS>(unit)
