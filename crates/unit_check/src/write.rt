@@ -47,14 +47,7 @@ impl Finder<'_, '_> {
         let marks = &*self.marks;
         for number in 0..potentials.len() {
             if marks[number] != 0 {
-                let outline = Outline {
-                    borders: chart.borders,
-                    ids: potentials.ids,
-                    potential: true,
-                    number,
-                    cells: potentials.cells(number),
-                };
-                outline.append(list);
+                Outline::of(chart.borders, potentials, true, number).append(list);
             }
         }
     }
@@ -69,14 +62,7 @@ impl Finder<'_, '_> {
         let mut list = Entries { buffer, len: 0 };
         write_landings(self.trial(unit), &mut list);
         let Stage { chart, units, .. } = self.stage;
-        let outline = Outline {
-            borders: chart.borders,
-            ids: units.ids,
-            potential: false,
-            number: unit,
-            cells: units.cells(unit),
-        };
-        outline.append(&mut list);
+        Outline::of(chart.borders, units, false, unit).append(&mut list);
         self.append_near(&mut list);
         list.len
     }

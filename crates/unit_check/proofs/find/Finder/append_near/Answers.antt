@@ -17,8 +17,10 @@ unfolding near_boundaries
 append-requires c =
     let s = c.args.self.now.stage in
     let b = s.chart.borders in
+    let o = c.of.ensures in
     let h : c.loop-number.number < length s.potentials.starts.now = omega (arith, c.loop-number-test.true, c.len-number-end.ensures) in
-    rw (its_list b.grid b.states.now s.potentials.ids.now c.args.self.now.marks.now c.loop-number.number c.if-marks-number-ne0.true) at (left_room _ _ c.loop-number.invariant h c.requires)
+    rw (o.borders_are, o.ids_are, o.potential_is, o.number_is)
+    (rw (its_list b.grid b.states.now s.potentials.ids.now c.args.self.now.marks.now c.loop-number.number c.if-marks-number-ne0.true) at (left_room _ _ c.loop-number.invariant h c.requires))
 
 pub loop-number-preserved : goal.loop-number-preserved
 loop-number-preserved c =
@@ -27,7 +29,7 @@ loop-number-preserved c =
     let h : c.loop-number.number < length s.potentials.starts.now = omega (arith, c.loop-number-test.true, c.len-number-end.ensures) in
     left_on _ _ c.loop-number.invariant h
     (elim c.if-marks-number-ne0.branch [
-      | then-marks-number-ne0 w ↦ rw (w.list-is, its_list b.grid b.states.now s.potentials.ids.now c.args.self.now.marks.now c.loop-number.number w.if-marks-number-ne0.true) w.append.ensures
+      | then-marks-number-ne0 w ↦ rw (w.list-is, its_list b.grid b.states.now s.potentials.ids.now c.args.self.now.marks.now c.loop-number.number w.if-marks-number-ne0.true) (let o = w.of.ensures in rw (o.borders_are, o.ids_are, o.potential_is, o.number_is) at w.append.ensures)
       | else-marks-number-ne0 w ↦ rw w.list-is (writes_none (not_marked b.grid b.states.now s.potentials.ids.now c.args.self.now.marks.now c.loop-number.number w.if-marks-number-ne0.false))
     ])
 
