@@ -44,9 +44,8 @@ impl Finder<'_, '_> {
             potentials,
             ..
         } = self.stage;
-        let marks = &*self.marks;
-        for number in 0..potentials.len() {
-            if marks[number] != 0 {
+        for (number, &mark) in self.marks[..potentials.len()].iter().enumerate() {
+            if mark != 0 {
                 Outline::of(chart.borders, potentials, true, number).append(list);
             }
         }
