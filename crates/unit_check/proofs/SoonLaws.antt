@@ -13,7 +13,7 @@ use Rattle.lists.specs.Choice.{both}
 use Rattle.lists.specs.Lists.{range}
 use Rattle.lists.proofs.Cases.{eq_or_ne, true_or_false, not_both}
 use Rattle.lists.proofs.ChoiceLaws.{both_true}
-use Rattle.lists.proofs.ListLaws.{get_d_in, any_true, true_any, range_in, in_range}
+use Rattle.lists.proofs.ListLaws.{any_true, true_any, range_in, in_range}
 use Rattle.grid.specs.declared.Grid.{Grid}
 use Rattle.grid.specs.Grid.{cells, Cell}
 use Rattle.grid.proofs.Geometry.{cells_le}
@@ -22,7 +22,7 @@ use Rattle.shape.specs.Shape.{head_or0, is_good, fits}
 use Rattle.offsets.specs.declared.table.CellInfo.{CellInfo}
 use Rattle.offsets.specs.Table.{row_in, col_in, unit_in, units_in}
 use Rattle.offsets.specs.Trial.{tried_at, fits_at, Unit}
-use Rattle.cell_words.proofs.OwnLaws.{on_board_lem, own_row, own_col}
+use Rattle.cell_words.proofs.OwnLaws.{own_row, own_col}
 use Rattle.unit_check.specs.Find.{tries_all}
 
 -- the cells of a unit are few
@@ -30,9 +30,6 @@ pub some_few : {g : Grid} {table : List CellInfo} {cs : List ℕ} → Unit g tab
 some_few {g} {table} {cs} u =
     let k : length cs ≤ cells g = rw u.cells_are (cells_most g (units_in g table) (unit_in table (head_or0 cs))) in
     (u.some, omega (arith, k, cells_le g u.limits))
-
-pub first_small : {g : Grid} {table : List CellInfo} {cs : List ℕ} → Unit g table cs → get_or cs 0 0 < 1024
-first_small {g} {table} {cs} u = omega (arith, on_board_lem u (get_or cs 0 0) (get_d_in 0 cs 0 u.some), cells_le g u.limits)
 
 -- what is read of the cell under a unit is small
 pub under_small : {g : Grid} {table : List CellInfo} {cs : List ℕ} → Unit g table cs → {f l y x : ℕ} → f ≡ get_or cs 0 0 → l ≡ get_or cs (length cs - 1) 0 → y ≡ row_in table l → x ≡ col_in table f

@@ -7,7 +7,8 @@ use mathlib.Core.List.{List, [], ◌∷◌, ◌++◌}
 use native.Mathlib.Omega.{arith}
 use borrow.Author.Tests.{ne_eqb}
 use lib.Dec.{eqb}
-use lib.ListN.{get_or, length, length-append}
+use lib.ListN.{get_or, length, take, length-append}
+use lib.Seq.{get_or-take, length-take-le}
 use Rattle.lists.specs.Choice.{pick, when}
 use Rattle.lists.specs.Lists.{range, keep, gather}
 use Rattle.lists.proofs.ListLaws.{in_range}
@@ -89,6 +90,21 @@ module _ (g : Grid) (states pids marks : List ℕ) (unit : ℕ) where
   pub its_list : get_or marks unit 0 ≢ 0 → marked_boundary g states pids marks unit ≡ potential_boundary g states pids unit
   unfolding marked_boundary
   its_list z = rw (ne_eqb (get_or marks unit 0) 0 z)
+
+-- the marks of these many potential units, gone through in turn
+module _ (marks : List ℕ) {n count : ℕ} (n_is : n ≡ count) (long : count ≤ length marks) where
+  marks_there : length (take n marks) ≡ n
+  marks_there = length-take-le n marks (omega arith)
+
+  module _ {i : ℕ} (h : i < length (take n marks)) where
+    pub has_mark : i < count
+    has_mark = omega (arith, marks_there)
+
+    pub mark_is : get_or (take n marks) i 0 ≡ get_or marks i 0
+    mark_is = get_or-take n marks i 0 (omega (arith, marks_there))
+
+  pub marks_over : {i : ℕ} → length (take n marks) ≤ i → count ≤ i
+  marks_over h = omega (arith, marks_there)
 
 -- lists gathered of those that are kept
 gather_when : (f : ℕ → List ℕ) (t : Bool) (x : ℕ) (xs : List ℕ) → gather f (when t x ++ xs) ≡ pick t (f x) [] ++ gather f xs

@@ -19,23 +19,23 @@ mod soon;
 mod stage;
 mod write;
 
-// The units of a board of at most so many cells, in arrays that are no longer than that asks, since all of an array is zeroed.
-fn check_in<'a, const CELLS: usize, const STARTS: usize, const NEAR: usize, const BORDERS: usize>(
+// The units of a board of at most N cells, in arrays that are no longer than that asks, since all of an array is zeroed.
+fn check_in<'a, const N: usize, const STARTS: usize, const NEAR: usize, const BORDERS: usize>(
     borders: Borders<'a>,
     units: Groups<'a>,
     buffer: &mut [u16],
 ) -> Option<usize>
     requires checked { Checked borders.grid units.grid units.ids.now (length buffer.old) }
-    requires room { (cells_of borders.grid ≤ CELLS) × (cells_of borders.grid + 1 ≤ STARTS) × (4 * cells_of borders.grid ≤ NEAR) × (6 * cells_of borders.grid ≤ BORDERS) }
-    requires arrays_small { (CELLS ≤ 1024) × (STARTS ≤ 1025) × (NEAR ≤ 4096) × (BORDERS ≤ 6144) }
+    requires room { (cells_of borders.grid ≤ N) × (cells_of borders.grid + 1 ≤ STARTS) × (4 * cells_of borders.grid ≤ NEAR) × (6 * cells_of borders.grid ≤ BORDERS) }
+    requires arrays_small { (N ≤ 1024) × (STARTS ≤ 1025) × (NEAR ≤ 4096) × (BORDERS ≤ 6144) }
     ensures { Finds (unit_stage borders.entry.grid borders.entry.states.now units.entry.ids.now (length units.entry.starts.now)) buffer.old buffer.new result }
 {
     let grid = borders.grid;
-    let mut arrays = GroupArrays::<CELLS>::blank();
+    let mut arrays = GroupArrays::<N>::blank();
     let potentials = arrays.group(borders, true);
-    let mut table = [CellInfo::default(); CELLS];
+    let mut table = [CellInfo::default(); N];
     table::fill(grid, units.ids, potentials.ids, &mut table);
-    let mut marks = [0; CELLS];
+    let mut marks = [0; N];
     let mut near_starts = [0; STARTS];
     let mut near = [0; NEAR];
     let around = Potentials {
@@ -55,7 +55,7 @@ fn check_in<'a, const CELLS: usize, const STARTS: usize, const NEAR: usize, cons
             list: &near,
         },
     };
-    stage.list_first::<CELLS, BORDERS>(&mut marks, buffer)
+    stage.list_first::<N, BORDERS>(&mut marks, buffer)
 }
 
 // The units of a board: how long the list is of the first that fits nowhere, if there is one.

@@ -33,7 +33,7 @@ fn write_landings(trial: Trial<'_>, list: &mut Entries<'_>)
     }
 }
 
-impl Finder<'_, '_> {
+impl<const N: usize, const BORDERS: usize> Finder<'_, '_, N, BORDERS> {
     // Appends the boundary lists of all marked potential units, in rising number.
     fn append_near(&self, list: &mut Entries<'_>)
         requires { list.old.len + length (near_boundaries self.now.stage.chart.borders.grid self.now.stage.chart.borders.states.now self.now.stage.potentials.ids.now self.now.marks.now (length self.now.stage.potentials.starts.now)) ≤ length list.old.buffer.now }
@@ -44,17 +44,9 @@ impl Finder<'_, '_> {
             potentials,
             ..
         } = self.stage;
-        let marks = &*self.marks;
-        for number in 0..potentials.len() {
-            if marks[number] != 0 {
-                let outline = Outline {
-                    borders: chart.borders,
-                    ids: potentials.ids,
-                    potential: true,
-                    number,
-                    cells: potentials.cells(number),
-                };
-                outline.append(list);
+        for (number, &mark) in self.marks[..potentials.len()].iter().enumerate() {
+            if mark != 0 {
+                Outline::of(chart.borders, potentials, true, number).append(list);
             }
         }
     }
@@ -69,14 +61,7 @@ impl Finder<'_, '_> {
         let mut list = Entries { buffer, len: 0 };
         write_landings(self.trial(unit), &mut list);
         let Stage { chart, units, .. } = self.stage;
-        let outline = Outline {
-            borders: chart.borders,
-            ids: units.ids,
-            potential: false,
-            number: unit,
-            cells: units.cells(unit),
-        };
-        outline.append(&mut list);
+        Outline::of(chart.borders, units, false, unit).append(&mut list);
         self.append_near(&mut list);
         list.len
     }

@@ -14,7 +14,7 @@ invariant-loop-next g l =
       kept : Kept l.initial.self l.self;
       pending : Pending h.borders.grid h.borders.states.now h.table.now (length s.units.starts.now) l.self.marks.now l.next;
       stamped : Stamped h.borders.grid h.borders.states.now (potentials_in h.borders.grid h.table.now) l.near;
-      codes_long : length l.codes ≡ g.row.CELLS;
+      codes_long : length l.codes ≡ g.row.N;
       borders_long : length l.borders ≡ g.row.BORDERS;
     }
 
