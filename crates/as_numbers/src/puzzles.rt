@@ -18,21 +18,23 @@ pub struct Outcome {
 }
 
 // A fault by the check that found it.
-fn fault_of(check: Check, length: usize) -> Outcome
-    ensures { result ≡ fault_outcome check length }
-{
-    match check {
-        Check::Shape => Outcome {
-            kind: 1,
-            length,
-            ..Outcome::default()
-        },
-        Check::Room(room) => Outcome {
-            kind: 2,
-            room,
-            length,
-            ..Outcome::default()
-        },
+impl From<Fault> for Outcome {
+    ghost from_gives = { λ fault outcome. outcome ≡ fault_outcome fault.check fault.len };
+
+    fn from(fault: Fault) -> Outcome {
+        match fault.check {
+            Check::Shape => Outcome {
+                kind: 1,
+                length: fault.len,
+                ..Outcome::default()
+            },
+            Check::Room(room) => Outcome {
+                kind: 2,
+                room,
+                length: fault.len,
+                ..Outcome::default()
+            },
+        }
     }
 }
 
@@ -42,7 +44,7 @@ impl From<Result<Option<Fault>, Refusal>> for Outcome {
     fn from(asked: Result<Option<Fault>, Refusal>) -> Outcome {
         match asked {
             Ok(None) => Outcome::default(),
-            Ok(Some(fault)) => fault_of(fault.check, fault.len),
+            Ok(Some(fault)) => Outcome::from(fault),
             Err(refusal) => Outcome {
                 kind: 3,
                 code: u8::from(refusal),

@@ -31,7 +31,7 @@ pub struct Progress {
     pub len: usize,
 }
 
-// The first as C gets it: code 0; or zeros, and the number that refuses the file (11) or its puzzle.
+// A `Remaining` as C gets it: code 0; or zeros, and the number that refuses the file (11) or its puzzle.
 #[repr(C)]
 #[derive(Clone, Copy)]
 pub struct Opened {
@@ -41,7 +41,7 @@ pub struct Opened {
     pub count: usize,
 }
 
-// The second as C gets it, with the puzzle; code 6 where the buffer is too short for the lines.
+// A `Progress` as C gets it, with the puzzle; code 6 where the buffer is too short for the lines.
 #[repr(C)]
 #[derive(Clone, Copy)]
 pub struct Ran {

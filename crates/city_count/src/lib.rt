@@ -1,5 +1,4 @@
-// The room count (`CityCountConstraint`): a room graph with its count and a ledger over its edges. Making, stroke, decide, undo and ask where a
-// graph stands, and on a record by value.
+// The room count (`CityCountConstraint`): a room graph with its count and a ledger over its edges. Making, stroke, decide, undo and ask.
 #![tactic(auto)]
 
 ghost use Rattle.std.specs.Prelude.{◌≡◌, ◌≤◌, length, take, ltb};

@@ -260,7 +260,7 @@ pub fn fault_of(board: CluedBoard<'_, '_>, buffer: &mut [u16]) -> Option<Fault>
     })
 }
 
-// The same as a record, of zeros where it is refused. The record is made where it stands, and not copied.
+// A making as a record: of zeros where it is refused. The record is made where it stands, and not copied.
 pub fn make(height: usize, width: usize, given: &[u16], clues: &[u16]) -> Made
     ensures { result ≡ make_of height width given.now clues.now }
 {

@@ -177,7 +177,7 @@ impl UnionFind {
     }
 }
 
-// The calls as other languages make them: the record is handed in and comes back in one record with the answer.
+// What other languages get of a making, a find and a union: the number of the question that refuses, or 0, and the record that is left.
 #[repr(C)]
 #[derive(Clone, Copy)]
 pub struct Made {

@@ -37,7 +37,7 @@ impl fmt::Display for Word<'_> {
     }
 }
 
-// A record: how many borders are decided, their numbers in turn, and the first states.
+// A record: how many borders are decided, their names in turn, and the first states.
 #[derive(Clone, Copy)]
 pub struct Record<'a> {
     pub book: &'a Book,
