@@ -6,8 +6,7 @@ use native.Mathlib.Omega.{arith}
 use Rattle.std.specs.Prelude.{Result, Ok, Err, IsOk}
 use lib.ListN.{length, take, drop}
 use lib.Seq.{length-take-le}
-use Rattle.lines.specs.declared.Line.TheVariants as line
-use Rattle.lines.specs.Line.{line_of}
+use Rattle.lines.specs.Line.{needed}
 use Rattle.answers.specs.declared.Refusal.{Refusal}
 use Rattle.answers.specs.Refusals.{number_of}
 use Rattle.answers.proofs.RefusalLaws.{some_number}
@@ -17,7 +16,6 @@ use Rattle.case_run.specs.declared.Remaining.{Remaining}
 use Rattle.case_run.specs.declared.Progress.{Progress}
 use Rattle.case_run.specs.declared.Ran.{Ran}
 use Rattle.case_run.specs.CaseRun.{calls_in, bytes_of, run_of, code_in, done_in, ran_of, ran_in}
-use Rattle.case_run.proofs.LineLaws.{bare_short}
 use Rattle.case_run.proofs.OneByOne.{one_by_one}
 use Rattle.program.specs.Printing.{Prints}
 
@@ -70,6 +68,6 @@ pub record Lined (n : ℕ) (out : List ℕ) : Type 0 where
 pub lined : (n : ℕ) (out : List ℕ) → n ≤ length out → Lined n out
 lined n out h = record { within = h; long = sym (length-take-le n out h) }
 
--- `refused 4`
-pub refused_lined : (code n : ℕ) (out out' : List ℕ) → length out ≡ 65536 → length out' ≡ length out → n ≡ length (line_of (line.Refused code) []) → Lined n out'
-refused_lined code n out out' h l e = lined n out' (omega (arith, bare_short (line.Refused code)))
+-- a line without entries
+pub bare_lined : (n : ℕ) (out out' : List ℕ) → length out ≡ 65536 → length out' ≡ length out → n ≤ needed [] → Lined n out'
+bare_lined n out out' h l e = lined n out' (omega arith)
