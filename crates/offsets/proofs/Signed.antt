@@ -1,4 +1,4 @@
--- What the machine computes for a doubled coordinate, and the sign test and cast after it. Assumes nothing.
+-- What the machine computes for a doubled coordinate, and the number that a place is. Assumes nothing.
 use Prim.Native.Nat.{ℕ, suc, zero, ◌+◌, ◌-◌, ◌*◌, ◌<◌, ◌≤◌}
 use mathlib.Core.Path.{◌≡◌, refl, ap, ap₂, sym, ◌∙◌}
 use mathlib.Core.Bool.{Bool, true, false, cond, true≢false}
