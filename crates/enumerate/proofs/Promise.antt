@@ -17,6 +17,7 @@ use Rattle.frame.specs.Frame.{States}
 use Rattle.grid.specs.declared.Grid.{Grid}
 use Rattle.grid.specs.Grid.{grid, border_count}
 use Rattle.ledger.specs.Ledger.{whole}
+use Rattle.ledger.proofs.Codes.{clear_both}
 use Rattle.ledger.specs.Books.{state_at}
 use Rattle.ledger.specs.declared.Book.{Book}
 use Rattle.ledger.proofs.Standing.{standing_given}
@@ -29,7 +30,6 @@ use Rattle.puzzle.specs.Puzzle.{states_of, fresh_puzzle, make_of, grid_of, book_
 use Rattle.puzzle.proofs.Basics.{states_length, states_at, states_same}
 use Rattle.puzzle.proofs.Making.{given_kept, clues_kept, given_inside}
 use Rattle.puzzle.proofs.Ready.{ready}
-use Rattle.puzzle.proofs.Answers.{none_refuses}
 use Rattle.demand_3.specs.Run.{Call, ledger_after, state_after}
 use Rattle.demand_3.specs.Demand3.{after}
 use Rattle.demand_3.proofs.FaultLaws.{Small}
@@ -132,7 +132,7 @@ module _ (p : Puzzle) (cap : ℕ) (buf : List ℕ) where
   pub every_puzzle : (count : ℕ) (more : Bool) → (boards_of p cap buf).answer ≡ Listed count more
       → Fulfilled (grid_of p) (given_of p) (clues_of p) (state_at (book_of p).states) cap buf count more (boards_of p cap buf).buffer
   every_puzzle count more q =
-      let codes = none_refuses (puzzle_code p) (places_code (states_in p) cap (length buf)) (listed_code (boards_code p cap buf) (rights_of p) cap buf count more q) in
+      let codes = clear_both (puzzle_code p) (places_code (states_in p) cap (length buf)) (listed_code (boards_code p cap buf) (rights_of p) cap buf count more q) in
       let r = ready p codes.0 in
       let fit = lists_fit (grid_of p) (given_of p) (clues_of p) r.lists in
       fulfilled (grid_of p) (given_of p) (clues_of p) (state_at (book_of p).states) fit.small

@@ -17,13 +17,9 @@ use Rattle.puzzle.specs.Fault.{Found}
 use Rattle.puzzle.specs.Puzzle.{grid_of, book_of, borders_of, puzzle_code, answered, stroke_of, decide_of, ask_code, Asked, says, writes, fault_in, ask_of}
 use Rattle.puzzle.proofs.Ready.{ready}
 
--- the first of two numbers that refuses a call
+-- the second of two numbers, where the first refuses nothing
 pub second_says : {code m r next : ℕ} → code ≡ m → code ≡ 0 → r ≡ next → r ≡ first_code m next
 second_says q z e = rw (← q, z, e)
-
-pub none_refuses : (m next : ℕ) → first_code m next ≡ 0 → (m ≡ 0) × (next ≡ 0)
-none_refuses zero next q = (refl, q)
-none_refuses (suc m) next q = absurd (let z : suc m ≡ 0 = rw (ne_eqb (suc m) 0 (omega arith)) at q in omega arith)
 
 -- a decide by way of its entry
 pub one_entry : (p : Puzzle) (e : ℕ) (wall : Bool) (x : ℕ) → Entry e wall x → stroke_of p (decisions (x ∷ [])) ≡ decide_of p e wall

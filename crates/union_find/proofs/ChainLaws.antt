@@ -8,8 +8,6 @@ use lib.ListN.{set, length, length-set}
 use lib.Seq.{set-get_or}
 use Rattle.union_find.specs.Chains.{up, climb, shortened}
 use Rattle.union_find.specs.Requires.{Stays, Parents}
-use Rattle.union_find.specs.UnionFind.{union_of}
-use Rattle.union_find.specs.declared.UnionFind.{UnionFind}
 
 -- the last of d + 1 steps
 pub climb_more : (d : ℕ) (p : List ℕ) (x : ℕ) → climb (suc d) p x ≡ up p (climb d p x)
@@ -74,7 +72,3 @@ climb_below n p b (suc d) x h = climb_below n p b d (up p x) (b x h)
 
 pub parents_stay : (n : ℕ) (p : List ℕ) → Parents n p → (x : ℕ) → x < n → Stays p x
 parents_stay n p k x h d = omega (arith, k.bound, climb_below n p k.below d x h)
-
--- a record is its parents and how many of them are vertices
-pub union_is : (u : UnionFind) {p : List ℕ} {n : ℕ} → u.parent ≡ p → u.n ≡ n → u ≡ union_of p n
-union_is u e f = rw (← e, ← f) refl
