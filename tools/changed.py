@@ -50,7 +50,7 @@ def items(text):
             while not lines[end].startswith("}") and not lines[end].endswith(";"):
                 end += 1
             yield dedent(lines[at:end + 1])
-        elif re.match(r"impl.* (?:From|TryFrom)<", line):
+        elif re.match(r"impl.* (?:From<|TryFrom<|Default for )", line):
             while "fn " not in lines[end]:
                 end += 1
             yield dedent([x for x in lines[at:end] if x.strip() and not x.lstrip().startswith("#[")])
