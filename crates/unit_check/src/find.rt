@@ -12,15 +12,12 @@ use cell_words::Near;
 use offsets::trial::Trial;
 use offsets::unit::UnitCells;
 
-// A search among a stage's units, which sets the marks of one unit after the other. There is a mark for each potential unit, and
-// arrays of N cells' and of BORDERS borders' codes have room for those of any unit.
+// A search among a stage's units, which sets the marks of one unit after the other. There is a mark for each potential unit.
 #[derive(Drop)]
-pub struct Finder<'a, 'm, const N: usize, const BORDERS: usize> {
+pub struct Finder<'a, 'm> {
     pub stage: Stage<'a>,
     pub marks: &'m mut [u8],
     ghost marks_long: { length stage.potentials.starts.now ≤ length marks.now },
-    ghost room: { (cells_of stage.chart.borders.grid ≤ N) × (6 * cells_of stage.chart.borders.grid ≤ BORDERS) },
-    ghost arrays_small: { (N ≤ 1024) × (BORDERS ≤ 6144) },
 }
 
 impl<'a> Stage<'a> {
@@ -67,13 +64,13 @@ impl<'a> Stage<'a> {
         requires enough { 9 * cells_of self.chart.borders.grid ≤ length buffer.old }
         ensures { Finds (first_list self.entry.chart.borders.grid self.entry.chart.borders.states.now self.entry.chart.table.now (length self.entry.potentials.starts.now) (length self.entry.units.starts.now)) buffer.old buffer.new result }
     {
-        let mut finder = Finder::<'_, '_, N, BORDERS> { stage: self, marks };
-        let unit = finder.find()?;
+        let mut finder = Finder { stage: self, marks };
+        let unit = finder.find::<N, BORDERS>()?;
         Some(finder.write_list(unit, buffer))
     }
 }
 
-impl<const N: usize, const BORDERS: usize> Finder<'_, '_, N, BORDERS> {
+impl Finder<'_, '_> {
     ghost use Rattle.unit_check.specs.Finder.{Kept};
 
     // A unit with the marks of the search.
@@ -132,8 +129,10 @@ impl<const N: usize, const BORDERS: usize> Finder<'_, '_, N, BORDERS> {
     }
 
     // The first unit from one on that fits nowhere, for which the marks are left set. The unit to begin with has its marks, and fits at none of
-    // the places that are tried soon.
-    fn find_by_words(&mut self, from: usize) -> Option<usize>
+    // the places that are tried soon. The arrays of codes have room for those of any unit.
+    fn find_by_words<const N: usize, const BORDERS: usize>(&mut self, from: usize) -> Option<usize>
+        requires room { (cells_of self.old.stage.chart.borders.grid ≤ N) × (6 * cells_of self.old.stage.chart.borders.grid ≤ BORDERS) }
+        requires arrays_small { (N ≤ 1024) × (BORDERS ≤ 6144) }
         requires from_exists { from < length self.old.stage.units.starts.now }
         requires all_fit { AllFit (fits_in self.old.stage.chart.borders.grid self.old.stage.chart.borders.states.now self.old.stage.chart.table.now) (length self.old.stage.units.starts.now) from }
         requires marked { MarkedFor self.old.stage.chart.borders.grid self.old.stage.chart.borders.states.now self.old.stage.chart.table.now from self.old.marks.now }
@@ -165,7 +164,9 @@ impl<const N: usize, const BORDERS: usize> Finder<'_, '_, N, BORDERS> {
 
     // The first unit that fits nowhere, for which the marks are left set. A unit that is the whole board fits nowhere. Words are made only once a
     // unit fits at none of the offsets that are tried soon.
-    pub fn find(&mut self) -> Option<usize>
+    pub fn find<const N: usize, const BORDERS: usize>(&mut self) -> Option<usize>
+        requires room { (cells_of self.old.stage.chart.borders.grid ≤ N) × (6 * cells_of self.old.stage.chart.borders.grid ≤ BORDERS) }
+        requires arrays_small { (N ≤ 1024) × (BORDERS ≤ 6144) }
         requires unmarked { Unmarked self.old.marks.now }
         ensures kept { Kept self.old self.new }
         ensures unfit { Unfit self.old.stage.chart.borders.grid self.old.stage.chart.borders.states.now self.old.stage.chart.table.now (length self.old.stage.units.starts.now) self.new.marks.now result }
@@ -178,6 +179,6 @@ impl<const N: usize, const BORDERS: usize> Finder<'_, '_, N, BORDERS> {
         if soon::tries_all(self.stage.chart.borders) {
             return Some(unit);
         }
-        self.find_by_words(unit)
+        self.find_by_words::<N, BORDERS>(unit)
     }
 }

@@ -33,7 +33,7 @@ fn write_landings(trial: Trial<'_>, list: &mut Entries<'_>)
     }
 }
 
-impl<const N: usize, const BORDERS: usize> Finder<'_, '_, N, BORDERS> {
+impl Finder<'_, '_> {
     // Appends the boundary lists of all marked potential units, in rising number.
     fn append_near(&self, list: &mut Entries<'_>)
         requires { list.old.len + length (near_boundaries self.now.stage.chart.borders.grid self.now.stage.chart.borders.states.now self.now.stage.potentials.ids.now self.now.marks.now (length self.now.stage.potentials.starts.now)) ≤ length list.old.buffer.now }

@@ -5,6 +5,6 @@ use Rattle.unit_check.proofs.RestLaws.{Left}
 use Rattle.unit_check.proofs.find.Finder.append_near.Given as goal
 
 abbrev pub invariant-loop-number : goal.invariant-loop-number
-invariant-loop-number g l =
+invariant-loop-number l =
     let b = l.chart.borders in
     Left (marked_boundary b.grid b.states.now l.potentials.ids.now l.self.marks.now) (length l.potentials.starts.now) l.initial.list l.list l.number

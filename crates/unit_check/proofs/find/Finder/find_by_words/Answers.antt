@@ -24,8 +24,11 @@ loop-next-init g c =
       borders_long = length-replicate _ _;
     }
 
-pub trial-trial-requires : goal.trial-trial-requires
-trial-trial-requires g c = let i = c.loop-next.invariant in (omega arith, (rw i.kept.stage (i.pending.some _ c.in-Some.is), rw i.kept.stage (i.pending.marked _ c.in-Some.is)))
+pub trial-trial-requires-clause-unit_exists : goal.trial-trial-requires-clause-unit_exists
+trial-trial-requires-clause-unit_exists g c = let i = c.loop-next.invariant in rw i.kept.stage (i.pending.some _ c.in-Some.is)
+
+pub trial-trial-requires-clause-marked : goal.trial-trial-requires-clause-marked
+trial-trial-requires-clause-marked g c = let i = c.loop-next.invariant in rw i.kept.stage (i.pending.marked _ c.in-Some.is)
 
 pub fits-requires-clause-asking : goal.fits-requires-clause-asking
 fits-requires-clause-asking g c =
@@ -33,7 +36,7 @@ fits-requires-clause-asking g c =
     let e = c.trial-trial.ensures in
     let i = c.loop-next.invariant in
     rw (e.grid_is, e.states_are, e.cells_are, i.kept.stage)
-    (asking s.chart.borders.grid s.chart.table.now c.in-Some.unit _ _ c.full_word-full.ensures c.fill.ensures c.args.self.now.room i.codes_long i.borders_long)
+    (asking s.chart.borders.grid s.chart.table.now c.in-Some.unit _ _ c.full_word-full.ensures c.fill.ensures c.requires.room i.codes_long i.borders_long)
 
 pub fits-requires-clause-stamped : goal.fits-requires-clause-stamped
 fits-requires-clause-stamped g c =
@@ -50,22 +53,25 @@ returns-then-not-fits g c =
     let told = rw i.kept.stage at (rw (e.grid_is, e.states_are, e.table_is, e.cells_are) at c.fits.ensures.value) in
     record { kept = i.kept; unfit = unfit_some h (fit_there (p.before _ c.in-Some.is) (λ q. fits_held c.args.self.now.stage h told c.if-not-fits.true)) (p.marked _ c.in-Some.is) }
 
-pub unmark-requires : goal.unmark-requires
-unmark-requires g c = let i = c.loop-next.invariant in (omega arith, (rw i.kept.stage (i.pending.some _ c.in-Some.is), rw i.kept.stage (i.pending.marked _ c.in-Some.is)))
+pub unmark-requires-clause-unit_exists : goal.unmark-requires-clause-unit_exists
+unmark-requires-clause-unit_exists g c = let i = c.loop-next.invariant in rw i.kept.stage (i.pending.some _ c.in-Some.is)
+
+pub unmark-requires-clause-marked : goal.unmark-requires-clause-marked
+unmark-requires-clause-marked g c = let i = c.loop-next.invariant in rw i.kept.stage (i.pending.marked _ c.in-Some.is)
 
 pub overflow_add-unit : goal.overflow_add-unit
 overflow_add-unit g c =
     let s = c.args.self.now.stage in
     omega (arith, c.loop-next.invariant.pending.some _ c.in-Some.is, (units_held s).few, cells_le s.chart.borders.grid s.chart.borders.fits.limits)
 
-pub find_soon-next-requires : goal.find_soon-next-requires
-find_soon-next-requires g c =
+pub find_soon-next-requires-clause-all_fit : goal.find_soon-next-requires-clause-all_fit
+find_soon-next-requires-clause-all_fit g c =
     let e = c.trial-trial.ensures in
     let i = c.loop-next.invariant in
     let p = i.pending in
     let h = p.some _ c.in-Some.is in
     let told = rw i.kept.stage at (rw (e.grid_is, e.states_are, e.table_is, e.cells_are) at c.fits.ensures.value) in
-    (omega arith, (c.unmark.ensures.unmarked, rw (kept_then _ i.kept c.unmark.ensures.kept).stage (fit_on (p.before _ c.in-Some.is) h (fits_held c.args.self.now.stage h told c.if-not-fits.false))))
+    rw (kept_then _ i.kept c.unmark.ensures.kept).stage (fit_on (p.before _ c.in-Some.is) h (fits_held c.args.self.now.stage h told c.if-not-fits.false))
 
 pub loop-next-smaller : goal.loop-next-smaller
 loop-next-smaller g c =

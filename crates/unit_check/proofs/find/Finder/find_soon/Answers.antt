@@ -9,19 +9,25 @@ use Rattle.unit_check.proofs.HeldLaws.{fits_held}
 use Rattle.unit_check.proofs.find.Finder.find_soon.Goals as goal
 
 pub loop-unit-init : goal.loop-unit-init
-loop-unit-init g c = record { kept = kept_all _; all_fit = c.requires.all_fit; unmarked = c.requires.unmarked }
+loop-unit-init c = record { kept = kept_all _; all_fit = c.requires.all_fit; unmarked = c.requires.unmarked }
 
-pub mark-requires : goal.mark-requires
-mark-requires g c = (omega arith, (rw c.loop-unit.invariant.kept.stage (omega (arith, c.loop-unit-test.true, c.len-unit-end.ensures)), c.loop-unit.invariant.unmarked))
+pub mark-requires-clause-unit_exists : goal.mark-requires-clause-unit_exists
+mark-requires-clause-unit_exists c = rw c.loop-unit.invariant.kept.stage (omega (arith, c.loop-unit-test.true, c.len-unit-end.ensures))
 
-pub trial-requires : goal.trial-requires
-trial-requires g c = (omega arith, (rw (c.mark.ensures.kept.stage, c.loop-unit.invariant.kept.stage) (omega (arith, c.loop-unit-test.true, c.len-unit-end.ensures)), rw c.mark.ensures.kept.stage c.mark.ensures.marked))
+pub trial-requires-clause-unit_exists : goal.trial-requires-clause-unit_exists
+trial-requires-clause-unit_exists c = rw (c.mark.ensures.kept.stage, c.loop-unit.invariant.kept.stage) (omega (arith, c.loop-unit-test.true, c.len-unit-end.ensures))
 
-pub unmark-requires : goal.unmark-requires
-unmark-requires g c = (omega arith, (rw (c.mark.ensures.kept.stage, c.loop-unit.invariant.kept.stage) (omega (arith, c.loop-unit-test.true, c.len-unit-end.ensures)), rw c.mark.ensures.kept.stage c.mark.ensures.marked))
+pub trial-requires-clause-marked : goal.trial-requires-clause-marked
+trial-requires-clause-marked c = rw c.mark.ensures.kept.stage c.mark.ensures.marked
+
+pub unmark-requires-clause-unit_exists : goal.unmark-requires-clause-unit_exists
+unmark-requires-clause-unit_exists c = rw (c.mark.ensures.kept.stage, c.loop-unit.invariant.kept.stage) (omega (arith, c.loop-unit-test.true, c.len-unit-end.ensures))
+
+pub unmark-requires-clause-marked : goal.unmark-requires-clause-marked
+unmark-requires-clause-marked c = rw c.mark.ensures.kept.stage c.mark.ensures.marked
 
 pub returns-then-not-fits_soon : goal.returns-then-not-fits_soon
-returns-then-not-fits_soon g c =
+returns-then-not-fits_soon c =
     let s = c.args.self.now.stage in
     let i = c.loop-unit.invariant in
     let e = c.trial.ensures in
@@ -31,7 +37,7 @@ returns-then-not-fits_soon g c =
     record { kept = k; sought = sought_some c.loop-unit.auto.unit h i.all_fit (rw i.kept.stage at c.mark.ensures.marked) (λ t. fits_held s h (told t) c.if-not-fits_soon.true) }
 
 pub loop-unit-preserved : goal.loop-unit-preserved
-loop-unit-preserved g c =
+loop-unit-preserved c =
     let s = c.args.self.now.stage in
     let i = c.loop-unit.invariant in
     let e = c.trial.ensures in
@@ -41,4 +47,4 @@ loop-unit-preserved g c =
     record { kept = kept_then _ k c.unmark.ensures.kept; all_fit = fit_on i.all_fit h (fits_held s h refl told); unmarked = c.unmark.ensures.unmarked }
 
 pub returns : goal.returns
-returns g c = record { kept = c.loop-unit.invariant.kept; sought = sought_none c.loop-unit.invariant.all_fit (omega (arith, c.loop-unit-test.false, c.len-unit-end.ensures)) }
+returns c = record { kept = c.loop-unit.invariant.kept; sought = sought_none c.loop-unit.invariant.all_fit (omega (arith, c.loop-unit-test.false, c.len-unit-end.ensures)) }

@@ -6,7 +6,7 @@ use Rattle.unit_check.specs.Finder.{Kept}
 use Rattle.unit_check.proofs.find.Finder.find_soon.Given as goal
 
 abbrev pub invariant-loop-unit : goal.invariant-loop-unit
-invariant-loop-unit g l =
+invariant-loop-unit l =
     let s = l.initial.self.stage in
     let h = s.chart in record {
       kept : Kept l.initial.self l.self;

@@ -3,7 +3,7 @@ use Rattle.unit_check.proofs.HeldLaws.{marking_held, marked_held}
 use Rattle.unit_check.proofs.find.Finder.mark.Goals as goal
 
 pub mark-requires-clause-marking : goal.mark-requires-clause-marking
-mark-requires-clause-marking g c = marking_held c.args.self.now.stage c.requires.unit_exists c.own-own.ensures _ c.args.self.now.marks_long
+mark-requires-clause-marking c = marking_held c.args.self.now.stage c.requires.unit_exists c.own-own.ensures _ c.args.self.now.marks_long
 
 pub returns-clause-marked : goal.returns-clause-marked
-returns-clause-marked g c = marked_held c.args.self.now.stage c.requires.unit_exists c.own-own.ensures c.mark.ensures
+returns-clause-marked c = marked_held c.args.self.now.stage c.requires.unit_exists c.own-own.ensures c.mark.ensures
