@@ -3,7 +3,6 @@ use Prim.Native.Nat.{ℕ, ◌-◌, ◌≤◌}
 use mathlib.Core.Path.{◌≡◌, refl, ap, sym, ◌∙◌}
 use mathlib.Core.Bool.{Bool, true, false, ◌&&◌}
 use mathlib.Core.List.{List}
-use lib.Dec.{ltb}
 use lib.ListN.{length, get_or, take}
 use lib.Seq.{get_or-take, length-take-le}
 use Rattle.lists.specs.Choice.{both, pick}
@@ -12,24 +11,19 @@ use Rattle.lists.proofs.ChoiceLaws.{same_truth, both_right}
 use Rattle.lists.proofs.ListLaws.{all_true, true_all, in_range, all_start, all_end}
 use Rattle.ledger.specs.Marks.{fits_of, fit_all}
 
-pub misfit_below : (t : Bool) → ltb (pick t 0 1) 1 ≡ t
-misfit_below true = refl
-misfit_below false = refl
-
--- the states: `worst` is 1 where one of the first i does not go with its mark
+-- the states: `good` is false where one of the first i does not go with its mark
 module _ (n : ℕ) (s m : List ℕ) where
   goes : ℕ → Bool
   goes e = fits_of (get_or s e 0) (get_or m e 0)
 
-  pub fits_start : both (ltb 0 1) (all (λ e. fits_of (get_or s e 0) (get_or m e 0)) (count_from 0 (n - 0))) ≡ fit_all n s m
+  pub fits_start : all (λ e. fits_of (get_or s e 0) (get_or m e 0)) (count_from 0 (n - 0)) ≡ fit_all n s m
   unfolding fit_all goes
   fits_start = all_start goes n
 
-  module _ (worst i : ℕ) where
-    pub fits_end : n ≤ i
-        → both (ltb worst 1) (all (λ e. fits_of (get_or s e 0) (get_or m e 0)) (count_from i (n - i))) ≡ fit_all n s m → ltb worst 1 ≡ fit_all n s m
+  module _ (good : Bool) (i : ℕ) where
+    pub fits_end : n ≤ i → both good (all (λ e. fits_of (get_or s e 0) (get_or m e 0)) (count_from i (n - i))) ≡ fit_all n s m → good ≡ fit_all n s m
     unfolding goes
-    fits_end h k = sym (both_right (ltb worst 1)) ∙ ap (both (ltb worst 1)) (sym (all_end goes n i h)) ∙ k
+    fits_end h k = sym (both_right good) ∙ ap (both good) (sym (all_end goes n i h)) ∙ k
 
 -- the first n states alone tell
 pub fits_front : (n : ℕ) (s m : List ℕ) → n ≤ length s → fit_all (length (take n s)) (take n s) m ≡ fit_all n s m

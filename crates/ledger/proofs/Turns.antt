@@ -12,13 +12,11 @@ use lib.ListN.{length, get_or, take, drop, set, replicate, drop_of_length-le, le
 use lib.Seq.{drop-cons, sets, take-length, get_or-take, length-take-le}
 use Rattle.std.proofs.lemmas.List.{drop-map, take-append-drop}
 use borrow.Rule.Slice.PartMut.{put_mid, mid_of, mid_len}
-use Rattle.std.specs.Prelude.{max}
 use Rattle.limits.specs.Limits.{most_borders}
 use Rattle.lists.specs.Choice.{both, pick}
 use Rattle.lists.specs.Lists.{In, all, count_from}
 use Rattle.lists.proofs.Cases.{true_or_false, not_both}
 use Rattle.lists.proofs.ChoiceLaws.{both_true, both_right}
-use Rattle.lists.proofs.GreatestLaws.{greater_rest}
 use Rattle.lists.proofs.ListLaws.{in_right, all_true, true_all, in_get_d, get_d_in, all_step}
 use Rattle.lists.proofs.SetsLaws.{part_written}
 use Rattle.lists.proofs.Bridges.{filled}
@@ -27,22 +25,21 @@ use Rattle.ledger.specs.Ledger.{Decision, decision_of, decisions, borders}
 use Rattle.ledger.specs.Books.{book, half, borders_in, names_from, names_of, state_all, clear_all}
 use Rattle.ledger.specs.Marks.{fits_of, fit_all, new_names, mark_all, Marked, Named}
 use Rattle.ledger.proofs.MarkLaws.{new_names_lem}
-use Rattle.ledger.proofs.Loops.{new_or_not, misfit_below}
+use Rattle.ledger.proofs.Loops.{new_or_not}
 use Rattle.ledger.proofs.StrokeLoops.{states_end, names_end}
 
 next_of : {A : Type 0} (l : List A) (i : ℕ) (d : A) → i < length l → drop i l ≡ get_or l i d ∷ drop (i + 1) l
 next_of l i d h = rw (add-one, drop-cons l i d h)
 
--- THE STATES AND THEIR MARKS: `worst` is 1 where one of the first i does not go with its mark
-pub fits_on : (n : ℕ) (s m : List ℕ) (worst i next : ℕ) (mis : ℕ) → i < n → mis ≡ pick (fits_of (get_or s i 0) (get_or m i 0)) 0 1 → next ≡ max worst mis
-    → both (ltb worst 1) (all (λ e. fits_of (get_or s e 0) (get_or m e 0)) (count_from i (n - i))) ≡ fit_all n s m
-    → both (ltb next 1) (all (λ e. fits_of (get_or s e 0) (get_or m e 0)) (count_from (i + 1) (n - (i + 1)))) ≡ fit_all n s m
-fits_on n s m worst i next mis h p q k =
-    let goes : ℕ → Bool = λ e. fits_of (get_or s e 0) (get_or m e 0) in
-    let rest = all goes (count_from (i + 1) (n - (i + 1))) in
-    let one : ltb mis 1 ≡ goes i = ap (λ x. ltb x 1) p ∙ misfit_below (goes i) in
-    ap (λ x. both (ltb x 1) rest) q ∙ greater_rest worst mis 1 rest ∙ ap (λ t. both (ltb worst 1) (both t rest)) one
-    ∙ ap (both (ltb worst 1)) (sym (all_step goes n i h)) ∙ k
+-- THE STATES AND THEIR MARKS: `good` is false where one of the first i does not go with its mark
+pub fits_on : (n : ℕ) (s m : List ℕ) (good : Bool) (i : ℕ) (fit : Bool) → i < n → fit ≡ fits_of (get_or s i 0) (get_or m i 0)
+    → both good (all (λ e. fits_of (get_or s e 0) (get_or m e 0)) (count_from i (n - i))) ≡ fit_all n s m
+    → both (good && fit) (all (λ e. fits_of (get_or s e 0) (get_or m e 0)) (count_from (i + 1) (n - (i + 1)))) ≡ fit_all n s m
+fits_on n s m true i fit h p k = ap (λ t. both t (all goes (count_from (i + 1) (n - (i + 1))))) p ∙ sym (all_step goes n i h) ∙ k
+  where
+    goes : ℕ → Bool
+    goes e = fits_of (get_or s e 0) (get_or m e 0)
+fits_on n s m false i fit h p k = k
 
 -- A WALK over names: the marks m after the first i names, of marks m₀ at the start, and whether these were new
 pub record Walk (l : List ℕ) (n : ℕ) (m₀ m : List ℕ) (i : ℕ) (new : Bool) : Type 0 where

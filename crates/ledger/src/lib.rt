@@ -211,16 +211,16 @@ fn mark_each(xs: &[u16], marks: &mut [u8]) -> bool
     new
 }
 
-// Whether each state goes with its mark: the worst does. The loop has one exit, so the compiler takes many elements at a time.
+// Whether each state goes with its mark. The loop has one exit, so the compiler takes many elements at a time.
 fn all_fit(states: &[u8], marks: &[u8]) -> bool
     requires { length states.now ≤ length marks.now }
     ensures { result ≡ fit_all (length states.now) states.now marks.now }
 {
-    let mut worst = 0u8;
+    let mut good = true;
     for (e, &state) in states.iter().enumerate() {
-        worst = worst.max(u8::from(!fits(state, marks[e])));
+        good &= fits(state, marks[e]);
     }
-    worst < 1
+    good
 }
 
 // Whether each border of a stroke exists.
