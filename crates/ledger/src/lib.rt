@@ -250,21 +250,16 @@ fn all_free(states: &[u8], entries: &[u16]) -> bool
     entries.iter().all(|&entry| states[border_of(entry)] == 0)
 }
 
-// Whether a state goes with a mark: 0 for undecided, 1 for a given wall, 2 for a border that the ledger names. By a `match` the compiler does
-// not take many states at a time.
+// Whether a state goes with a mark: 0 for undecided, 1 for a given wall, 2 for a border that the ledger names.
 fn fits(state: u8, mark: u8) -> bool
     ensures { result ≡ fits_of state mark }
 {
-    if mark == 0 {
-        return state == 0;
+    match (mark, state) {
+        (0, s) => s == 0,
+        (_, 2) => true,
+        (1, _) => false,
+        (_, s) => s == 1,
     }
-    if state == 2 {
-        return true;
-    }
-    if mark == 1 {
-        return false;
-    }
-    state == 1
 }
 
 // The border that a name or an entry names.

@@ -16,7 +16,7 @@ greater_below a b n =
     (λ q. let k = both_true (ltb a n) (ltb b n) q in let x = ltb-true a n k.0 in let y = ltb-true b n k.1 in lt-ltb (max a b) n (omega arith))
 
 -- the greater one and the rest
-pub greater_rest : (a b n : ℕ) (rest : Bool) → both (ltb (max a b) n) rest ≡ both (ltb a n) (both (ltb b n) rest)
+greater_rest : (a b n : ℕ) (rest : Bool) → both (ltb (max a b) n) rest ≡ both (ltb a n) (both (ltb b n) rest)
 greater_rest a b n rest = ap (λ t. both t rest) (greater_below a b n) ∙ both_assoc (ltb a n) (ltb b n) rest
 
 below_fold : (n x : ℕ) (l : List ℕ) → ltb (fold max x l) n ≡ both (ltb x n) (all (λ e. ltb e n) l)
