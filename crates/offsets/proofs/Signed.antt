@@ -1,15 +1,12 @@
--- What the machine computes for a doubled coordinate, and the number that a place is. Assumes nothing.
+-- What the machine computes for a doubled coordinate, and the sign test and cast after it. Assumes nothing.
 use Prim.Native.Nat.{ℕ, suc, zero, ◌+◌, ◌-◌, ◌*◌, ◌<◌, ◌≤◌}
 use mathlib.Core.Path.{◌≡◌, refl, ap, ap₂, sym, ◌∙◌}
-use mathlib.Core.Bool.{Bool, true, false, cond, true≢false}
-use Rattle.std.specs.Prelude.{Result, Ok, Err, Option, Some, None, ◌^◌}
-use Rattle.std.specs.Result.{OkIff, result_ok}
-use Rattle.std.specs.Option.{is_some}
-use Rattle.std.specs.Int.{FitsUnsignedBits}
+use mathlib.Core.Bool.{Bool, true, false, cond}
 use native.Mathlib.Omega.{arith}
+use borrow.Author.Tests.{ltb-true}
 use lib.Dec.{ltb}
 use lib.IntN.{ℤ, pos, negsuc, ◌+ℤ◌, ◌-ℤ◌, neg_ℤ, sub_ℕ, nat_abs}
-use lib.Signed.{mag, nat_abs-le}
+use lib.Signed.{mag, lt_z}
 use mir.Syntax.{w32}
 use mir.Val.{SFits, to_z, of_z}
 use mir.ValLaws.{to_z_pos, to_z-of_z}
@@ -83,34 +80,20 @@ module _ (at : ℕ) (ahead : ℤ) (from to : ℕ) (ha : at < 32) (hs : mag ahead
   unfolding coordinate_of place offset
   coordinate_is = to_z-of_z w32 _ sum_fits ∙ sum_is
 
--- the number that a place is, where it is one
+-- the sign test, and the cast after it
 abbrev pub Negative : ℤ → Type 0
 Negative z = (n : ℕ) × (z ≡ negsuc n)
 
-value_of : Option ℕ → ℕ
-value_of None = 0
-value_of (Some n) = n
+pub negative : (z : ℤ) → SFits w32 z → lt_z (to_z w32 (of_z w32 z)) (pos 0) ≡ true → Negative z
+negative z f t = by_cases z (rw (to_z-of_z w32 z f) at t)
+  where
+    by_cases : (q : ℤ) → lt_z q (pos 0) ≡ true → Negative q
+    by_cases (pos n) e = absurd (omega (arith, ltb-true n 0 e))
+    by_cases (negsuc n) e = (n, refl)
 
-module _ {E : Type 0} (z : ℤ) (f : SFits w32 z) (r : Result ℕ E) (k : OkIff r (FitsUnsignedBits 64 (to_z w32 (of_z w32 z))) (nat_abs (to_z w32 (of_z w32 z)))) where
-  told : OkIff r (FitsUnsignedBits 64 z) (nat_abs z)
-  told = rw (to_z-of_z w32 z f) at k
+not_negative : (z : ℤ) → lt_z z (pos 0) ≡ false → z ≡ pos (nat_abs z)
+not_negative (pos n) e = refl
+not_negative (negsuc n) e = absurd (let z : ◌≡◌ {A = ℕ} 0 1 = cc in omega arith)
 
-  small : nat_abs z < 2 ^ 64
-  small = omega (arith, nat_abs-le z f.sfits)
-
-  pub no_number : result_ok r ≡ None → Negative z
-  no_number q = go r z told q small
-    where
-      go : (r : Result ℕ E) (z : ℤ) → OkIff r (FitsUnsignedBits 64 z) (nat_abs z) → result_ok r ≡ None → nat_abs z < 2 ^ 64 → Negative z
-      go (Ok x) z k q h = absurd (let t : true ≡ false = ap is_some q in true≢false t)
-      go (Err e) (pos n) k q h = absurd (k h)
-      go (Err e) (negsuc n) k q h = (n, refl)
-
-  pub a_number : (n : ℕ) → result_ok r ≡ Some n → z ≡ pos n
-  unfolding value_of
-  a_number n q = go r z told q
-    where
-      go : (r : Result ℕ E) (z : ℤ) → OkIff r (FitsUnsignedBits 64 z) (nat_abs z) → result_ok r ≡ Some n → z ≡ pos n
-      go (Err e) z k q = absurd (let t : false ≡ true = ap is_some q in true≢false (sym t))
-      go (Ok x) (pos m) k q = ap pos (sym k.1 ∙ ap value_of q)
-      go (Ok x) (negsuc m) k q = absurd k.0
+pub cast_is : (z : ℤ) → SFits w32 z → lt_z (to_z w32 (of_z w32 z)) (pos 0) ≡ false → z ≡ pos (nat_abs (to_z w32 (of_z w32 z)))
+cast_is z f t = not_negative z (rw (to_z-of_z w32 z f) at t) ∙ ap (λ q. pos (nat_abs q)) (sym (to_z-of_z w32 z f))

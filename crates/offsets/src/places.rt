@@ -54,10 +54,13 @@ fn border_at(grid: Grid, y: usize, x: usize) -> Option<usize>
     Some(beyond.border)
 }
 
-// The border at a place, and none outside the board: a negative place is outside.
+// The border at a place, and none outside the board: a negative place is outside. One test of both signs is quicker than two conversions.
 pub fn land(grid: Grid, y: i32, x: i32) -> Option<usize>
     requires { Limits grid }
     ensures { result ≡ land_of grid y x }
 {
-    border_at(grid, usize::try_from(y).ok()?, usize::try_from(x).ok()?)
+    if y < 0 || x < 0 {
+        return None;
+    }
+    border_at(grid, y as usize, x as usize)
 }
