@@ -68,7 +68,7 @@ impl Trial<'_> {
             let Some(fallen) = shift.falls(borders.grid, spot) else {
                 return false;
             };
-            let beneath = table[fallen];
+            let beneath = &table[fallen];
             if beneath.unit == shift.unit {
                 return false;
             }

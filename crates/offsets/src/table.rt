@@ -17,8 +17,8 @@ pub struct CellInfo {
 impl CellInfo {
     // Its row and column.
     #[inline(always)]
-    pub fn spot(self) -> Spot
-        ensures { result ≡ spot_of self }
+    pub fn spot(&self) -> Spot
+        ensures { result ≡ spot_of self.now }
     {
         Spot {
             row: usize::from(self.row),
