@@ -1,17 +1,15 @@
 -- `RoomGraph::counts_below` meets its contract: `Taken` of the edges so far, one law for each way through a turn. Assumes nothing.
 use Rattle.std.proofs.Common.{ap, arith}
 use Rattle.union_find.specs.declared.UnionFind.{UnionFind}
-use Rattle.room_parts.specs.Graph.{graph_of, states_in}
 use Rattle.room_parts.proofs.CountLaws.{taken_none, join_turn, skip_turn, taken_all}
 use Rattle.room_parts.proofs.RoomGraph.counts_below.Goals.{then-state-eq1+then-join+else-left-count, else-state-eq1, else-state-eq1-via-then-state-eq1+else-join, else-state-eq1-via-else-state-eq1}
 use Rattle.room_parts.proofs.RoomGraph.counts_below.Goals as goal
 
 pub loop-i-init : goal.loop-i-init
 loop-i-init c =
-    let g = c.args.self in
     record {
       same_n = ap (λ (u : UnionFind). u.n) c.alone-union.ensures;
-      taken = taken_none (graph_of g.vertices g.us.now g.vs.now g.states.now) c.args.count (states_in g.states.now) g.lent.few_vertices
+      taken = taken_none _ _ _ c.args.self.lent.few_vertices
           (ap (λ (u : UnionFind). u.parent) c.alone-union.ensures);
     }
 
