@@ -7,5 +7,5 @@ use Rattle.room_parts.proofs.RoomGraph.tipped.Goals as goal
 
 pub returns-else-saturating_sub-count : goal.returns-else-saturating_sub-count
 returns-else-saturating_sub-count c =
-    let b = connected_least _ _ _ _ _ c.args.self.lent _ _ c.saturating_sub.ensures c.count_of.ensures in
+    let b = connected_least c.args.self.lent c.saturating_sub.ensures c.count_of.ensures in
     le-ltb _ _ c.if-saturating_sub-count.false ∙ not_tipped _ _ _ (omega (arith, b))
