@@ -10,7 +10,8 @@ ghost use Rattle.answers.specs.Refusals.{code_of, Answers};
 ghost use Rattle.ledger.specs.Ledger.{decisions, state_for};
 ghost use Rattle.ledger.specs.Books.{zeros};
 ghost use Rattle.borders.specs.Entry.{entry_of};
-ghost use Rattle.room_parts.specs.Graph.{graph_of, states_in};
+ghost use Rattle.room_parts.specs.Graph.{states_in};
+ghost use Rattle.room_parts.specs.RoomGraph.{graph_in, edge_states};
 ghost use Rattle.city_count.specs.Fault.{entries_of, room_fault};
 ghost use Rattle.city_count.specs.Room.{ends_exist, room_code, fresh_room, answer, made, make_of, room_of, stroke_of, decide_of, undo_of, ask_of};
 
@@ -176,8 +177,7 @@ fn list(states: &[u8], wall: bool, buffer: &mut [u16]) -> usize
 // The check of a graph: a fault's list goes to the buffer's front.
 fn find(graph: RoomGraph<'_>, count: usize, buffer: &mut [u16]) -> Option<usize>
     requires { length graph.states.now ≤ length buffer.old }
-    ensures { Finds (room_fault (graph_of graph.entry.vertices graph.entry.us.now graph.entry.vs.now graph.entry.states.now) count
-        (states_in graph.entry.states.now)) buffer.old buffer.new result }
+    ensures { Finds (room_fault (graph_in graph.entry) count (edge_states graph.entry)) buffer.old buffer.new result }
 {
     let wall = graph.failing(count)?;
     Some(list(graph.states, wall, buffer))

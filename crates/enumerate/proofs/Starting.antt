@@ -1,5 +1,5 @@
 -- What a search starts with and ends with, and what an accepted puzzle gives it; a law for each answer of the call. Assumes nothing.
-use Prim.Native.Nat.{ℕ, ◌*◌, ◌≤◌, ◌<◌}
+use Prim.Native.Nat.{ℕ, ◌≤◌, ◌<◌}
 use mathlib.Core.Path.{◌≡◌, refl, ap, sym, ◌∙◌}
 use mathlib.Core.Logic.{◌≢◌}
 use mathlib.Core.Bool.{Bool, true, false, not, true≢false}
@@ -98,7 +98,11 @@ module _ (p : Puzzle) (r : Ready p) where
       wall true q k = eqb-true (get_or (book_of p).states e 0) 2 k
       wall false q k = absurd (true≢false (sym q))
 
--- the states of the board that it hands out, cut off behind the last border
+-- THE CALL
+refused_by : (code n : ℕ) (boards : List (List ℕ)) (cap : ℕ) (buf : List ℕ) → code ≡ n → n ≢ 0 → (Refused n ≡ (answered code boards cap buf).answer) × (buf ≡ (answered code boards cap buf).buffer)
+refused_by code n boards cap buf q z = rw (q, ne_eqb n 0 z) (refl, refl)
+
+-- of an accepted puzzle, with the states of the board that it hands out, cut off behind the last border
 module _ (p : Puzzle) (z : 0 ≡ puzzle_code p) (b : Borders) (q : (b.grid ≡ grid_of p) × (b.states.now ≡ (book_of p).states)) {n : ℕ} (k : n ≡ border_count b.grid) where
   m : n ≡ borders_of p
   m = k ∙ ap border_count q.0
@@ -112,47 +116,32 @@ module _ (p : Puzzle) (z : 0 ≡ puzzle_code p) (b : Borders) (q : (b.grid ≡ g
   pub cut_long : n ≡ length (take n (book_of p).states)
   cut_long = sym (length-take-le n (book_of p).states cut_fits)
 
-  pub cut_is : take n (book_of p).states ≡ states_in p
+  cut_is : take n (book_of p).states ≡ states_in p
   cut_is = states_are (borders_of p) (state_at (book_of p).states) (take n (book_of p).states) (sym cut_long ∙ m) (λ e l. get_or-take n (book_of p).states e 0 (omega (arith, m)))
 
-  pub cut_started : (cap : ℕ) (buf : List ℕ) → cap * length (states_in p) ≤ length buf → Started b.grid (take n (book_of p).states) cap buf
-  cut_started cap buf long =
-      rw (q.0, cut_is)
-      (record {
-        each = each_border p;
-        ok = states_good p (ready p (sym z));
-        long = rw (each_border p) at long;
-      })
+  module _ (cap : ℕ) (buf : List ℕ) {short : ℕ} (e : short ≡ places_code (take n (book_of p).states) cap (length buf)) where
+    abbrev Answered : Boards → List ℕ → Type 0
+    Answered x buf' = (x ≡ (boards_of p cap buf).answer) × (buf' ≡ (boards_of p cap buf).buffer)
 
--- THE CALL
-refused_by : (code n : ℕ) (boards : List (List ℕ)) (cap : ℕ) (buf : List ℕ) → code ≡ n → n ≢ 0 → (Refused n ≡ (answered code boards cap buf).answer) × (buf ≡ (answered code boards cap buf).buffer)
-refused_by code n boards cap buf q z = rw (q, ne_eqb n 0 z) (refl, refl)
-
-accepted_by : (code : ℕ) (boards boards' : List (List ℕ)) (cap : ℕ) (buf buf' : List ℕ) (x : Boards) → code ≡ 0 → boards' ≡ boards
-    → (x ≡ (listing boards' cap buf).answer) × (buf' ≡ (listing boards' cap buf).buffer) → (x ≡ (answered code boards cap buf).answer) × (buf' ≡ (answered code boards cap buf).buffer)
-accepted_by code boards boards' cap buf buf' x q m e = rw (q, ← m) e
-
-module _ (p : Puzzle) (cap : ℕ) (buf : List ℕ) {code : ℕ} (q : code ≡ puzzle_code p) where
-  abbrev Answered : Boards → List ℕ → Type 0
-  Answered x buf' = (x ≡ (boards_of p cap buf).answer) × (buf' ≡ (boards_of p cap buf).buffer)
-
-  -- with the states as the code cuts them
-  module _ (z : code ≡ 0) {states : List ℕ} (m : states ≡ states_in p) {short : ℕ} (k : short ≡ places_code states cap (length buf)) where
-    places_code_lem : short ≡ places_code (states_in p) cap (length buf)
-    places_code_lem = k ∙ ap (λ s. places_code s cap (length buf)) m
+    short_is : short ≡ places_code (states_in p) cap (length buf)
+    short_is = e ∙ ap (λ s. places_code s cap (length buf)) cut_is
 
     both_codes : boards_code p cap buf ≡ short
-    both_codes = sym (second_says q z places_code_lem)
+    both_codes = sym (second_says z refl short_is)
 
     pub no_places : short ≢ 0 → Answered (Refused short) buf
     no_places y = refused_by (boards_code p cap buf) short (rights_of p) cap buf both_codes y
 
     module _ (y : short ≡ 0) where
-      pub places : cap * length (states_in p) ≤ length buf
-      places = enough_places (states_in p) cap (length buf) (sym places_code_lem ∙ y)
+      pub cut_started : Started b.grid (take n (book_of p).states) cap buf
+      cut_started =
+          rw (q.0, cut_is)
+          (record {
+            each = each_border p;
+            ok = states_good p (ready p (sym z));
+            long = rw (each_border p) at (enough_places (states_in p) cap (length buf) (sym short_is ∙ y));
+          })
 
-      pub all_listed : (x : Boards) (buf' : List ℕ)
-          → (let R = rights (grid_of p) (given_of p) (clues_of p) states in (x ≡ (listing R cap buf).answer) × (buf' ≡ (listing R cap buf).buffer)) → Answered x buf'
-      all_listed x buf' e =
-          accepted_by (boards_code p cap buf) (rights_of p) (rights (grid_of p) (given_of p) (clues_of p) states) cap buf buf' x (both_codes ∙ y)
-          (ap (rights (grid_of p) (given_of p) (clues_of p)) m) e
+      pub all_listed : {given clues : List ℕ} → (given ≡ given_of p) × (clues ≡ clues_of p) → (x : Boards) (buf' : List ℕ)
+          → (let R = rights b.grid given clues (take n (book_of p).states) in (x ≡ (listing R cap buf).answer) × (buf' ≡ (listing R cap buf).buffer)) → Answered x buf'
+      all_listed l x buf' o = rw (both_codes ∙ y) (rw (q.0, l.0, l.1, cut_is) at o)

@@ -1,6 +1,6 @@
 -- What a making accepts, and what the fresh puzzle holds. Assumes nothing.
 use Prim.Native.Nat.{ℕ, ◌≤◌, ◌<◌}
-use mathlib.Core.Path.{◌≡◌, refl, ap, sym, ◌∙◌}
+use mathlib.Core.Path.{◌≡◌, refl, ap, ◌∙◌}
 use mathlib.Core.Bool.{Bool, true, false}
 use mathlib.Core.List.{List, ◌++◌}
 use native.Mathlib.Omega.{arith}
@@ -45,11 +45,14 @@ module _ (h w : ℕ) (given clues : List ℕ) where
   code_zero n p z true q k = eqb-true n 0 q
   code_zero n p z false q k = k
 
+  pub accepted : sizes_ok (grid h w) ≡ true → lists_code (grid h w) given clues ≡ 0 → Accepted h w given clues
+  accepted p z = record { limits = limits (grid h w) p; lists = z; fit = lists_fit (grid h w) given clues z }
+
   code_accepted : make_code h w given clues ≡ 0 → Accepted h w given clues
   code_accepted = go (sizes_ok (grid h w)) refl
     where
       go : (t : Bool) → sizes_ok (grid h w) ≡ t → pick t (lists_code (grid h w) given clues) 1 ≡ 0 → Accepted h w given clues
-      go true p z = record { limits = limits (grid h w) p; lists = z; fit = lists_fit (grid h w) given clues z }
+      go true p z = accepted p z
       go false p z = absurd (omega arith)
 
   pub made_accepted : (make_of h w given clues).code ≡ 0 → Accepted h w given clues
@@ -109,11 +112,6 @@ started g given clues w few fit p z s q walls counts wq cq =
     let marks : s ≡ puts given 2 unmarked = unfold zeros unmarked in (q ∙ ap (λ (p : Puzzle). puts given 2 p.board.book.states) z) in
     rw (z, wq, cq)
     (puzzle_is g given clues _ _ _ (board_is g given s w marks) (front_written zeros given (omega (arith, few, zeros_length))) (front_written no_clues clues (omega (arith, fit, no_clues_length))))
-
-module _ (h w : ℕ) (given clues : List ℕ) where
-  module _ (ok : sizes_ok (grid h w) ≡ true) (code : ℕ) (q : code ≡ lists_code (grid h w) given clues) where
-    pub code_accepted_by : code ≡ 0 → Accepted h w given clues
-    code_accepted_by z = record { limits = limits (grid h w) ok; lists = sym q ∙ z; fit = lists_fit (grid h w) given clues (sym q ∙ z) }
 
 -- an accepted making's walls have their places
 pub walls_below : (h w : ℕ) (given clues : List ℕ) → Accepted h w given clues → Below most_borders given

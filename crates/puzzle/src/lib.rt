@@ -85,17 +85,10 @@ impl Puzzle {
     }
 
     // The same where questions 1, 3, 7, 8 and 9 accept the size and the lists; a refusal leaves the zeros.
-    fn begin(
-        &mut self,
-        height: usize,
-        width: usize,
-        given: &[u16],
-        clues: &[u16],
-    ) -> Result<(), Refusal>
+    fn begin(&mut self, grid: Grid, given: &[u16], clues: &[u16]) -> Result<(), Refusal>
         requires { self.old ≡ zero_puzzle }
-        ensures { answer (code_of result) self.new ≡ make_of height width given.now clues.now }
+        ensures { answer (code_of result) self.new ≡ make_of grid.height grid.width given.now clues.now }
     {
-        let grid = Grid { height, width };
         if !grid.is_within_limits() {
             return Err(Refusal::Size);
         }
@@ -109,7 +102,7 @@ impl Puzzle {
         ensures { made result ≡ make_of height width given.now clues.now }
     {
         let mut puzzle = Puzzle::default();
-        puzzle.begin(height, width, given, clues)?;
+        puzzle.begin(Grid { height, width }, given, clues)?;
         Ok(puzzle)
     }
 
@@ -268,6 +261,6 @@ pub fn make(height: usize, width: usize, given: &[u16], clues: &[u16]) -> Made
         code: 0,
         puzzle: Puzzle::default(),
     };
-    out.code = answers::code_of(out.puzzle.begin(height, width, given, clues));
+    out.code = answers::code_of(out.puzzle.begin(Grid { height, width }, given, clues));
     out
 }

@@ -70,14 +70,14 @@ edges_take p g s (suc m) hu hv =
     (λ (t : p (s m) ≡ false). rw t (omega (arith, w)))
     (true_or_false (p (s m)))
 
-module _ (n m : ℕ) (us vs states : List ℕ) (k : Lent n m us vs states) where
-  pub connected_least : (r c : ℕ) → r ≡ n - c → c ≡ passing (is_state 1) (states_in states) m → r ≤ parts_if is_connected (graph n m us vs) (states_in states)
+module _ {n m : ℕ} {us vs states : List ℕ} (k : Lent n m us vs states) where
+  pub connected_least : {r c : ℕ} → r ≡ n - c → c ≡ passing (is_state 1) (states_in states) m → r ≤ parts_if is_connected (graph n m us vs) (states_in states)
   unfolding parts_if
-  connected_least r c er ec = omega (arith, er, ec, edges_take is_connected (graph n m us vs) (states_in states) m k.us_exist k.vs_exist)
+  connected_least er ec = omega (arith, er, ec, edges_take is_connected (graph n m us vs) (states_in states) m k.us_exist k.vs_exist)
 
-  pub joined_least : (r w : ℕ) → r ≡ n - (m - w) → w ≡ passing (is_state 2) (states_in states) m → r ≤ parts_if not_wall (graph n m us vs) (states_in states)
+  pub joined_least : {r w : ℕ} → r ≡ n - (m - w) → w ≡ passing (is_state 2) (states_in states) m → r ≤ parts_if not_wall (graph n m us vs) (states_in states)
   unfolding parts_if
-  joined_least r w er ew =
+  joined_least er ew =
       omega (arith, er, ew, passing_rest (states_in states) m, edges_take not_wall (graph n m us vs) (states_in states) m k.us_exist k.vs_exist)
 
 -- no marked vertex begins a part of E

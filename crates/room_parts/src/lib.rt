@@ -23,21 +23,20 @@ pub struct RoomGraph<'a> {
 
 impl RoomGraph<'_> {
     ghost use Rattle.std.specs.Prelude.{ltb, get_or};
-    ghost use Rattle.room_parts.specs.Graph.{graph_of, tipped_of, joined_parts, failing_of};
+    ghost use Rattle.room_parts.specs.Graph.{tipped_of, joined_parts, failing_of};
+    ghost use Rattle.room_parts.specs.RoomGraph.{graph_in, edge_states};
 
     // Counts down from the vertices, one for each uniting Connected edge: does that go below the count? Where even one part less for
     // each Connected edge would not be below it, no edge is united.
     pub fn tipped(self, count: usize) -> bool
-        ensures { result ≡ tipped_of (graph_of self.entry.vertices self.entry.us.now self.entry.vs.now self.entry.states.now) count
-            (states_in self.entry.states.now) }
+        ensures { result ≡ tipped_of (graph_in self.entry) count (edge_states self.entry) }
     {
         self.vertices.saturating_sub(count_of(self.states, 1)) < count && self.counts_below(count)
     }
 
     // Do the parts joined without Walls outnumber the count? The walk counts them where bounds do not tell.
     pub fn outnumbers(self, count: usize) -> bool
-        ensures { result ≡ ltb count (joined_parts
-            (graph_of self.entry.vertices self.entry.us.now self.entry.vs.now self.entry.states.now) (states_in self.entry.states.now)) }
+        ensures { result ≡ ltb count (joined_parts (graph_in self.entry) (edge_states self.entry)) }
     {
         let open = self.states.len() - count_of(self.states, 2);
         if count < self.vertices.saturating_sub(open) {
@@ -48,8 +47,7 @@ impl RoomGraph<'_> {
 
     // Which side of the count fails, where one does: the Walls (true) or the Connected edges.
     pub fn failing(self, count: usize) -> Option<bool>
-        ensures { result ≡ failing_of (graph_of self.entry.vertices self.entry.us.now self.entry.vs.now self.entry.states.now) count
-            (states_in self.entry.states.now) }
+        ensures { result ≡ failing_of (graph_in self.entry) count (edge_states self.entry) }
     {
         if self.tipped(count) {
             return Some(false);
@@ -68,8 +66,7 @@ impl RoomGraph<'_> {
 
     // The countdown itself.
     fn counts_below(self, count: usize) -> bool
-        ensures { result ≡ tipped_of (graph_of self.entry.vertices self.entry.us.now self.entry.vs.now self.entry.states.now) count
-            (states_in self.entry.states.now) }
+        ensures { result ≡ tipped_of (graph_in self.entry) count (edge_states self.entry) }
     {
         let mut union = UnionFind::alone(self.vertices);
         let mut left = self.vertices;
@@ -87,8 +84,7 @@ impl RoomGraph<'_> {
 
     // How many vertices no edge but a Wall joins to an earlier vertex. Each part has one, its first: there are no more parts than that.
     fn most_parts(self) -> usize
-        ensures { joined_parts (graph_of self.entry.vertices self.entry.us.now self.entry.vs.now self.entry.states.now)
-            (states_in self.entry.states.now) ≤ result }
+        ensures { joined_parts (graph_in self.entry) (edge_states self.entry) ≤ result }
     {
         let mut marks = [0u8; CELLS];
         for (i, &state) in self.states.iter().enumerate() {
@@ -100,8 +96,7 @@ impl RoomGraph<'_> {
 
     // How many parts there are when only Walls part vertices.
     fn joined_parts(self) -> usize
-        ensures { result ≡ joined_parts (graph_of self.entry.vertices self.entry.us.now self.entry.vs.now self.entry.states.now)
-            (states_in self.entry.states.now) }
+        ensures { result ≡ joined_parts (graph_in self.entry) (edge_states self.entry) }
     {
         let mut arcs = Arcs::new();
         let mut count = 0;

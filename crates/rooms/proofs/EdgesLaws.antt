@@ -1,5 +1,5 @@
 -- The edges of a room, gone through in two looks a cell: what is left to write, written behind what is written, gives the whole. Assumes nothing.
-use Prim.Native.Nat.{ℕ, suc, ◌+◌, ◌*◌, ◌/◌, ◌%◌, ◌≤◌, ◌<◌}
+use Prim.Native.Nat.{ℕ, suc, ◌+◌, ◌-◌, ◌*◌, ◌/◌, ◌%◌, ◌≤◌, ◌<◌}
 use mathlib.Core.Path.{◌≡◌, refl, ap, ◌∙◌}
 use mathlib.Core.Logic.{◌≢◌, ⊎_elim}
 use mathlib.Core.Bool.{Bool, true, false}
@@ -36,6 +36,22 @@ module _ (g : Grid) (given : ℕ → Bool) (cs : List ℕ) where
 
   abbrev pub edge_at : ℕ → Bool
   edge_at i = in_room g given (is_in cs) (get_or cs (i / 2) 0) (way_of i)
+
+  -- a look sees an edge from c to n over e: these cells have their vertices; j is the next look
+  pub record Seen (vertex : List ℕ) (i j c n e : ℕ) : Type 0 where
+    pub lt : i < 2 * length cs
+    pub next : j ≡ i + 1
+    pub there : edge_at i ≡ true
+    pub border_is : e ≡ border_of g (spot_at i)
+    pub cell_lt : c < most_cells
+    pub from_is : get_or vertex c 0 ≡ 1 + from_of cs (spot_at i)
+    pub into_is : get_or vertex n 0 ≡ 1 + into_of g cs (spot_at i)
+
+  -- or no edge
+  pub record Unseen (i j : ℕ) : Type 0 where
+    pub lt : i < 2 * length cs
+    pub next : j ≡ i + 1
+    pub none : edge_at i ≡ false
 
   abbrev look : ℕ → List Spot
   look c = gather (spots_at g given cs c) forward
@@ -100,8 +116,8 @@ module _ (g : Grid) (given : ℕ → Bool) (cs : List ℕ) where
     pub vs_are : Writes (into_of g cs) vs₀ vs m i
     pub here_are : Writes (λ s. get_or states (border_of g s) 0) here₀ here m i
 
-  pub writing_none : (states us vs here : List ℕ) → Writing states us vs here us vs here 0 0
-  writing_none states us vs here =
+  pub writing_none : {states us vs here : List ℕ} → Writing states us vs here us vs here 0 0
+  writing_none =
       record {
         within = omega arith;
         few = omega arith;
@@ -111,29 +127,31 @@ module _ (g : Grid) (given : ℕ → Bool) (cs : List ℕ) where
         here_are = record { long = refl; are = rw rest_all };
       }
 
-  module _ (states us₀ vs₀ here₀ us vs here : List ℕ) (m i : ℕ) (w : Writing states us₀ vs₀ here₀ us vs here m i) where
-    pub writing_skip : i < 2 * length cs → in_room g given (is_in cs) (get_or cs (i / 2) 0) (way_of i) ≡ false → Writing states us₀ vs₀ here₀ us vs here m (i + 1)
-    writing_skip h q =
-        record {
-          within = omega arith;
+  module _ {states us₀ vs₀ here₀ us vs here : List ℕ} {m i : ℕ} (w : Writing states us₀ vs₀ here₀ us vs here m i) where
+    pub writing_skip : {j : ℕ} → Unseen i j → Writing states us₀ vs₀ here₀ us vs here m j
+    writing_skip o =
+        rw o.next
+        (record {
+          within = omega (arith, o.lt);
           few = omega (arith, w.few);
-          counted = omega (arith, w.counted, ap length (rest_skip i h q));
-          us_are = writes_skip (from_of cs) us₀ us m i h q w.us_are;
-          vs_are = writes_skip (into_of g cs) vs₀ vs m i h q w.vs_are;
-          here_are = writes_skip (λ s. get_or states (border_of g s) 0) here₀ here m i h q w.here_are;
-        }
+          counted = omega (arith, w.counted, ap length (rest_skip i o.lt o.none));
+          us_are = writes_skip (from_of cs) us₀ us m i o.lt o.none w.us_are;
+          vs_are = writes_skip (into_of g cs) vs₀ vs m i o.lt o.none w.vs_are;
+          here_are = writes_skip (λ s. get_or states (border_of g s) 0) here₀ here m i o.lt o.none w.here_are;
+        })
 
-    pub writing_one : i < 2 * length cs → in_room g given (is_in cs) (get_or cs (i / 2) 0) (way_of i) ≡ true → (u v k : ℕ) → u ≡ from_of cs (spot_at i) → v ≡ into_of g cs (spot_at i)
-        → k ≡ get_or states (border_of g (spot_at i)) 0 → Writing states us₀ vs₀ here₀ (set us m u) (set vs m v) (set here m k) (m + 1) (i + 1)
-    writing_one h q u v k a b c =
-        record {
-          within = omega arith;
+    pub writing_one : {vertex : List ℕ} {j c n e : ℕ} → Seen vertex i j c n e
+        → Writing states us₀ vs₀ here₀ (set us m (get_or vertex c 0 - 1)) (set vs m (get_or vertex n 0 - 1)) (set here m (get_or states e 0)) (m + 1) j
+    writing_one o =
+        rw o.next
+        (record {
+          within = omega (arith, o.lt);
           few = omega (arith, w.few);
-          counted = omega (arith, w.counted, ap length (rest_one i h q));
-          us_are = writes_one (from_of cs) us₀ us m i u h q a w.us_are;
-          vs_are = writes_one (into_of g cs) vs₀ vs m i v h q b w.vs_are;
-          here_are = writes_one (λ s. get_or states (border_of g s) 0) here₀ here m i k h q c w.here_are;
-        }
+          counted = omega (arith, w.counted, ap length (rest_one i o.lt o.there));
+          us_are = writes_one (from_of cs) us₀ us m i _ o.lt o.there (omega (arith, o.from_is)) w.us_are;
+          vs_are = writes_one (into_of g cs) vs₀ vs m i _ o.lt o.there (omega (arith, o.into_is)) w.vs_are;
+          here_are = writes_one (λ s. get_or states (border_of g s) 0) here₀ here m i _ o.lt o.there (rw o.border_is) w.here_are;
+        })
 
     pub writing_all : length cs ≤ most_cells → 2 * length cs ≤ i → Written g given states cs us₀ vs₀ here₀ us vs here m
     writing_all l h =
@@ -166,35 +184,36 @@ module _ (g : Grid) (given : ℕ → Bool) (cs : List ℕ) where
     unfolding room_entries
     left_all = rw rest_all
 
-    pub listing_none : (buffer : List ℕ) → Listing buffer buffer 0 0
-    listing_none buffer =
+    pub listing_none : {buffer : List ℕ} → Listing buffer buffer 0 0
+    listing_none =
         record { within = omega arith; few = omega arith; counted = omega (arith, ap length left_all); long = refl; are = rw left_all }
 
-    module _ (buffer₀ buffer : List ℕ) (n i : ℕ) (w : Listing buffer₀ buffer n i) where
+    module _ {buffer₀ buffer : List ℕ} {n i : ℕ} (w : Listing buffer₀ buffer n i) where
       -- nothing to write
       pass : i < 2 * length cs → left i ≡ left (i + 1) → Listing buffer₀ buffer n (i + 1)
       pass h q =
           record { within = omega arith; few = omega (arith, w.few); counted = omega (arith, w.counted, ap length q); long = w.long; are = rw q at w.are }
 
-      pub listing_skip : i < 2 * length cs → in_room g given (is_in cs) (get_or cs (i / 2) 0) (way_of i) ≡ false → Listing buffer₀ buffer n (i + 1)
-      listing_skip h q = pass h (rw (rest_skip i h q))
+      pub listing_skip : {j : ℕ} → Unseen i j → Listing buffer₀ buffer n j
+      listing_skip o = rw o.next (pass o.lt (rw (rest_skip i o.lt o.none)))
 
-      pub listing_other : i < 2 * length cs → in_room g given (is_in cs) (get_or cs (i / 2) 0) (way_of i) ≡ true → s (border_of g (spot_at i)) ≢ kind_of wall → Listing buffer₀ buffer n (i + 1)
-      unfolding gather when
-      listing_other h q z = pass h (rw (rest_one i h q, ne_eqb (s (border_of g (spot_at i))) (kind_of wall) z))
+      module _ {vertex : List ℕ} {j c d e : ℕ} (o : Seen vertex i j c d e) where
+        pub listing_other : s e ≢ kind_of wall → Listing buffer₀ buffer n j
+        unfolding gather when
+        listing_other z = rw o.next (pass o.lt (rw (rest_one i o.lt o.there, ne_eqb (s (border_of g (spot_at i))) (kind_of wall) (rw o.border_is at z))))
 
-      pub listing_one : i < 2 * length cs → in_room g given (is_in cs) (get_or cs (i / 2) 0) (way_of i) ≡ true → s (border_of g (spot_at i)) ≡ kind_of wall
-          → Listing buffer₀ (set buffer n (entry_of wall (border_of g (spot_at i)))) (n + 1) (i + 1)
-      unfolding gather when
-      listing_one h q z =
-          let one : left i ≡ entry_of wall (border_of g (spot_at i)) ∷ left (i + 1) = rw (rest_one i h q, eq-eqb (s (border_of g (spot_at i))) (kind_of wall) z) in
-          record {
-            within = omega arith;
-            few = omega (arith, w.few);
-            counted = omega (arith, w.counted, ap length one);
-            long = simp length-set w.long;
-            are = rw (add-one n) (rw one at w.are);
-          }
+        pub listing_one : s e ≡ kind_of wall → Listing buffer₀ (set buffer n (entry_of wall e)) (n + 1) j
+        unfolding gather when
+        listing_one z =
+            let one : left i ≡ entry_of wall e ∷ left (i + 1) = rw (rest_one i o.lt o.there, ← o.border_is, eq-eqb (s e) (kind_of wall) z) in
+            rw o.next
+            (record {
+              within = omega (arith, o.lt);
+              few = omega (arith, w.few);
+              counted = omega (arith, w.counted, ap length one);
+              long = simp length-set w.long;
+              are = rw (add-one n) (rw one at w.are);
+            })
 
       pub listing_all : 2 * length cs ≤ i → (n ≡ length (room_entries g given cs wall s)) × (buffer ≡ sets buffer₀ 0 (room_entries g given cs wall s))
       unfolding gather

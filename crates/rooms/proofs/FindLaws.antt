@@ -76,7 +76,7 @@ module _ (g : Grid) (marks states cs : List ℕ) (w : Housed g marks states cs) 
       rw
       (us_are, vs_are, here_are, length-map ss (λ s. get_or states (border_of g s) 0))
       (record {
-        few_vertices = few _ _ _ _ w;
+        few_vertices = few w;
         few_edges = few_edges;
         us_long = omega (arith, length-map ss (from_of cs));
         vs_long = omega (arith, length-map ss (into_of g cs));

@@ -4,7 +4,7 @@ use borrow.Author.Rules.{rules}
 use native.Mathlib.Omega.{arith}
 use Rattle.answers.specs.Refusals.{number_of}
 use Rattle.answers.proofs.RefusalLaws.{some_number}
-use Rattle.enumerate.proofs.Starting.{no_places, places, all_listed, cut_fits, cut_long, cut_is, cut_started}
+use Rattle.enumerate.proofs.Starting.{no_places, all_listed, cut_fits, cut_long, cut_started}
 use Rattle.enumerate.specs.Boards.{answer_in}
 use Rattle.enumerate.specs.Boards.{Refused}
 use Rattle.enumerate.proofs.list_right_boards.Goals as goal
@@ -17,26 +17,17 @@ slice_bounds-states-end-2 c = let b = c.clued_board-board in cut_long c.args.p.n
 
 pub returns-in_err-check_places : goal.returns-in_err-check_places
 returns-in_err-check_places c =
-    let p = c.args.p.now in
     let b = c.clued_board-board in
-    let cut = cut_is p c.in_ok-check.ensures b.result.borders b.ensures.borders c.border_count.ensures in
     let said : answer_in c.from_residual-in_err-check_places.result ≡ Refused (number_of c.in_err-check_places.field-0.0) = search rules in
-    let w = no_places p c.args.cap c.args.buffer.now c.in_ok-check.ensures refl cut c.in_err-check_places.ensures (λ q. omega (arith, some_number c.in_err-check_places.field-0.0, q)) in
+    let w = no_places c.args.p.now c.in_ok-check.ensures b.result.borders b.ensures.borders c.border_count.ensures c.args.cap c.args.buffer.now c.in_err-check_places.ensures (λ q. omega (arith, some_number c.in_err-check_places.field-0.0, q)) in
     record { value = said ∙ w.0; buffer_after = w.1 }
 
 pub search-requires : goal.search-requires
 search-requires c =
-    let p = c.args.p.now in
-    let b = c.clued_board-board in
-    let cut = cut_is p c.in_ok-check.ensures b.result.borders b.ensures.borders c.border_count.ensures in
-    cut_started p c.in_ok-check.ensures b.result.borders b.ensures.borders c.border_count.ensures c.args.cap c.args.buffer.now
-    (places p c.args.cap c.args.buffer.now c.in_ok-check.ensures refl cut c.in_ok-check_places.ensures refl)
+    let b = c.clued_board-board in cut_started c.args.p.now c.in_ok-check.ensures b.result.borders b.ensures.borders c.border_count.ensures c.args.cap c.args.buffer.now c.in_ok-check_places.ensures refl
 
 pub returns : goal.returns
 returns c =
-    let p = c.args.p.now in
     let b = c.clued_board-board in
-    let e = b.ensures in
-    let cut = cut_is p c.in_ok-check.ensures b.result.borders e.borders c.border_count.ensures in
-    let w = all_listed p c.args.cap c.args.buffer.now c.in_ok-check.ensures refl cut c.in_ok-check_places.ensures refl _ _ (rw (← e.borders.0, ← e.lists.0, ← e.lists.1) (c.search.ensures.value, c.search.ensures.boards_after)) in
+    let w = all_listed c.args.p.now c.in_ok-check.ensures b.result.borders b.ensures.borders c.border_count.ensures c.args.cap c.args.buffer.now c.in_ok-check_places.ensures refl b.ensures.lists _ _ (c.search.ensures.value, c.search.ensures.boards_after) in
     record { value = w.0; buffer_after = w.1 }

@@ -9,4 +9,4 @@ overflow_sub-open c = omega (arith, passing_le (is_state 2) (states_in c.args.se
 
 pub returns-then-count-saturating_sub : goal.returns-then-count-saturating_sub
 returns-then-count-saturating_sub c =
-    above_least _ _ c.if-count-saturating_sub.true (joined_least _ _ _ _ _ c.args.self.lent _ _ c.saturating_sub.ensures c.count_of.ensures)
+    above_least _ _ c.if-count-saturating_sub.true (joined_least c.args.self.lent c.saturating_sub.ensures c.count_of.ensures)

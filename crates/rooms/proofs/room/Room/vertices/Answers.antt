@@ -13,7 +13,7 @@ loop-i-init c = record { long = nowhere_length; written = refl }
 
 pub bounds-vertices-from : goal.bounds-vertices-from
 bounds-vertices-from c =
-    rw c.from.ensures (cells_below _ _ _ _ c.args.self.housed (get_or c.args.self.cells.now c.loop-i.i 0) (get_d_in 0 c.args.self.cells.now c.loop-i.i c.loop-i-test.true))
+    rw c.from.ensures (cells_below c.args.self.housed (get_or c.args.self.cells.now c.loop-i.i 0) (get_d_in 0 c.args.self.cells.now c.loop-i.i c.loop-i-test.true))
 
 pub loop-i-preserved : goal.loop-i-preserved
 loop-i-preserved c = record {
