@@ -27,9 +27,7 @@ impl<'a> Stage<'a> {
         requires unit_exists { unit < length self.units.starts.now }
         requires marks_long { length self.potentials.starts.now ≤ length marks.now }
         requires marked { MarkedFor self.chart.borders.grid self.chart.borders.states.now self.chart.table.now unit marks.now }
-        ensures grid_is { result.unit.chart.borders.grid ≡ self.entry.chart.borders.grid }
-        ensures states_are { result.unit.chart.borders.states.now ≡ self.entry.chart.borders.states.now }
-        ensures table_is { result.unit.chart.table.now ≡ self.entry.chart.table.now }
+        ensures chart_is { result.unit.chart ≡ self.entry.chart }
         ensures cells_are { result.unit.cells.now ≡ unit_cells self.entry.chart.borders.grid self.entry.chart.table.now unit }
     {
         let cells = self.units.cells(unit);
@@ -78,9 +76,7 @@ impl Finder<'_, '_> {
     pub fn trial(&self, unit: usize) -> Trial<'_>
         requires unit_exists { unit < length self.now.stage.units.starts.now }
         requires marked { MarkedFor self.now.stage.chart.borders.grid self.now.stage.chart.borders.states.now self.now.stage.chart.table.now unit self.now.marks.now }
-        ensures grid_is { result.unit.chart.borders.grid ≡ self.now.stage.chart.borders.grid }
-        ensures states_are { result.unit.chart.borders.states.now ≡ self.now.stage.chart.borders.states.now }
-        ensures table_is { result.unit.chart.table.now ≡ self.now.stage.chart.table.now }
+        ensures chart_is { result.unit.chart ≡ self.now.stage.chart }
         ensures cells_are { result.unit.cells.now ≡ unit_cells self.now.stage.chart.borders.grid self.now.stage.chart.table.now unit }
     {
         self.stage.trial(unit, &*self.marks)

@@ -10,7 +10,7 @@ append-requires c =
     let r = c.requires in
     let e = c.trial.ensures in
     let o = c.of.ensures in
-    rw (o.borders_are, o.ids_are, o.potential_is, o.number_is) (unit_fits s.finding s.chart.borders.fits s.chart.table_of s.units.turns s.potentials.turns r.unit_exists c.args.self.now.marks_long r.marked refl r.enough (rw (e.grid_is, e.states_are, e.table_is, e.cells_are) at c.write_landings.ensures))
+    rw (o.borders_are, o.ids_are, o.potential_is, o.number_is) (unit_fits s.finding s.chart.borders.fits s.chart.table_of s.units.turns s.potentials.turns r.unit_exists c.args.self.now.marks_long r.marked refl r.enough (rw (e.chart_is, e.cells_are) at c.write_landings.ensures))
 
 pub append_near-requires : goal.append_near-requires
 append_near-requires c =
@@ -18,7 +18,7 @@ append_near-requires c =
     let r = c.requires in
     let e = c.trial.ensures in
     let o = c.of.ensures in
-    near_fits s.finding s.chart.borders.fits s.chart.table_of s.units.turns s.potentials.turns r.unit_exists c.args.self.now.marks_long r.marked refl r.enough (rw (e.grid_is, e.states_are, e.table_is, e.cells_are) at c.write_landings.ensures) (rw (o.borders_are, o.ids_are, o.potential_is, o.number_is) at c.append.ensures)
+    near_fits s.finding s.chart.borders.fits s.chart.table_of s.units.turns s.potentials.turns r.unit_exists c.args.self.now.marks_long r.marked refl r.enough (rw (e.chart_is, e.cells_are) at c.write_landings.ensures) (rw (o.borders_are, o.ids_are, o.potential_is, o.number_is) at c.append.ensures)
 
 pub returns : goal.returns
 returns c =
@@ -26,5 +26,5 @@ returns c =
     let r = c.requires in
     let e = c.trial.ensures in
     let o = c.of.ensures in
-    let w = unit_written s.finding s.chart.borders.fits s.chart.table_of s.units.turns s.potentials.turns r.unit_exists c.args.self.now.marks_long r.marked refl r.enough (rw (e.grid_is, e.states_are, e.table_is, e.cells_are) at c.write_landings.ensures) (rw (o.borders_are, o.ids_are, o.potential_is, o.number_is) at c.append.ensures) c.append_near.ensures in
+    let w = unit_written s.finding s.chart.borders.fits s.chart.table_of s.units.turns s.potentials.turns r.unit_exists c.args.self.now.marks_long r.marked refl r.enough (rw (e.chart_is, e.cells_are) at c.write_landings.ensures) (rw (o.borders_are, o.ids_are, o.potential_is, o.number_is) at c.append.ensures) c.append_near.ensures in
     record { place = w.appended.place; stored = search rules }
