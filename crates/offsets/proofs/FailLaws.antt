@@ -2,7 +2,7 @@
 use Prim.Native.Nat.{ℕ, ◌+◌, ◌≤◌, ◌<◌}
 use mathlib.Core.Path.{◌≡◌, refl, ap, sym, ◌∙◌}
 use mathlib.Core.List.{List}
-use mathlib.Core.Option.{Option, none, some}
+use mathlib.Core.Option.{Option}
 use lib.ListN.{get_or, length, drop}
 use Rattle.std.specs.Prelude as std
 use Rattle.lists.specs.Choice.{or_else}
@@ -33,14 +33,3 @@ module _ {A : Type 0} (f : A → Option ℕ) (xs : List A) where
     pub missed_more : r ≡ std.None → Missed (i + 1)
     unfolding or_else
     missed_more k = record { rest = rw (told_none (f (get_or xs i d)) (sym answer ∙ k)) at next }
-
-  -- the last of them
-  pub missed_last : {i : ℕ} → Missed i → i < length xs → length xs ≤ i + 1 → (d : A) {r : std.Option ℕ} → r ≡ told (f (get_or xs i d)) → r ≡ told (first f xs)
-  missed_last {i} m h l d answer = answer ∙ ap told (sym one ∙ m.rest)
-    where
-      alone : (o : Option ℕ) → or_else o none ≡ o
-      alone none = unfold or_else in refl
-      alone (some e) = unfold or_else in refl
-
-      one : first f (drop i xs) ≡ f (get_or xs i d)
-      one = first_turn f xs i d h ∙ ap (or_else (f (get_or xs i d))) (first_end f xs (i + 1) l) ∙ alone (f (get_or xs i d))

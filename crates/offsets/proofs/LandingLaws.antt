@@ -54,6 +54,16 @@ module _ (g : Grid) (d : Direction) (c : ℕ) where
       go false p q = p
 
 -- whether a border must land well
+-- what lies beyond a cell's border
+module _ (g : Grid) (d : Direction) (c : ℕ) {n : Neighbour} (h : Cell g c) (b : (goes_on g d c ≡ true) × (n.cell ≡ next g d c) × (n.border ≡ border g d c)) where
+  pub seen_cell : Cell g n.cell
+  seen_cell = rw b.1 (goes_step g d c h b.0).cell'
+
+  pub seen_border : {states : List ℕ} → Fits g states → n.border < length states
+  seen_border fits =
+      let j : n.border < border_count g = rw b.2 (border_lt g d c (next g d c) (border g d c) (goes_step g d c h b.0)) in
+      omega (arith, fits.borders)
+
 module _ (g : Grid) (states : List ℕ) (table : List CellInfo) (inner : Bool) (unit c : ℕ) (d : Direction) where
   pub kept_end : goes_on g d c ≡ false → not inner ≡ kept_of g states (units_in g table) inner unit c d
   unfolding kept_of
@@ -63,18 +73,10 @@ module _ (g : Grid) (states : List ℕ) (table : List CellInfo) (inner : Bool) (
       go true = rw q
       go false = rw q
 
-  module _ {n : Neighbour} (fits : Fits g states) (h : Cell g c) (b : (goes_on g d c ≡ true) × (n.cell ≡ next g d c) × (n.border ≡ border g d c)) where
-    pub seen_cell : Cell g n.cell
-    seen_cell = rw b.1 (goes_step g d c h b.0).cell'
-
-    pub seen_border : n.border < length states
-    seen_border =
-        let j : n.border < border_count g = rw b.2 (border_lt g d c (next g d c) (border g d c) (goes_step g d c h b.0)) in
-        omega (arith, fits.borders)
-
+  module _ {n : Neighbour} (h : Cell g c) (b : (goes_on g d c ≡ true) × (n.cell ≡ next g d c) × (n.border ≡ border g d c)) where
     pub kept_inner : inner ≡ true → eqb (unit_in table n.cell) unit ≡ kept_of g states (units_in g table) inner unit c d
     unfolding kept_of
-    kept_inner q = ap (λ u. eqb u unit) (sym (unit_at_lem g table n.cell seen_cell)) ∙ (rw (q, b.0, b.1))
+    kept_inner q = ap (λ u. eqb u unit) (sym (unit_at_lem g table n.cell (seen_cell g d c h b))) ∙ (rw (q, b.0, b.1))
 
     pub kept_shut : inner ≡ false → eqb (get_or states n.border 0) 2 ≡ kept_of g states (units_in g table) inner unit c d
     unfolding kept_of state_at

@@ -13,7 +13,7 @@ use Rattle.std.specs.Option.{is_some}
 use Rattle.lists.specs.Choice.{both, either, give, or_else, holds, through}
 use Rattle.lists.specs.Lists.{In, all, any, first}
 use Rattle.lists.proofs.ChoiceLaws.{both_true, holds_true}
-use Rattle.lists.proofs.ListLaws.{all_true}
+use Rattle.lists.proofs.ListLaws.{all_true, get_d_in}
 use Rattle.grid.specs.declared.Direction.{Direction}
 use Rattle.grid.specs.Orders.{around, forward}
 use Rattle.grid.specs.declared.Grid.{Grid}
@@ -60,16 +60,12 @@ module _ {g : Grid} {table : List CellInfo} {cs : List ℕ} (u : Unit g table cs
   pub head_cell : Cell g (head_or0 cs)
   head_cell = unit_cell (head_or0 cs) (head_in cs u.some)
 
-  pub first_cell_of : {f' : ℕ} → f' ≡ get_or cs 0 0 → Cell g f'
-  first_cell_of q = rw (q ∙ head_at cs) head_cell
+  pub cell_of : {i c : ℕ} → i < length cs → c ≡ get_or cs i 0 → Cell g c
+  cell_of {i} {c} h q = unit_cell c (rw q (get_d_in 0 cs i h))
 
-  pub shift_is : {f' t k : ℕ} {a b : Spot} → f' ≡ get_or cs 0 0 → Cell g t → k ≡ unit_in table f' → a ≡ spot_of (get_or table f' blank) → b ≡ spot_of (get_or table t blank)
-      → ◌≡◌ {A = Shift} (record { unit = k; from = a; to = b }) (shift_of g (unit_in table (head_or0 cs)) (head_or0 cs) t)
-  shift_is {f'} {t} {k} {a} {b} first_is to_cell e x y =
-      let w : f' ≡ head_or0 cs = first_is ∙ head_at cs in
-      let e' : k ≡ unit_in table (head_or0 cs) = e ∙ ap (unit_in table) w in
-      let x' : a ≡ spot g (head_or0 cs) = x ∙ ap (λ c. spot_of (get_or table c blank)) w ∙ spot_at u.table_of (head_or0 cs) head_cell in
-      rw (e', x', y ∙ spot_at u.table_of t to_cell)
+  pub shift_is : {i : CellInfo} {t : ℕ} {a b : Spot} → i ≡ get_or table (head_or0 cs) blank → Cell g t → a ≡ spot_of i → b ≡ spot_of (get_or table t blank)
+      → ◌≡◌ {A = Shift} (record { unit = i.unit; from = a; to = b }) (shift_of g (unit_in table (head_or0 cs)) (head_or0 cs) t)
+  shift_is {t} e to_cell x y = rw (x, e, spot_at u.table_of (head_or0 cs) head_cell, y ∙ spot_at u.table_of t to_cell)
 
 pub unit_of_lem : {g : Grid} {states : List ℕ} {table : List CellInfo} {marks cs : List ℕ} → Placed g states table marks cs → Unit g table cs
 unit_of_lem p = record { limits = p.limits; table_of = p.table_of; some = p.some; cells_are = p.cells_are }

@@ -33,7 +33,7 @@ impl UnitCells<'_> {
         requires { Cell self.chart.borders.grid to }
         ensures { result ≡ shift_of self.entry.chart.borders.grid (unit_in self.entry.chart.table.now (head_or0 self.entry.cells.now)) (head_or0 self.entry.cells.now) to }
     {
-        let first = self.chart.table[usize::from(self.cells[0])];
+        let first = self.first();
         Shift {
             unit: first.unit,
             from: first.spot(),

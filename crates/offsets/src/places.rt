@@ -55,12 +55,12 @@ fn border_at(grid: Grid, y: usize, x: usize) -> Option<usize>
 }
 
 // The border at a place, and none outside the board: a negative place is outside. One test of both signs is quicker than two conversions.
-pub fn land(grid: Grid, y: i32, x: i32) -> Option<usize>
+pub fn land(grid: Grid, place: Place) -> Option<usize>
     requires { Limits grid }
-    ensures { result ≡ land_of grid y x }
+    ensures { result ≡ land_of grid place.y place.x }
 {
-    if y < 0 || x < 0 {
+    if place.y < 0 || place.x < 0 {
         return None;
     }
-    border_at(grid, y as usize, x as usize)
+    border_at(grid, place.y as usize, place.x as usize)
 }

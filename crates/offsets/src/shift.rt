@@ -5,7 +5,7 @@ ghost use Rattle.offsets.specs.Told.{told};
 ghost use Rattle.offsets.specs.Reach.{Bounded, Small, moved};
 ghost use Rattle.offsets.specs.Landings.{landing_of};
 
-use crate::places;
+use crate::places::{self, Place};
 use crate::spot::Spot;
 use grid::{Direction, Grid};
 
@@ -45,6 +45,6 @@ impl Shift {
         let ahead = places::ahead(direction);
         let y = places::coordinate(spot.row, ahead.y, self.from.row, self.to.row);
         let x = places::coordinate(spot.col, ahead.x, self.from.col, self.to.col);
-        places::land(grid, y, x)
+        places::land(grid, Place { y, x })
     }
 }

@@ -1,5 +1,5 @@
 -- A unit whose codes are written: what its trials are handed. Assumes nothing.
-use Prim.Native.Nat.{ℕ, ◌+◌, ◌-◌, ◌*◌, ◌%◌, ◌≤◌, ◌<◌}
+use Prim.Native.Nat.{ℕ, ◌+◌, ◌-◌, ◌*◌, ◌%◌, ◌≤◌}
 use mathlib.Core.Path.{◌≡◌, ap, ◌∙◌}
 use mathlib.Core.List.{List}
 use native.Mathlib.Omega.{arith}
@@ -10,13 +10,13 @@ use Rattle.lists.specs.Lists.{In, all}
 use Rattle.lists.proofs.ListLaws.{get_d_in}
 use Rattle.lists.proofs.SetsLaws.{front}
 use Rattle.grid.specs.declared.Grid.{Grid}
-use Rattle.grid.specs.Grid.{Cell, row}
+use Rattle.grid.specs.Grid.{row}
 use Rattle.boundary.specs.Appended.{Appended}
 use Rattle.shape.specs.Shape.{head_or0}
 use Rattle.offsets.specs.declared.table.CellInfo.{CellInfo}
-use Rattle.offsets.specs.Table.{row_in, unit_in, units_in}
+use Rattle.offsets.specs.Table.{blank, unit_in, units_in}
 use Rattle.offsets.specs.Trial.{Unit}
-use Rattle.offsets.proofs.TrialLaws.{head_in, head_at, unit_cell}
+use Rattle.offsets.proofs.TrialLaws.{head_in}
 use Rattle.words.specs.Words.{bit}
 use Rattle.unit_codes.specs.Codes.{cell_codes, border_codes}
 use Rattle.unit_codes.proofs.SpanLaws.{between}
@@ -33,38 +33,33 @@ written {b} {xs} {b'} {n} a h =
     (rw (e, a.stored) (front b xs h), omega arith)
 
 module _ {g : Grid} {table : List CellInfo} {cs : List ℕ} (u : Unit g table cs) where
-  last_small : length cs - 1 < length cs
-  last_small = omega (arith, u.some)
+  -- the last cell
+  abbrev end : ℕ
+  end = get_or cs (length cs - 1) 0
 
-  -- the first and the last cell
-  module _ {first last : ℕ} (first_is : first ≡ get_or cs 0 0) (last_is : last ≡ get_or cs (length cs - 1) 0) where
-    first_head : first ≡ head_or0 cs
-    first_head = first_is ∙ head_at cs
+  end_in : In end cs
+  end_in = get_d_in 0 cs (length cs - 1) (omega (arith, u.some))
 
-    last_in : In last cs
-    last_in = rw last_is (get_d_in 0 cs (length cs - 1) last_small)
+  -- the rows of the unit's cells
+  rows : (c : ℕ) → In c cs → (row g (head_or0 cs) ≤ row g c) × (row g c ≤ row g end)
+  rows c m =
+      let e = u.cells_are in
+      let b = between g (units_in g table) (unit_in table (head_or0 cs)) c (omega (arith, u.limits.wide)) (rw e at m) in
+      (rw (← e) at b.0, rw (← e) at b.1)
 
-    pub last_cell : Cell g last
-    last_cell = unit_cell u last last_in
+  -- what the table has of the first and the last cell
+  module _ {first last : CellInfo} (first_is : first ≡ get_or table (head_or0 cs) blank) (last_is : last ≡ get_or table end blank) where
+    pub first_row : first.row ≡ row g (head_or0 cs)
+    first_row = ap (λ (i : CellInfo). i.row) first_is ∙ row_is u (head_or0 cs) (head_in cs u.some)
 
-    -- the rows of the unit's cells
-    pub first_row : row_in table first ≡ row g (head_or0 cs)
-    first_row = ap (row_in table) first_head ∙ row_is u (head_or0 cs) (head_in cs u.some)
+    last_row : last.row ≡ row g end
+    last_row = ap (λ (i : CellInfo). i.row) last_is ∙ row_is u end end_in
 
-    last_row : row_in table last ≡ row g last
-    last_row = row_is u last last_in
+    pub last_after : first.row ≤ last.row
+    last_after = omega (arith, first_row, last_row, (rows end end_in).0)
 
-    rows : (c : ℕ) → In c cs → (row g (head_or0 cs) ≤ row g c) × (row g c ≤ row g last)
-    rows c m =
-        let e = u.cells_are in
-        let b = between g (units_in g table) (unit_in table (head_or0 cs)) c (omega (arith, u.limits.wide)) (rw e at m) in
-        (rw (← e) at b.0, rw (last_is) (rw (← e) at b.1))
-
-    pub last_after : row_in table first ≤ row_in table last
-    last_after = omega (arith, first_row, last_row, (rows last last_in).0)
-
-    pub ends : {tall : ℕ} → tall ≡ row_in table last - row_in table first → Ends g cs tall
-    ends t = record { last = last; last_in = last_in; last_is = omega (arith, t, first_row, last_row, (rows last last_in).0) }
+    pub ends : {tall : ℕ} → tall ≡ last.row - first.row → Ends g cs tall
+    ends t = record { last = end; last_in = end_in; last_is = omega (arith, t, first_row, last_row, (rows end end_in).0) }
 
     pub coded : {states : List ℕ} {full : ℕ} {words : List ℕ} {codes codes' borders borders' inside : List ℕ} {on count more tall : ℕ}
         → Asking g states cs full words (length codes) (length borders)
@@ -72,7 +67,7 @@ module _ {g : Grid} {table : List CellInfo} {cs : List ℕ} (u : Unit g table cs
         → Appended borders 0 (border_codes g states table cs) borders' more
         → Inside g (units_in g table) (unit_in table (head_or0 cs)) inside
         → ((x : ℕ) → bit on x ≡ both (bit full (x + 32)) (all (λ e. bit full (x + e % 64)) (take count codes')))
-        → tall ≡ row_in table last - row_in table first
+        → tall ≡ last.row - first.row
         → CodedUnit g states table cs (take count codes') (take more borders') full words inside on tall
     coded {states} k a b i on_is t =
         let c = written a (omega (arith, cells_most g cs, k.codes_long)) in

@@ -1,15 +1,16 @@
 -- The rows of a unit's trials in turn: one turn, and the end. Assumes nothing.
 use Prim.Native.Nat.{ℕ, ◌+◌, ◌-◌, ◌≤◌, ◌<◌}
-use mathlib.Core.Path.{◌≡◌, refl, sym, ◌∙◌}
+use mathlib.Core.Path.{◌≡◌, refl, sym, ap, ◌∙◌}
 use mathlib.Core.Bool.{Bool, true, false}
 use mathlib.Core.List.{List}
 use native.Mathlib.Omega.{arith}
+use lib.ListN.{get_or}
 use Rattle.lists.specs.Choice.{either}
 use Rattle.lists.specs.Lists.{any, count_from}
 use Rattle.lists.proofs.ListLaws.{count_from_step, count_from_end}
 use Rattle.grid.specs.declared.Grid.{Grid}
 use Rattle.offsets.specs.declared.table.CellInfo.{CellInfo}
-use Rattle.offsets.specs.Table.{potential_in, potentials_in}
+use Rattle.offsets.specs.Table.{blank, potential_in, potentials_in}
 use Rattle.offsets.specs.Trial.{Placed}
 use Rattle.shape.specs.Shape.{head_or0}
 use Rattle.cell_words.specs.declared.Near.{Near}
@@ -50,16 +51,19 @@ module _ {g : Grid} {states : List ℕ} {table : List CellInfo} {cs : List ℕ} 
           → RowsWalk g states table cs from to near₀ near' (t + 1)
       rows_turn s e q = record { rest = (rw (sym e ∙ q) at left); held = record { stamped = s.stamped; same = same_then w.held.same s.same } }
 
--- the unit's potential unit has its marks; and the rows on which it falls have their words once they are stamped
-pub stamping : {g : Grid} {states : List ℕ} {table : List CellInfo} {marks cs : List ℕ} → Placed g states table marks cs → {own : ℕ} → own ≡ potential_in table (head_or0 cs)
-    → Stamping g states table marks own
-stamping p e = record { marks_long = p.marks_long; marked = rw e p.marked }
+own_is : (table : List CellInfo) (cs : List ℕ) {first : CellInfo} → first ≡ get_or table (head_or0 cs) blank → first.potential ≡ potential_in table (head_or0 cs)
+own_is table cs e = ap (λ (i : CellInfo). i.potential) e
 
-pub near_rows : {g : Grid} {states : List ℕ} {table : List CellInfo} {cs : List ℕ} {own t tall : ℕ} → own ≡ potential_in table (head_or0 cs) → t + tall < g.height
-    → {near near' : Near} → Restamped g states (potentials_in g table) own t (t + tall + 1) near near' → NearRows g states table cs t tall near'.words.now
-near_rows {own = own} {t = t} e h {near' = near'} s =
-    record {
-      high = h;
-      long = s.stamped.words_long;
-      says = λ y a b. rw e at (s.stamped.says y own (omega arith) (s.here y a (omega arith)));
-    }
+-- the unit's potential unit has its marks; and the rows on which it falls have their words once they are stamped
+module _ {g : Grid} {states : List ℕ} {table : List CellInfo} {cs : List ℕ} {first : CellInfo} (e : first ≡ get_or table (head_or0 cs) blank) where
+  pub stamping : {marks : List ℕ} → Placed g states table marks cs → Stamping g states table marks first.potential
+  stamping p = record { marks_long = p.marks_long; marked = rw (own_is table cs e) p.marked }
+
+  pub near_rows : {t to tall : ℕ} → t < to → to + tall ≤ g.height → {near near' : Near} → Restamped g states (potentials_in g table) first.potential t (t + tall + 1) near near'
+      → NearRows g states table cs t tall near'.words.now
+  near_rows {t} h k {near' = near'} s =
+      record {
+        high = omega (arith, k);
+        long = s.stamped.words_long;
+        says = λ y a b. rw (own_is table cs e) at (s.stamped.says y first.potential (omega arith) (s.here y a (omega arith)));
+      }

@@ -47,13 +47,12 @@ impl Coded<'_> {
         ensures held { Held self.now.trial.unit.chart.borders.grid self.now.trial.unit.chart.borders.states.now (potentials_in self.now.trial.unit.chart.borders.grid self.now.trial.unit.chart.table.now) near.old near.new }
     {
         let unit = self.trial.unit;
-        let table = unit.chart.table;
         let marked = Marked {
             grid: unit.chart.borders.grid,
             states: unit.chart.borders.states,
-            table,
+            table: unit.chart.table,
             marks: self.trial.marks,
-            own: table[usize::from(unit.cells[0])].potential,
+            own: unit.first().potential,
         };
         for t in from..to {
             near.stamp_rows(marked, t, t + self.tall + 1);
@@ -98,8 +97,8 @@ pub fn fits(
         table,
         ..
     } = chart;
-    let first = table[usize::from(cells[0])].row;
-    let last = table[usize::from(cells[cells.len() - 1])].row;
+    let first = trial.unit.first().row;
+    let last = trial.unit.last().row;
     let count = unit_codes::write_cells(board.grid, table, cells, codes);
     let more = unit_codes::write_borders(trial.unit, borders);
     let mut inside = [0; 32];

@@ -1,6 +1,6 @@
 -- The places at which a unit is tried by itself, in turn: on a small board these are all, so that where none is good it fits nowhere. Assumes nothing.
 use Prim.Native.Nat.{ℕ, ◌+◌, ◌-◌, ◌*◌, ◌≤◌, ◌<◌}
-use mathlib.Core.Path.{◌≡◌, refl, sym, ◌∙◌}
+use mathlib.Core.Path.{◌≡◌, refl, sym, ap, ◌∙◌}
 use mathlib.Core.Logic.{◌≢◌, ⊎_elim}
 use mathlib.Core.Bool.{Bool, true, false}
 use mathlib.Core.List.{List}
@@ -20,8 +20,9 @@ use Rattle.grid.proofs.Geometry.{cells_le}
 use Rattle.boundary.proofs.BoundaryLaws.{cells_most}
 use Rattle.shape.specs.Shape.{head_or0, is_good, fits}
 use Rattle.offsets.specs.declared.table.CellInfo.{CellInfo}
-use Rattle.offsets.specs.Table.{row_in, col_in, unit_in, units_in}
+use Rattle.offsets.specs.Table.{blank, unit_in, units_in}
 use Rattle.offsets.specs.Trial.{tried_at, fits_at, Unit}
+use Rattle.offsets.proofs.TrialLaws.{head_at}
 use Rattle.cell_words.proofs.OwnLaws.{own_row, own_col}
 use Rattle.unit_check.specs.Find.{tries_all}
 
@@ -32,11 +33,11 @@ some_few {g} {table} {cs} u =
     (u.some, omega (arith, k, cells_le g u.limits))
 
 -- what is read of the cell under a unit is small
-pub under_small : {g : Grid} {table : List CellInfo} {cs : List ℕ} → Unit g table cs → {f l y x : ℕ} → f ≡ get_or cs 0 0 → l ≡ get_or cs (length cs - 1) 0 → y ≡ row_in table l → x ≡ col_in table f
+pub under_small : {g : Grid} {table : List CellInfo} {cs : List ℕ} → Unit g table cs → {first last : CellInfo} {y x : ℕ} → first ≡ get_or table (head_or0 cs) blank → last ≡ get_or table (get_or cs (length cs - 1) 0) blank → y ≡ last.row → x ≡ first.col
     → (y < 32) × ((y + 1) * g.width ≤ 1056) × (x < 32)
-under_small {g} {table} {cs} u {y = y} f-is l-is y-is x-is =
-    let r = (own_row u (omega (arith, u.some)) l-is y-is (le_refl g.height) refl).0 in
-    (r, omega (arith, mul-le-mul (let k : y + 1 ≤ 33 = omega (arith, r) in k) u.limits.width_fits), own_col u u.some f-is x-is)
+under_small {g} {table} {cs} u {y = y} first-is last-is y-is x-is =
+    let r = (own_row u (omega (arith, u.some)) refl (y-is ∙ ap (λ (i : CellInfo). i.row) last-is) (le_refl g.height) refl).0 in
+    (r, omega (arith, mul-le-mul (let k : y + 1 ≤ 33 = omega (arith, r) in k) u.limits.width_fits), own_col u u.some (sym (head_at cs)) (x-is ∙ ap (λ (i : CellInfo). i.col) first-is))
 
 module _ (g : Grid) (states : List ℕ) (table : List CellInfo) (cs : List ℕ) where
   -- the offset of a place is good, where there is such a place

@@ -15,8 +15,6 @@ use Rattle.lists.proofs.ListLaws.{in_range}
 use Rattle.borders.proofs.Congruence.{gather_same}
 use Rattle.grid.specs.declared.Grid.{Grid}
 use Rattle.grid.specs.Grid.{cells, Cell}
-use Rattle.borders.specs.Fits.{Fits}
-use Rattle.groups.specs.Lent.{InTurn}
 use Rattle.boundary.specs.declared.Entries.{Entries}
 use Rattle.boundary.specs.Writes.{Writes}
 use Rattle.boundary.specs.Boundary.{unit_boundary, potential_boundary}
@@ -27,14 +25,11 @@ use Rattle.shape.specs.Shape.{head_or0, adjacent, UnitInfo, unit_of, entry_of, f
 use Rattle.shape.proofs.Lengths.{failures_most, boundaries_most}
 use Rattle.groups.proofs.GroupLaws.{in_cells}
 use Rattle.offsets.specs.declared.table.CellInfo.{CellInfo}
-use Rattle.offsets.specs.Table.{unit_in, potential_in, units_in, potentials_in, Table}
+use Rattle.offsets.specs.Table.{unit_in, potential_in, units_in, potentials_in}
 use Rattle.offsets.specs.Trial.{unit_at, tried_at, Placed}
 use Rattle.offsets.proofs.TableLaws.{potential_at}
 use Rattle.offsets.proofs.TrialLaws.{head_in}
-use Rattle.unit_check.specs.Stage.{Finding}
-use Rattle.unit_check.specs.Find.{unit_cells, MarkedFor}
 use Rattle.unit_check.specs.Write.{failures_at, list_at, marked_boundary, near_boundaries}
-use Rattle.unit_check.proofs.FindLaws.{units_turn, potentials_turn, its_placed, number as numbered}
 use Rattle.unit_check.proofs.RestLaws.{Left, left_all, left_room, left_on, left_end}
 
 -- A LANDING
@@ -176,45 +171,15 @@ module _ {g : Grid} {states ids pids : List ℕ} {n : ℕ} {table : List CellInf
     unfolding unit_of
     number = sym k_is
 
-    unit_room : p₁.len + length (unit_boundary g states ids k) ≤ length p₁.buffer.now
+    pub unit_room : p₁.len + length (unit_boundary g states ids k) ≤ length p₁.buffer.now
     unit_room = rw number (omega (arith, total, landed.appended.place, writes_long landed, w.enough))
 
     module _ {p₂ : Entries} (bounded : Writes (unit_boundary g states ids k) p₁ p₂) where
       its : Writes (unit_boundary g states ids u.number) p₁ p₂
       its = rw number at bounded
 
-      near_room : p₂.len + length (near_boundaries g states pids marks n) ≤ length p₂.buffer.now
+      pub near_room : p₂.len + length (near_boundaries g states pids marks n) ≤ length p₂.buffer.now
       near_room = omega (arith, total, its.appended.place, landed.appended.place, writes_long its, writes_long landed, w.enough)
 
-      all_written : {p₃ : Entries} → Writes (near_boundaries g states pids marks n) p₂ p₃ → Writes (list_at g states table n cs) p₀ p₃
+      pub all_written : {p₃ : Entries} → Writes (near_boundaries g states pids marks n) p₂ p₃ → Writes (list_at g states table n cs) p₀ p₃
       all_written v = rw list_is (writes_then landed (writes_then its v))
-
--- THE LIST OF A UNIT OF A STAGE, once its failed landings are written
-
-module _ {g g₁ g₂ : Grid} {states : List ℕ} {table : List CellInfo} {ids pids : List ℕ} {count : ℕ} {nstarts near : List ℕ} (f : Finding g states table g₁ ids g₂ pids count nstarts near)
-    (on : Fits g states) (t : Table g table) {n : ℕ} {starts flat pstarts pflat : List ℕ} (units : InTurn g₁ ids n starts flat) (potentials : InTurn g₂ pids count pstarts pflat) {k : ℕ}
-    (exists : k < n) {marks : List ℕ} (long : count ≤ length marks) (marked : MarkedFor g states table k marks) {p₀ p₁ : Entries} (empty : p₀.len ≡ 0)
-    (enough : 9 * cells g ≤ length p₀.buffer.now) (landed : Writes (failures_at g states table (unit_cells g table k)) p₀ p₁) where
-  writing : Writing g states ids pids count table marks (unit_cells g table k) (length p₀.buffer.now)
-  writing =
-      record {
-        placed = its_placed on.limits t (units_turn f units) exists on.borders marked (potentials_turn f potentials) long;
-        units = f.units;
-        potentials = f.potentials;
-        ids_long = (rw f.units_of at units).ids_long;
-        marks_long = long;
-        enough = enough;
-      }
-
-  its_number : unit_in table (head_or0 (unit_cells g table k)) ≡ k
-  its_number = numbered on.limits t (units_turn f units) exists
-
-  pub unit_fits : p₁.len + length (unit_boundary g states ids k) ≤ length p₁.buffer.now
-  unit_fits = unit_room writing empty refl landed its_number
-
-  module _ {p₂ : Entries} (bounded : Writes (unit_boundary g states ids k) p₁ p₂) where
-    pub near_fits : p₂.len + length (near_boundaries g states pids marks count) ≤ length p₂.buffer.now
-    near_fits = near_room writing empty refl landed its_number bounded
-
-    pub unit_written : {p₃ : Entries} → Writes (near_boundaries g states pids marks count) p₂ p₃ → Writes (list_at g states table count (unit_cells g table k)) p₀ p₃
-    unit_written = all_written writing empty refl landed its_number bounded

@@ -21,23 +21,32 @@ pub struct Finder<'a, 'm> {
 }
 
 impl<'a> Stage<'a> {
+    // A unit's cells on the board.
+    #[inline(always)]
+    fn unit(self, unit: usize) -> UnitCells<'a>
+        requires { unit < length self.units.starts.now }
+        ensures chart_is { result.chart ≡ self.entry.chart }
+        ensures cells_are { result.cells.now ≡ unit_cells self.entry.chart.borders.grid self.entry.chart.table.now unit }
+    {
+        UnitCells {
+            chart: self.chart,
+            cells: self.units.cells(unit),
+        }
+    }
+
     // A unit with its marks, to be tried.
     #[inline(always)]
     fn trial(self, unit: usize, marks: &'a [u8]) -> Trial<'a>
         requires unit_exists { unit < length self.units.starts.now }
         requires marks_long { length self.potentials.starts.now ≤ length marks.now }
         requires marked { MarkedFor self.chart.borders.grid self.chart.borders.states.now self.chart.table.now unit marks.now }
-        ensures grid_is { result.unit.chart.borders.grid ≡ self.entry.chart.borders.grid }
-        ensures states_are { result.unit.chart.borders.states.now ≡ self.entry.chart.borders.states.now }
-        ensures table_is { result.unit.chart.table.now ≡ self.entry.chart.table.now }
+        ensures chart_is { result.unit.chart ≡ self.entry.chart }
         ensures cells_are { result.unit.cells.now ≡ unit_cells self.entry.chart.borders.grid self.entry.chart.table.now unit }
     {
-        let cells = self.units.cells(unit);
-        let unit = UnitCells {
-            chart: self.chart,
-            cells,
-        };
-        Trial { unit, marks }
+        Trial {
+            unit: self.unit(unit),
+            marks,
+        }
     }
 
     // The own potential unit of a unit, the one around it.
@@ -46,8 +55,7 @@ impl<'a> Stage<'a> {
         requires { unit < length self.units.starts.now }
         ensures { result ≡ own_of self.entry.chart.borders.grid self.entry.chart.table.now unit }
     {
-        let first = self.units.cells(unit)[0];
-        usize::from(self.chart.table[usize::from(first)].potential)
+        usize::from(self.unit(unit).first().potential)
     }
 
     // How long the list is of the first unit that fits nowhere, if there is one. No mark is set before, and the arrays of codes have room for
@@ -78,9 +86,7 @@ impl Finder<'_, '_> {
     pub fn trial(&self, unit: usize) -> Trial<'_>
         requires unit_exists { unit < length self.now.stage.units.starts.now }
         requires marked { MarkedFor self.now.stage.chart.borders.grid self.now.stage.chart.borders.states.now self.now.stage.chart.table.now unit self.now.marks.now }
-        ensures grid_is { result.unit.chart.borders.grid ≡ self.now.stage.chart.borders.grid }
-        ensures states_are { result.unit.chart.borders.states.now ≡ self.now.stage.chart.borders.states.now }
-        ensures table_is { result.unit.chart.table.now ≡ self.now.stage.chart.table.now }
+        ensures chart_is { result.unit.chart ≡ self.now.stage.chart }
         ensures cells_are { result.unit.cells.now ≡ unit_cells self.now.stage.chart.borders.grid self.now.stage.chart.table.now unit }
     {
         self.stage.trial(unit, &*self.marks)

@@ -45,8 +45,8 @@ fn left_of(unit: UnitCells<'_>) -> usize {
 
 // The cell under the unit's last row, in the column of its first cell.
 fn under(unit: UnitCells<'_>) -> usize {
-    let first = unit.chart.table[usize::from(unit.cells[0])];
-    let last = unit.chart.table[usize::from(unit.cells[unit.cells.len() - 1])];
+    let first = unit.first();
+    let last = unit.last();
     (usize::from(last.row) + 1) * unit.chart.borders.grid.width + usize::from(first.col)
 }
 

@@ -1,17 +1,9 @@
 -- `row_trials::fits` meets its contract: the unit's codes are written, and its rows tried. Assumes nothing.
 use mathlib.Core.Path.{sym, ◌∙◌}
-use native.Mathlib.Omega.{arith}
 use Rattle.std.proofs.lemmas.List.{length-take-le}
-use Rattle.offsets.proofs.TrialLaws.{first_cell_of}
 use Rattle.cell_words.proofs.OwnLaws.{blank}
-use Rattle.row_trials.proofs.CodedLaws.{count_fits, more_fits, last_cell, first_row, last_after, ends, coded}
+use Rattle.row_trials.proofs.CodedLaws.{count_fits, more_fits, first_row, last_after, ends, coded}
 use Rattle.row_trials.proofs.fits.Goals as goal
-
-pub bounds-table-from : goal.bounds-table-from
-bounds-table-from c = let u = c.args.trial.unit in omega (arith, first_cell_of u.unit c.from.ensures, u.chart.table_of.long)
-
-pub bounds-table-from-2 : goal.bounds-table-from-2
-bounds-table-from-2 c = let u = c.args.trial.unit in omega (arith, last_cell u.unit c.from.ensures c.from-2.ensures, u.chart.table_of.long)
 
 pub write_cells-count-requires-clause-unit : goal.write_cells-count-requires-clause-unit
 write_cells-count-requires-clause-unit c = c.args.trial.unit.unit
@@ -32,13 +24,13 @@ pub slice_bounds-coded-end-2 : goal.slice_bounds-coded-end-2
 slice_bounds-coded-end-2 c = sym (length-take-le _ _ (more_fits _ _ _ _ c.requires.asking.borders_long c.write_borders-more.ensures))
 
 pub overflow_sub-last : goal.overflow_sub-last
-overflow_sub-last c = last_after c.args.trial.unit.unit c.from.ensures c.from-2.ensures
+overflow_sub-last c = last_after c.args.trial.unit.unit c.first-first.ensures c.last-last.ensures
 
 pub invariant_of-coded : goal.invariant_of-coded
 invariant_of-coded c =
-    record { coded = coded c.args.trial.unit.unit c.from.ensures c.from-2.ensures c.requires.asking c.write_cells-count.ensures c.write_borders-more.ensures c.add_cells.ensures c.common.ensures c.from-3.ensures }
+    record { coded = coded c.args.trial.unit.unit c.first-first.ensures c.last-last.ensures c.requires.asking c.write_cells-count.ensures c.write_borders-more.ensures c.add_cells.ensures c.common.ensures c.from.ensures }
 
 pub fits_somewhere-requires-clause-row_value : goal.fits_somewhere-requires-clause-row_value
 fits_somewhere-requires-clause-row_value c =
     let u = c.args.trial.unit.unit in
-    (c.from-4.ensures ∙ first_row u c.from.ensures c.from-2.ensures, ends u c.from.ensures c.from-2.ensures c.from-3.ensures)
+    (c.from-2.ensures ∙ first_row u c.first-first.ensures c.last-last.ensures, ends u c.first-first.ensures c.last-last.ensures c.from.ensures)

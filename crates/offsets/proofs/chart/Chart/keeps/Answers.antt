@@ -9,42 +9,25 @@ use Rattle.offsets.proofs.LandingLaws.{kept_end, seen_cell, seen_border, kept_in
 use Rattle.offsets.proofs.chart.Chart.keeps.Goals as goal
 
 pub returns-in_default : goal.returns-in_default
-returns-in_default c =
-    let a = c.args in
-    let b = a.self.borders in
-    ap not c.is_inner.ensures ∙ kept_end b.grid b.states.now a.self.table.now (is_inner a.kind) a.unit a.cell a.direction (none_told b.grid a.direction a.cell c.step_at-beyond.ensures c.in_default.is)
+returns-in_default c = ap not c.is_inner.ensures ∙ kept_end _ _ _ _ _ _ _ (none_told _ _ _ c.step_at-beyond.ensures c.in_default.is)
 
 pub offset_bounds-self-neighbour : goal.offset_bounds-self-neighbour
 offset_bounds-self-neighbour c =
-    let a = c.args in
-    let b = a.self.borders in
-    let t = some_told b.grid a.direction a.cell c.step_at-beyond.ensures c.in-Some.is in
-    let f = b.fits in
-    omega (arith, seen_cell b.grid b.states.now a.self.table.now (is_inner a.kind) a.unit a.cell a.direction f c.requires t, cells_le b.grid f.limits)
+    let b = c.args.self.borders in
+    omega (arith, seen_cell _ _ _ c.requires (some_told _ _ _ c.step_at-beyond.ensures c.in-Some.is), cells_le b.grid b.fits.limits)
 
 pub bounds-self-neighbour : goal.bounds-self-neighbour
 bounds-self-neighbour c =
-    let a = c.args in
-    let b = a.self.borders in
-    let t = some_told b.grid a.direction a.cell c.step_at-beyond.ensures c.in-Some.is in
-    omega (arith, seen_cell b.grid b.states.now a.self.table.now (is_inner a.kind) a.unit a.cell a.direction b.fits c.requires t, a.self.table_of.long)
+    omega (arith, seen_cell _ _ _ c.requires (some_told _ _ _ c.step_at-beyond.ensures c.in-Some.is), c.args.self.table_of.long)
 
 pub bounds-self-neighbour-in-Outer : goal.bounds-self-neighbour-in-Outer
 bounds-self-neighbour-in-Outer c =
-    let a = c.args in
-    let b = a.self.borders in
-    seen_border b.grid b.states.now a.self.table.now (is_inner a.kind) a.unit a.cell a.direction b.fits c.requires (some_told b.grid a.direction a.cell c.step_at-beyond.ensures c.in-Some.is)
+    seen_border _ _ _ c.requires (some_told _ _ _ c.step_at-beyond.ensures c.in-Some.is) c.args.self.borders.fits
 
 pub returns-in-Inner : goal.returns-in-Inner
 returns-in-Inner c =
-    let a = c.args in
-    let b = a.self.borders in
-    kept_inner b.grid b.states.now a.self.table.now (is_inner a.kind) a.unit a.cell a.direction b.fits c.requires (some_told b.grid a.direction a.cell c.step_at-beyond.ensures c.in-Some.is)
-    (ap is_inner c.in-Inner.is)
+    kept_inner _ _ _ _ _ _ _ c.requires (some_told _ _ _ c.step_at-beyond.ensures c.in-Some.is) (ap is_inner c.in-Inner.is)
 
 pub returns-in-Outer : goal.returns-in-Outer
 returns-in-Outer c =
-    let a = c.args in
-    let b = a.self.borders in
-    kept_shut b.grid b.states.now a.self.table.now (is_inner a.kind) a.unit a.cell a.direction b.fits c.requires (some_told b.grid a.direction a.cell c.step_at-beyond.ensures c.in-Some.is)
-    (ap is_inner c.in-Outer.is)
+    kept_shut _ _ _ _ _ _ _ c.requires (some_told _ _ _ c.step_at-beyond.ensures c.in-Some.is) (ap is_inner c.in-Outer.is)

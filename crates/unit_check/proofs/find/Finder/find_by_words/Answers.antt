@@ -35,14 +35,14 @@ fits-requires-clause-asking g c =
     let s = c.args.self.now.stage in
     let e = c.trial-trial.ensures in
     let i = c.loop-next.invariant in
-    rw (e.grid_is, e.states_are, e.cells_are, i.kept.stage)
+    rw (e.chart_is, e.cells_are, i.kept.stage)
     (asking s.chart.borders.grid s.chart.table.now c.in-Some.unit _ _ c.full_word-full.ensures c.fill.ensures c.requires.room i.codes_long i.borders_long)
 
 pub fits-requires-clause-stamped : goal.fits-requires-clause-stamped
 fits-requires-clause-stamped g c =
     let e = c.trial-trial.ensures in
     let i = c.loop-next.invariant in
-    rw (e.grid_is, e.states_are, e.table_is, i.kept.stage) i.stamped
+    rw (e.chart_is, i.kept.stage) i.stamped
 
 pub returns-then-not-fits : goal.returns-then-not-fits
 returns-then-not-fits g c =
@@ -50,7 +50,7 @@ returns-then-not-fits g c =
     let i = c.loop-next.invariant in
     let p = i.pending in
     let h = p.some _ c.in-Some.is in
-    let told = rw i.kept.stage at (rw (e.grid_is, e.states_are, e.table_is, e.cells_are) at c.fits.ensures.value) in
+    let told = rw i.kept.stage at (rw (e.chart_is, e.cells_are) at c.fits.ensures.value) in
     record { kept = i.kept; unfit = unfit_some h (fit_there (p.before _ c.in-Some.is) (λ q. fits_held c.args.self.now.stage h told c.if-not-fits.true)) (p.marked _ c.in-Some.is) }
 
 pub unmark-requires-clause-unit_exists : goal.unmark-requires-clause-unit_exists
@@ -70,7 +70,7 @@ find_soon-next-requires-clause-all_fit g c =
     let i = c.loop-next.invariant in
     let p = i.pending in
     let h = p.some _ c.in-Some.is in
-    let told = rw i.kept.stage at (rw (e.grid_is, e.states_are, e.table_is, e.cells_are) at c.fits.ensures.value) in
+    let told = rw i.kept.stage at (rw (e.chart_is, e.cells_are) at c.fits.ensures.value) in
     rw (kept_then _ i.kept c.unmark.ensures.kept).stage (fit_on (p.before _ c.in-Some.is) h (fits_held c.args.self.now.stage h told c.if-not-fits.false))
 
 pub loop-next-smaller : goal.loop-next-smaller
@@ -87,7 +87,7 @@ loop-next-preserved g c =
     record {
       kept = kept_then _ k c.find_soon-next.ensures.kept;
       pending = pending_next (rw k.stage at c.find_soon-next.ensures.sought);
-      stamped = rw i.kept.stage at (rw (e.grid_is, e.states_are, e.table_is) at c.fits.ensures.held.stamped);
+      stamped = rw i.kept.stage at (rw (e.chart_is) at c.fits.ensures.held.stamped);
       codes_long = c.fits.auto.codes ∙ i.codes_long;
       borders_long = c.fits.auto.borders ∙ i.borders_long;
     }

@@ -33,7 +33,7 @@ returns-then-not-fits_soon c =
     let e = c.trial.ensures in
     let k = kept_then _ i.kept c.mark.ensures.kept in
     let h : c.loop-unit.unit < length s.units.starts.now = omega (arith, c.loop-unit-test.true, c.len-unit-end.ensures) in
-    let told = rw k.stage at (rw (e.grid_is, e.states_are, e.table_is, e.cells_are) at c.fits_soon.ensures.value) in
+    let told = rw k.stage at (rw (e.chart_is, e.cells_are) at c.fits_soon.ensures.value) in
     record { kept = k; sought = sought_some c.loop-unit.auto.unit h i.all_fit (rw i.kept.stage at c.mark.ensures.marked) (λ t. fits_held s h (told t) c.if-not-fits_soon.true) }
 
 pub loop-unit-preserved : goal.loop-unit-preserved
@@ -43,7 +43,7 @@ loop-unit-preserved c =
     let e = c.trial.ensures in
     let k = kept_then _ i.kept c.mark.ensures.kept in
     let h : c.loop-unit.unit < length s.units.starts.now = omega (arith, c.loop-unit-test.true, c.len-unit-end.ensures) in
-    let told = rw k.stage at (rw (e.grid_is, e.states_are, e.table_is, e.cells_are) at (c.fits_soon.ensures.cells_value c.if-not-fits_soon.false)) in
+    let told = rw k.stage at (rw (e.chart_is, e.cells_are) at (c.fits_soon.ensures.cells_value c.if-not-fits_soon.false)) in
     record { kept = kept_then _ k c.unmark.ensures.kept; all_fit = fit_on i.all_fit h (fits_held s h refl told); unmarked = c.unmark.ensures.unmarked }
 
 pub returns : goal.returns
