@@ -17,8 +17,7 @@ loop-p-init c =
     let t = rw s.one_board at s.groups.turns in
     let r = c.requires.room in
     record {
-      marks_same = refl;
-      list_same = refl;
+      kept = record { marks = refl; list = refl };
       done = listing_none s.borders.states.now t (first_room s.borders.states.now t r) c.requires.unmarked (get_or-set_same c.args.starts.now 0 0 0 (omega (arith, r.starts_long)));
     }
 
@@ -41,8 +40,7 @@ loop-p-preserved c =
     let i = c.loop-p.invariant in
     let e = c.list_one.ensures in
     record {
-      marks_same = e.same.0 ∙ i.marks_same;
-      list_same = e.same.1 ∙ i.list_same;
+      kept = record { marks = e.kept.marks ∙ i.kept.marks; list = e.kept.list ∙ i.kept.list };
       done = listing_turn s.borders.states.now t r i.done h (rw s.one_board at c.cells.ensures.cells_are) e.listed;
     }
 
