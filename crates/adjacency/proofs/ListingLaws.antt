@@ -25,7 +25,8 @@ use Rattle.groups.specs.Info.{end_of, group_part}
 use Rattle.groups.proofs.GroupLaws.{in_cells}
 use Rattle.groups.proofs.InfoLaws.{end_next}
 use Rattle.shape.specs.Shape.{behind, parted, wall_to}
-use Rattle.adjacency.specs.Adjacency.{Looks, Noted, Looked, Written, Unmarked, Listed, Room, Adjacency, Marking}
+use Rattle.adjacency.specs.declared.Notes.{Notes}
+use Rattle.adjacency.specs.Adjacency.{Kept, Looks, Noted, Looked, Written, Unmarked, Listed, Room, Adjacency, Marking}
 
 -- ONE POTENTIAL UNIT
 
@@ -77,53 +78,45 @@ module _ {test : ℕ → Bool} {k : ℕ} {marks list : List ℕ} {len : ℕ} {ma
 -- ALL OF THEM
 
 -- the lists of the first p are made
-pub record Progress (g : Grid) (states pids : List ℕ) (count : ℕ) (first : List ℕ) (marks₀ starts₀ list₀ marks starts list : List ℕ) (len p : ℕ) : Type 0 where
+pub record Progress (g : Grid) (states pids : List ℕ) (count : ℕ) (first starts₀ : List ℕ) (before : Notes) (starts : List ℕ) (now : Notes) (p : ℕ) : Type 0 where
+  pub kept : Kept before now
   pub within : p ≤ count
-  pub lists : Adjacency g states pids p starts list
-  pub end : get_or starts p 0 ≡ len
-  pub next_room : p < count → len ≤ 4 * get_or first p 0
-  pub room : len ≤ 4 * cells g
-  pub clear : Unmarked marks
-  pub marks_long : length marks ≡ length marks₀
+  pub lists : Adjacency g states pids p starts now.list.now
+  pub end : get_or starts p 0 ≡ now.len
+  pub next_room : p < count → now.len ≤ 4 * get_or first p 0
+  pub room : now.len ≤ 4 * cells g
+  pub clear : Unmarked now.marks.now
+  pub marks_long : length now.marks.now ≡ length before.marks.now
   pub starts_long : length starts ≡ length starts₀
-  pub list_long : length list ≡ length list₀
+  pub list_long : length now.list.now ≡ length before.list.now
 
-module _ {g : Grid} (states : List ℕ) {pids : List ℕ} {count : ℕ} {first flat marks₀ starts₀ list₀ : List ℕ} (turns : InTurn g pids count first flat) (w : Room g count marks₀ starts₀ list₀) where
+module _ {g : Grid} (states : List ℕ) {pids : List ℕ} {count : ℕ} {first flat starts₀ : List ℕ} {before : Notes} (turns : InTurn g pids count first flat) (w : Room g count before.marks.now starts₀ before.list.now) where
   -- the first list begins at place 0
-  pub first_room : Room g count marks₀ (set starts₀ 0 0) list₀
-  first_room =
+  pub listing_none : Unmarked before.marks.now → before.len ≡ 0 → Progress g states pids count first starts₀ before (set starts₀ 0 0) before 0
+  listing_none u empty =
+      let s = get_or-set_same starts₀ 0 0 0 (omega (arith, w.starts_long)) in
       record {
-        marks_long = w.marks_long;
-        starts_long = simp length-set w.starts_long;
-        list_long = w.list_long;
-      }
-
-  abbrev At : List ℕ → List ℕ → List ℕ → ℕ → ℕ → Type 0
-  At marks starts list len p = Progress g states pids count first marks₀ starts₀ list₀ marks starts list len p
-
-  pub listing_none : Unmarked marks₀ → get_or starts₀ 0 0 ≡ 0 → At marks₀ starts₀ list₀ 0 0
-  listing_none u s =
-      record {
+        kept = record { marks = refl; list = refl };
         within = omega arith;
         lists =
             record {
-              long = omega (arith, w.starts_long);
+              long = simp length-set (omega (arith, w.starts_long));
               rising = λ p h. absurd (omega arith);
               within = λ p h. let z : p ≡ 0 = omega arith in rw z (omega arith);
               fits = omega (arith, s);
               has = λ p q h t. absurd (omega arith);
               only = λ p i h a b. absurd (omega arith);
             };
-        end = s;
+        end = s ∙ sym empty;
         next_room = λ h. omega arith;
         room = omega arith;
         clear = u;
         marks_long = refl;
-        starts_long = refl;
+        starts_long = simp length-set;
         list_long = refl;
       }
 
-  module _ {marks starts list : List ℕ} {len p : ℕ} (a : At marks starts list len p) (h : p < count) {cs : List ℕ} (own_cells : cs ≡ cells_of g pids p) where
+  module _ {starts : List ℕ} {now : Notes} {p : ℕ} (a : Progress g states pids count first starts₀ before starts now p) (h : p < count) {cs : List ℕ} (own_cells : cs ≡ cells_of g pids p) where
     cells_are : cs ≡ group_part (cells g) count first flat p
     cells_are = own_cells ∙ sym (turns.between p h).are
 
@@ -138,44 +131,44 @@ module _ {g : Grid} (states : List ℕ) {pids : List ℕ} {count : ℕ} {first f
         ap length cells_are ∙ length-take-le (end_of (cells g) count first p - get_or first p 0) (drop (get_or first p 0) flat) (simp length-drop (omega (arith, b.within, turns.flat_long))) in
         omega (arith, b.some)
 
-    pub on_board_lem : (i : ℕ) → i < length cs → Cell g (get_or cs i 0)
-    on_board_lem i l =
-        let z : i < length (cells_of g pids p) = rw own_cells at l in
-        rw own_cells (in_cells g pids p (get_or (cells_of g pids p) i 0) (get_d_in 0 (cells_of g pids p) i z)).0
-
-    pub looks : Looks g pids (4 * length cs) marks list len
+    -- what is asked of the cells and of the notes
+    pub asked : Looks g pids (4 * length cs) now.marks.now now.list.now now.len × ((i : ℕ) → i < length cs → Cell g (get_or cs i 0))
     unfolding to
-    looks =
-        record {
-          pids_long = turns.ids_long;
-          small = λ c l. omega (arith, turns.small c l, w.marks_long, a.marks_long);
-          room = omega (arith, how_many, a.next_room h, (turns.between p h).within, w.list_long, a.list_long);
-        }
+    asked = (
+      record {
+        pids_long = turns.ids_long;
+        small = λ c l. omega (arith, turns.small c l, w.marks_long, a.marks_long);
+        room = omega (arith, how_many, a.next_room h, (turns.between p h).within, w.list_long, a.list_long);
+      },
+      λ i l.
+          let z : i < length (cells_of g pids p) = rw own_cells at l in
+          rw own_cells (in_cells g pids p (get_or (cells_of g pids p) i 0) (get_d_in 0 (cells_of g pids p) i z)).0,
+    )
 
-    module _ {marks' list' : List ℕ} {len' : ℕ} (l : Listed (parted g states pids cs) (4 * length cs) marks list len marks' list' len') where
+    module _ {after : Notes} (m : Kept now after) (l : Listed (parted g states pids cs) (4 * length cs) now.marks.now now.list.now now.len after.marks.now after.list.now after.len) where
       starts' : List ℕ
-      starts' = set starts (p + 1) len'
+      starts' = set starts (p + 1) after.len
 
       old : (k : ℕ) → k ≤ p → get_or starts' k 0 ≡ get_or starts k 0
       unfolding starts'
-      old k z = get_or-set_other starts (p + 1) k len' 0 (λ e. omega arith)
+      old k z = get_or-set_other starts (p + 1) k after.len 0 (λ e. omega arith)
 
-      new : get_or starts' (p + 1) 0 ≡ len'
+      new : get_or starts' (p + 1) 0 ≡ after.len
       unfolding starts'
-      new = get_or-set_same starts (p + 1) len' 0 (omega (arith, a.starts_long, w.starts_long))
+      new = get_or-set_same starts (p + 1) after.len 0 (omega (arith, a.starts_long, w.starts_long))
 
-      upto : len' ≤ 4 * to
+      upto : after.len ≤ 4 * to
       upto = omega (arith, how_many, a.next_room h, l.most)
 
       abbrev Has : ℕ → ℕ → Type 0
-      Has k q = (i : ℕ) × (get_or starts' k 0 ≤ i) × (i < get_or starts' (k + 1) 0) × (get_or list' i 0 ≡ q)
+      Has k q = (i : ℕ) × (get_or starts' k 0 ≤ i) × (i < get_or starts' (k + 1) 0) × (get_or after.list.now i 0 ≡ q)
 
       has_new : (q : ℕ) → parted g states pids (cells_of g pids p) q ≡ true → Has p q
       has_new q t =
           let o = l.has q (ap (λ cs. parted g states pids cs q) own_cells ∙ t) in
           (o.0, rw (old p (omega arith), a.end) o.1, rw new o.2, o.3)
 
-      all_lists : Adjacency g states pids (p + 1) starts' list'
+      all_lists : Adjacency g states pids (p + 1) starts' after.list.now
       all_lists =
           record {
             long = unfold starts' in simp length-set (omega (arith, a.starts_long, w.starts_long));
@@ -200,13 +193,13 @@ module _ {g : Grid} (states : List ℕ) {pids : List ℕ} {count : ℕ} {first f
                 (λ (e : k ≢ p).
                 let lower : k < p = omega arith in
                 let o = a.lists.has k q lower t in
-                let b : o.0 < len = omega (arith, o.2, a.lists.within (k + 1) (omega arith), a.end) in
+                let b : o.0 < now.len = omega (arith, o.2, a.lists.within (k + 1) (omega arith), a.end) in
                 (o.0, rw (old k (omega arith)) o.1, rw (old (k + 1) (omega arith)) o.2, l.before o.0 b ∙ o.3))
                 (eq_or_ne k p);
             only = λ k i z x y.
                 ⊎_elim
                 (λ (e : k ≡ p).
-                ap (λ cs. parted g states pids cs (get_or list' i 0)) (ap (cells_of g pids) e ∙ sym own_cells)
+                ap (λ cs. parted g states pids cs (get_or after.list.now i 0)) (ap (cells_of g pids) e ∙ sym own_cells)
                 ∙ l.only i (rw (e, old p (omega arith), a.end) at x) (rw (e, new) at y))
                 (λ (e : k ≢ p).
                 let lower : k < p = omega arith in
@@ -216,10 +209,11 @@ module _ {g : Grid} (states : List ℕ) {pids : List ℕ} {count : ℕ} {first f
                 (eq_or_ne k p);
           }
 
-      pub listing_turn : At marks' (set starts (p + 1) len') list' len' (p + 1)
+      pub listing_turn : Progress g states pids count first starts₀ before (set starts (p + 1) after.len) after (p + 1)
       unfolding starts' to
       listing_turn =
           record {
+            kept = record { marks = m.marks ∙ a.kept.marks; list = m.list ∙ a.kept.list };
             within = omega arith;
             lists = all_lists;
             end = new;

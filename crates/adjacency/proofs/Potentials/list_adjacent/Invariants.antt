@@ -1,5 +1,4 @@
 -- `adjacency::Potentials::list_adjacent` meets its contract: the lists of the first p are made. Assumes nothing.
-use mathlib.Core.Path.{◌≡◌}
 use lib.ListN.{length}
 use Rattle.adjacency.proofs.ListingLaws.{Progress}
 use Rattle.adjacency.proofs.Potentials.list_adjacent.Given as goal
@@ -7,8 +6,4 @@ use Rattle.adjacency.proofs.Potentials.list_adjacent.Given as goal
 abbrev pub invariant-loop-p : goal.invariant-loop-p
 invariant-loop-p l =
     let s = l.self in
-    record {
-      marks_same : l.notes.marks.ghost_name ≡ l.initial.notes.marks.ghost_name;
-      list_same : l.notes.list.ghost_name ≡ l.initial.notes.list.ghost_name;
-      done : Progress s.borders.grid s.borders.states.now s.groups.ids.now (length s.groups.starts.now) s.groups.starts.now l.initial.notes.marks.now l.initial.starts l.initial.notes.list.now l.notes.marks.now l.starts l.notes.list.now l.notes.len l.p;
-    }
+    Progress s.borders.grid s.borders.states.now s.groups.ids.now (length s.groups.starts.now) s.groups.starts.now l.fn.starts l.initial.notes l.starts l.notes l.p
