@@ -127,7 +127,7 @@ fn done_line(well: Line, done: Result<(), Refusal>) -> Line
 {
     match done {
         Ok(()) => well,
-        Err(refusal) => Line::Refused(u8::from(refusal)),
+        Err(refusal) => Line::from(refusal),
     }
 }
 
@@ -153,7 +153,7 @@ fn ask_line(puzzle: &Puzzle, list: &mut [u16; limits::ENTRIES]) -> (Line, usize)
             (check_line(check), n)
         }
         Ok(None) => (Line::Clear, 0),
-        Err(refusal) => (Line::Refused(u8::from(refusal)), 0),
+        Err(refusal) => (Line::from(refusal), 0),
     }
 }
 
