@@ -103,11 +103,9 @@ pub fn open(file: &[u8]) -> Result<Remaining, Refusal>
 {
     let layout = case_file::decode(file)?;
     let mut walls = [0u16; 30000];
-    let _ = case_file::numbers(file, layout.walls, &mut walls);
+    let wall_count = case_file::numbers(file, layout.walls, &mut walls)?;
     let mut clues = [0u16; 30000];
-    let _ = case_file::numbers(file, layout.clues, &mut clues);
-    let wall_count = layout.walls.count;
-    let clue_count = layout.clues.count;
+    let clue_count = case_file::numbers(file, layout.clues, &mut clues)?;
     let puzzle = Puzzle::new(
         layout.height,
         layout.width,
