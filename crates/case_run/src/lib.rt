@@ -102,6 +102,7 @@ pub fn open(file: &[u8]) -> Result<Remaining, Refusal>
     ensures { opened_in result ≡ opened_of (decode_of file.now) }
 {
     let layout = case_file::decode(file)?;
+    // A list of a sound file has at most 30,000 numbers.
     let mut walls = [0u16; 30000];
     let wall_count = case_file::numbers(file, layout.walls, &mut walls)?;
     let mut clues = [0u16; 30000];
