@@ -1,4 +1,4 @@
--- From the lists to the whole file: what a counted list that was found says of the definition, and one law for each way out of `rest` and `decode`. Assumes nothing.
+-- From the lists to the whole file: what a counted list that was found says of the definition, and one law for each way out of `parts`. Assumes nothing.
 use Prim.Native.Nat.{ℕ, zero, suc, ◌+◌, ◌*◌, ◌-◌, ◌≤◌, ◌<◌}
 use mathlib.Core.Path.{◌≡◌, refl, sym, ap, ◌∙◌}
 use mathlib.Core.Logic.{◌⊎◌, inl, inr, ⊎_elim, ◌≢◌}
@@ -14,14 +14,9 @@ use Rattle.lists.specs.Choice.{pick, both, give, through}
 use Rattle.lists.proofs.Cases.{le_or_lt}
 use Rattle.case_file.specs.declared.Call.{Call}
 use Rattle.case_file.specs.declared.Span.{Span}
-use Rattle.std.specs.Prelude.{Some, None, Result, Err}
-use Rattle.std.specs.Option.{ok_or}
-use Rattle.answers.specs.declared.Refusal.{Refusal}
-use Rattle.answers.specs.declared.Refusal.TheVariants.{UnsoundFile}
-use Rattle.answers.specs.Refusals.{code_of}
-use Rattle.case_file.specs.declared.Layout.{Layout}
-use Rattle.case_file.specs.Sound.{Case, numbers_of, calls_of, call_list_of, is_end, lists_of, rest_of, decode_of}
-use Rattle.case_file.specs.Layout.{word_at, span_of, size_of, counted_at, parts_of, file_of, refusal_of}
+use Rattle.std.specs.Prelude.{Some, None}
+use Rattle.case_file.specs.Sound.{numbers_of, calls_of, call_list_of, is_end, lists_of, rest_of, decode_of}
+use Rattle.case_file.specs.Layout.{word_at, span_of, size_of, counted_at, parts_of}
 use Rattle.case_file.proofs.ReadLaws.{byte_at, byte_out, word_at_lem, word_out, numbers_length}
 use Rattle.case_file.proofs.ListLaws.{numbers_none, numbers_cut, numbers_some, Whole, call_cases, headed}
 
@@ -140,81 +135,27 @@ end_not bs at h = rw (drop-cons bs at 0 h)
 end_is : (bs : List ℕ) (at : ℕ) → length bs ≤ at → is_end (drop at bs) ≡ true
 end_is bs at h = rw (drop_of_length-le bs h)
 
+rest_short : (bs : List ℕ) → length bs < 5 → rest_of (drop 3 bs) ≡ none
+unfolding rest_of through
+rest_short bs h =
+    ⊎_elim
+    (λ (k : length bs ≤ 3). simp (byte_out bs 3 k))
+    (λ (k : 3 < length bs). simp (byte_at bs 3 k, byte_out bs 4 (omega arith)))
+    (le_or_lt (length bs) 3)
+
+rest_lists : (bs : List ℕ) → 5 ≤ length bs → rest_of (drop 3 bs) ≡ lists_of (get_or bs 3 0) (get_or bs 4 0) (drop 5 bs)
+unfolding rest_of through
+rest_lists bs h = simp (byte_at bs 3 (omega arith), byte_at bs 4 (omega arith))
+
+-- The ways out of `parts`: by the version and the length,
 module _ (bs : List ℕ) where
-  pub rest_short : length bs < 5 → rest_of (drop 3 bs) ≡ none
-  unfolding rest_of through
-  rest_short h =
-      ⊎_elim
-      (λ (k : length bs ≤ 3). simp (byte_out bs 3 k))
-      (λ (k : 3 < length bs). simp (byte_at bs 3 k, byte_out bs 4 (omega arith)))
-      (le_or_lt (length bs) 3)
-
-  pub rest_lists : 5 ≤ length bs → rest_of (drop 3 bs) ≡ lists_of (get_or bs 3 0) (get_or bs 4 0) (drop 5 bs)
-  unfolding rest_of through
-  rest_lists h = simp (byte_at bs 3 (omega arith), byte_at bs 4 (omega arith))
-
--- The ways out of `rest`.
-module _ (bs : List ℕ) (h : 5 ≤ length bs) where
-  pub no_walls : numbers_of (drop 5 bs) ≡ none → None ≡ parts_of (rest_of (drop 3 bs))
-  no_walls e = simp (rest_lists bs h, lists_no_walls (get_or bs 3 0) (get_or bs 4 0) (drop 5 bs) e)
-
-  module _ {walls : Span} {n : ℕ} (f : Found bs 5 (numbers_of (drop 5 bs)) walls n) where
-    pub no_clues_lem : numbers_of (drop n bs) ≡ none → None ≡ parts_of (rest_of (drop 3 bs))
-    no_clues_lem e = simp (rest_lists bs h, lists_no_clues (get_or bs 3 0) (get_or bs 4 0) (drop 5 bs) (drop n bs) f.items f.reads e)
-
-    module _ {clues : Span} {m : ℕ} (g : Found bs n (numbers_of (drop n bs)) clues m) where
-      pub no_calls : call_list_of (drop m bs) ≡ none → None ≡ parts_of (rest_of (drop 3 bs))
-      no_calls e =
-          simp
-          (rest_lists bs h, lists_no_calls (get_or bs 3 0) (get_or bs 4 0) (drop 5 bs) (drop n bs) (drop m bs) f.items g.items f.reads g.reads e)
-
-      module _ {calls : Span} {end : ℕ} (k : Found bs m (call_list_of (drop m bs)) calls end) where
-        whole : rest_of (drop 3 bs)
-            ≡ give (is_end (drop end bs)) (record { height = get_or bs 3 0; width = get_or bs 4 0; walls = f.items; clues = g.items; calls = k.items })
-        whole =
-            rest_lists bs h
-            ∙ lists_whole (get_or bs 3 0) (get_or bs 4 0) (drop 5 bs) (drop n bs) (drop m bs) (drop end bs) f.items g.items k.items f.reads g.reads k.reads
-
-        pub more_left : end < length bs → None ≡ parts_of (rest_of (drop 3 bs))
-        unfolding give
-        more_left l = simp (whole, end_not bs end l)
-
-        pub all_read : length bs ≤ end
-            → Some (record { height = get_or bs 3 0; width = get_or bs 4 0; walls = walls; clues = clues; calls = calls }) ≡ parts_of (rest_of (drop 3 bs))
-        unfolding give
-        all_read l =
-            let a : n + 2 ≡ 9 + 2 * length f.items = omega (arith, numbers_end bs 5 f) in
-            let b : m + 2 ≡ 11 + 2 * length f.items + 2 * length g.items = omega (arith, numbers_end bs 5 f, numbers_end bs n g) in
-            simp (whole, end_is bs end l, f.span, g.span, k.span, a, b)
-
--- the parts, or question 11
-pub parts_or : (o : Option Case) → ok_or (parts_of o) UnsoundFile ≡ file_of o
-parts_or none = refl
-parts_or (some f) = refl
-
-number_file : (o : Option Case) → code_of (file_of o) ≡ refusal_of o
-number_file none = refl
-number_file (some f) = refl
-
--- the answer and its number
-abbrev Answer : List ℕ → Result Layout Refusal → Type 0
-Answer bs r = (r ≡ file_of (decode_of bs)) × (code_of r ≡ refusal_of (decode_of bs))
-
-answer : (bs : List ℕ) {r : Result Layout Refusal} (o : Option Case) → decode_of bs ≡ o → r ≡ file_of o → Answer bs r
-answer bs o e q = rw e (q, ap code_of q ∙ number_file o)
-
--- The ways out of `decode`.
-module _ (bs : List ℕ) where
-  short : length bs < 3 → decode_of bs ≡ none
+  pub front_short : length bs < 3 → None ≡ parts_of (decode_of bs)
   unfolding decode_of through
-  short h =
+  front_short h =
       ⊎_elim
       (λ (k : length bs ≤ 0). simp (byte_out bs 0 k))
       (λ (k : 0 < length bs). simp (byte_at bs 0 k, word_out bs 1 (omega arith)))
       (le_or_lt (length bs) 0)
-
-  pub front_short : length bs < 3 → Answer bs (Err UnsoundFile)
-  front_short h = answer bs none (short h) refl
 
   front : 3 ≤ length bs
       → decode_of bs ≡ pick (both (eqb (get_or bs 0 0) 1) (both (eqb (word_at bs 1) (length bs - 3)) (leb (word_at bs 1) 60000))) (rest_of (drop 3 bs)) none
@@ -222,16 +163,53 @@ module _ (bs : List ℕ) where
   front h = simp (byte_at bs 0 (omega arith), word_at_lem bs 1 (omega arith), length-drop)
 
   module _ (h : 3 ≤ length bs) where
-    pub front_version : get_or bs 0 0 ≢ 1 → Answer bs (Err UnsoundFile)
-    front_version v = answer bs none (simp (front h, ne_eqb _ _ v)) refl
+    pub front_version : get_or bs 0 0 ≢ 1 → None ≡ parts_of (decode_of bs)
+    front_version v = simp (front h, ne_eqb _ _ v)
 
-    module _ (v : get_or bs 0 0 ≡ 1) where
-      pub front_length : word_at bs 1 ≢ length bs - 3 → Answer bs (Err UnsoundFile)
-      front_length l = answer bs none (simp (front h, eq-eqb _ _ v, ne_eqb _ _ l)) refl
+    module _ (v : get_or bs 0 0 ≡ 1) {long : ℕ} (e : long ≡ word_at bs 1) where
+      pub front_length : (long ≢ length bs - 3) ⊎ ((long ≡ length bs - 3) × (60000 < long)) → None ≡ parts_of (decode_of bs)
+      front_length =
+          rw e
+          (⊎_elim (λ l. simp (front h, eq-eqb _ _ v, ne_eqb _ _ l)) (λ k. simp (front h, eq-eqb _ _ v, eq-eqb _ _ k.0, lt-leb _ _ k.1)))
 
-      module _ (l : word_at bs 1 ≡ length bs - 3) where
-        pub front_long : 60000 < word_at bs 1 → Answer bs (Err UnsoundFile)
-        front_long k = answer bs none (simp (front h, eq-eqb _ _ v, eq-eqb _ _ l, lt-leb _ _ k)) refl
+      pub front_good : long ≡ length bs - 3 → long ≤ 60000 → decode_of bs ≡ rest_of (drop 3 bs)
+      front_good = rw e (λ l k. simp (front h, eq-eqb _ _ v, eq-eqb _ _ l, le-leb _ _ k))
 
-        pub front_good : {r : Result Layout Refusal} → word_at bs 1 ≤ 60000 → r ≡ file_of (rest_of (drop 3 bs)) → Answer bs r
-        front_good k e = answer bs (rest_of (drop 3 bs)) (simp (front h, eq-eqb _ _ v, eq-eqb _ _ l, le-leb _ _ k)) e
+-- and by the lists, behind a front that is good.
+module _ (bs : List ℕ) (good : decode_of bs ≡ rest_of (drop 3 bs)) where
+  pub no_walls : numbers_of (drop 5 bs) ≡ none → None ≡ parts_of (decode_of bs)
+  no_walls e =
+      ⊎_elim
+      (λ (h : 5 ≤ length bs). simp (good, rest_lists bs h, lists_no_walls (get_or bs 3 0) (get_or bs 4 0) (drop 5 bs) e))
+      (λ (h : length bs < 5). simp (good, rest_short bs h))
+      (le_or_lt 5 (length bs))
+
+  module _ {walls : Span} {n : ℕ} (f : Found bs 5 (numbers_of (drop 5 bs)) walls n) where
+    lists : decode_of bs ≡ lists_of (get_or bs 3 0) (get_or bs 4 0) (drop 5 bs)
+    lists = good ∙ rest_lists bs (omega (arith, f.inside, numbers_end bs 5 f))
+
+    pub no_clues_lem : numbers_of (drop n bs) ≡ none → None ≡ parts_of (decode_of bs)
+    no_clues_lem e = simp (lists, lists_no_clues (get_or bs 3 0) (get_or bs 4 0) (drop 5 bs) (drop n bs) f.items f.reads e)
+
+    module _ {clues : Span} {m : ℕ} (g : Found bs n (numbers_of (drop n bs)) clues m) where
+      pub no_calls : call_list_of (drop m bs) ≡ none → None ≡ parts_of (decode_of bs)
+      no_calls e = simp (lists, lists_no_calls (get_or bs 3 0) (get_or bs 4 0) (drop 5 bs) (drop n bs) (drop m bs) f.items g.items f.reads g.reads e)
+
+      module _ {calls : Span} {end : ℕ} (k : Found bs m (call_list_of (drop m bs)) calls end) where
+        whole : decode_of bs
+            ≡ give (is_end (drop end bs)) (record { height = get_or bs 3 0; width = get_or bs 4 0; walls = f.items; clues = g.items; calls = k.items })
+        whole =
+            lists
+            ∙ lists_whole (get_or bs 3 0) (get_or bs 4 0) (drop 5 bs) (drop n bs) (drop m bs) (drop end bs) f.items g.items k.items f.reads g.reads k.reads
+
+        pub more_left : end < length bs → None ≡ parts_of (decode_of bs)
+        unfolding give
+        more_left l = simp (whole, end_not bs end l)
+
+        pub all_read : length bs ≤ end
+            → Some (record { height = get_or bs 3 0; width = get_or bs 4 0; walls = walls; clues = clues; calls = calls }) ≡ parts_of (decode_of bs)
+        unfolding give
+        all_read l =
+            let a : n + 2 ≡ 9 + 2 * length f.items = omega (arith, numbers_end bs 5 f) in
+            let b : m + 2 ≡ 11 + 2 * length f.items + 2 * length g.items = omega (arith, numbers_end bs 5 f, numbers_end bs n g) in
+            simp (whole, end_is bs end l, f.span, g.span, k.span, a, b)

@@ -5,7 +5,7 @@
 ghost use Rattle.std.specs.Prelude.{◌≡◌, ◌+◌, ◌≤◌, ◌<◌, length, drop, get_or, MatchOption};
 ghost use Rattle.answers.specs.Answers.{written};
 ghost use Rattle.answers.specs.Refusals.{Lists, code_of};
-ghost use Rattle.case_file.specs.Sound.{decode_of, rest_of, numbers_of, call_list_of, call_of};
+ghost use Rattle.case_file.specs.Sound.{decode_of, numbers_of, call_list_of, call_of};
 ghost use Rattle.case_file.specs.Layout.{word_at, numbers_at, counted_at, step_at, parts_of, file_of, refusal_of, numbers_into};
 
 use answers::Refusal;
@@ -83,11 +83,15 @@ fn calls_at(file: &[u8], at: usize) -> Option<(Span, usize)>
     Some((Span { at: at + 2, count }, next))
 }
 
-// The parts behind the version and the length.
-fn rest(file: &[u8]) -> Option<Layout>
-    ensures { result ≡ parts_of (rest_of (drop 3 file.now)) }
+// Where the parts of a sound file stand. A file that ends before its height and width has no walls behind them.
+fn parts(file: &[u8]) -> Option<Layout>
+    ensures { result ≡ parts_of (decode_of file.now) }
 {
-    if file.len() < 5 {
+    let long = usize::from(word(file, 1)?);
+    if file[0] != 1 {
+        return None;
+    }
+    if long != file.len() - 3 || 60000 < long {
         return None;
     }
     let (walls, after_walls) = numbers_at(file, 5)?;
@@ -105,24 +109,12 @@ fn rest(file: &[u8]) -> Option<Layout>
     })
 }
 
-// Where the parts of a sound file stand. Nothing is copied. Any other file is unsound (11).
+// The parts of a sound file. Nothing is copied. Any other file is unsound (11).
 pub fn decode(file: &[u8]) -> Result<Layout, Refusal>
     ensures value { result ≡ file_of (decode_of file.now) }
     ensures result_value { code_of result ≡ refusal_of (decode_of file.now) }
 {
-    let Some(long) = word(file, 1) else {
-        return Err(Refusal::UnsoundFile);
-    };
-    if file[0] != 1 {
-        return Err(Refusal::UnsoundFile);
-    }
-    if usize::from(long) != file.len() - 3 {
-        return Err(Refusal::UnsoundFile);
-    }
-    if 60000 < long {
-        return Err(Refusal::UnsoundFile);
-    }
-    rest(file).ok_or(Refusal::UnsoundFile)
+    parts(file).ok_or(Refusal::UnsoundFile)
 }
 
 // How many numbers of a list the file has.

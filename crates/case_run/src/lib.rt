@@ -102,12 +102,11 @@ pub fn open(file: &[u8]) -> Result<Remaining, Refusal>
     ensures { opened_in result ≡ opened_of (decode_of file.now) }
 {
     let layout = case_file::decode(file)?;
+    // A list of a sound file has at most 30,000 numbers.
     let mut walls = [0u16; 30000];
-    let _ = case_file::numbers(file, layout.walls, &mut walls);
+    let wall_count = case_file::numbers(file, layout.walls, &mut walls)?;
     let mut clues = [0u16; 30000];
-    let _ = case_file::numbers(file, layout.clues, &mut clues);
-    let wall_count = layout.walls.count;
-    let clue_count = layout.clues.count;
+    let clue_count = case_file::numbers(file, layout.clues, &mut clues)?;
     let puzzle = Puzzle::new(
         layout.height,
         layout.width,
@@ -127,7 +126,7 @@ fn done_line(well: Line, done: Result<(), Refusal>) -> Line
 {
     match done {
         Ok(()) => well,
-        Err(refusal) => Line::Refused(u8::from(refusal)),
+        Err(refusal) => Line::from(refusal),
     }
 }
 
@@ -153,7 +152,7 @@ fn ask_line(puzzle: &Puzzle, list: &mut [u16; limits::ENTRIES]) -> (Line, usize)
             (check_line(check), n)
         }
         Ok(None) => (Line::Clear, 0),
-        Err(refusal) => (Line::Refused(u8::from(refusal)), 0),
+        Err(refusal) => (Line::from(refusal), 0),
     }
 }
 

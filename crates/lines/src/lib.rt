@@ -4,8 +4,9 @@
 ghost use Rattle.std.specs.Prelude.{◌≡◌, ◌≤◌, length};
 ghost use Rattle.std.proofs.lemmas.List.Edits.{sets};
 ghost use Rattle.answers.specs.Answers.{written};
-ghost use Rattle.answers.specs.Refusals.{Lists};
+ghost use Rattle.answers.specs.Refusals.{Lists, number_of};
 ghost use Rattle.lines.specs.Line.{line_of, needed, line_into};
+ghost use Rattle.lines.specs.declared.Line.TheVariants.{Refused};
 
 mod pen;
 
@@ -21,6 +22,15 @@ pub enum Line {
     Shape,
     Room(usize),
     Refused(u8),
+}
+
+// A refused call's line: it has the refusal's number.
+impl From<Refusal> for Line {
+    ghost from_gives = { λ refusal line. line ≡ Refused (number_of refusal) };
+
+    fn from(refusal: Refusal) -> Line {
+        Line::Refused(u8::from(refusal))
+    }
 }
 
 // Writes the line to the first places of a buffer that has room for it, and answers how many.

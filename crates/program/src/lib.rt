@@ -22,7 +22,7 @@ fn large_buffer() -> [u8; 65536]
 // One `refused` line.
 fn refuse(rt: &impl Print, refusal: Refusal) -> io::Result<()> {
     let mut out = large_buffer();
-    let len = lines::put_line(Line::Refused(u8::from(refusal)), &[], &mut out);
+    let len = lines::put_line(Line::from(refusal), &[], &mut out);
     rt.write_all(&out[..len])
 }
 

@@ -1,14 +1,16 @@
 -- `lines::pen::Pen::words` meets its contract: the parts of each line stand one behind the other (`writes_both`). Assumes nothing.
-use Rattle.std.proofs.Common.{arith}
+use Rattle.std.proofs.Common.{◌+◌, ◌*◌, ◌≤◌, length, arith}
 use Rattle.lines.proofs.DecimalLaws.{digits_most}
 use Rattle.lines.proofs.LineLaws.{writes_both, writes_length, spaced_short}
+use Rattle.lines.proofs.pen.Pen.words.Goals.{After-digits}
 use Rattle.lines.proofs.pen.Pen.words.Goals as goal
 
 pub digits-requires : goal.digits-requires
 digits-requires c = omega (arith, c.requires, c.put-in-Room.ensures.len_after, writes_length c.put-in-Room.ensures, digits_most 20 c.in-Room.number)
 
-pub put-requires-in-Room-2 : goal.put-requires-in-Room-2
-put-requires-in-Room-2 c =
+-- behind a room's number the colon, the entries and the feed have their places
+left : (c : After-digits) → c.digits.new.self.len + 2 + 6 * length c.args.list.now ≤ length c.digits.new.self.buffer.now
+left c =
     omega (
       arith,
       c.requires,
@@ -18,23 +20,13 @@ put-requires-in-Room-2 c =
       writes_length c.digits.ensures,
       digits_most 20 c.in-Room.number,
     )
+
+pub put-requires-in-Room-2 : goal.put-requires-in-Room-2
+put-requires-in-Room-2 c = omega (arith, left (goal.at.put-requires-in-Room-2 c).After-digits)
 
 pub entries-requires-in-Room : goal.entries-requires-in-Room
 entries-requires-in-Room c =
-    omega (
-      arith,
-      c.requires,
-      c.put-in-Room.ensures.len_after,
-      writes_length c.put-in-Room.ensures,
-      c.digits.ensures.len_after,
-      writes_length c.digits.ensures,
-      c.put-in-Room-2.ensures.len_after,
-      writes_length c.put-in-Room-2.ensures,
-      digits_most 20 c.in-Room.number,
-    )
-
-pub number-requires : goal.number-requires
-number-requires c = omega (arith, c.requires, c.put-in-Refused.ensures.len_after, writes_length c.put-in-Refused.ensures)
+    omega (arith, left (goal.at.entries-requires-in-Room c).After-digits, c.put-in-Room-2.ensures.len_after, writes_length c.put-in-Room-2.ensures)
 
 pub returns-in-Shape : goal.returns-in-Shape
 returns-in-Shape c =
@@ -59,9 +51,5 @@ returns-in-Room c =
           );
     }
 
-pub returns-in-Refused : goal.returns-in-Refused
-returns-in-Refused c =
-    record {
-      value = rw c.in-Refused.is (writes_both c.put-in-Refused.ensures c.number.ensures.value);
-      room_left = omega (arith, c.put-in-Refused.ensures.len_after, c.number.ensures.room_left);
-    }
+pub returns-in-Refused-clause-value : goal.returns-in-Refused-clause-value
+returns-in-Refused-clause-value c = rw c.in-Refused.is (writes_both c.put-in-Refused.ensures c.number.ensures.value)
