@@ -71,9 +71,6 @@ module _ {g : Grid} {table : List CellInfo} {cs : List ℕ} (u : Unit g table cs
       let x' : a ≡ spot g (head_or0 cs) = x ∙ ap (λ c. spot_of (get_or table c blank)) w ∙ spot_at u.table_of (head_or0 cs) head_cell in
       rw (e', x', y ∙ spot_at u.table_of t to_cell)
 
-pub unit_of_lem : {g : Grid} {states : List ℕ} {table : List CellInfo} {marks cs : List ℕ} → Placed g states table marks cs → Unit g table cs
-unit_of_lem p = record { limits = p.limits; table_of = p.table_of; some = p.some; cells_are = p.cells_are }
-
 module _ {g : Grid} {states : List ℕ} {table : List CellInfo} {marks cs : List ℕ} {t : ℕ} (p : Placed g states table marks cs) (to_cell : Cell g t) where
   abbrev ids : List ℕ
   ids = units_in g table
