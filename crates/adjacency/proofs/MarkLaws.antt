@@ -7,7 +7,7 @@ use mathlib.Core.List.{List}
 use native.Mathlib.Omega.{arith}
 use borrow.Author.Tests.{eqb-true, eq-eqb, ne_eqb, not-false}
 use lib.Dec.{eqb}
-use lib.ListN.{get_or, length, set, take, drop, length-set, length-drop, get_or-eq_default}
+use lib.ListN.{get_or, length, set, take, drop, length-drop, get_or-eq_default}
 use lib.Seq.{get_or-set_same, get_or-set_other, get_or-take, get_or-drop, length-take-le}
 use Rattle.lists.specs.Choice.{either}
 use Rattle.lists.specs.Lists.{In}
@@ -19,25 +19,6 @@ use Rattle.grid.specs.declared.Grid.{Grid}
 use Rattle.groups.specs.Groups.{cells_of}
 use Rattle.shape.specs.Shape.{parted, adjacent}
 use Rattle.adjacency.specs.Adjacency.{Written, Adjacency, Unmarked, MarksOf}
-
-module _ (list : List ℕ) (from mark : ℕ) (marks : List ℕ) where
-  pub written_none : Written list from from mark marks marks
-  written_none = record { here = λ i a b. absurd (omega arith); other = λ q h. refl; long = refl }
-
-  pub written_turn : (i x : ℕ) (marks' : List ℕ) → Written list from i mark marks marks' → from ≤ i → x ≡ get_or list i 0 → x < length marks
-      → Written list from (i + 1) mark marks (set marks' x mark)
-  written_turn i x marks' w l e h =
-      let long : x < length marks' = omega (arith, w.long) in
-      record {
-        here = λ j a b.
-            ⊎_elim
-            (λ (z : get_or list j 0 ≡ x). rw (z, get_or-set_same marks' x mark 0 long))
-            (λ (z : get_or list j 0 ≢ x).
-            get_or-set_other marks' x (get_or list j 0) mark 0 z ∙ w.here j a (⊎_elim (λ (k : i ≤ j). absurd (z (let s : j ≡ i = omega arith in rw s (sym e)))) (λ (k : j < i). k) (le_or_lt i j)))
-            (eq_or_ne (get_or list j 0) x);
-        other = λ q n. get_or-set_other marks' x q mark 0 (λ z. n i l (omega arith) (sym e ∙ sym z)) ∙ w.other q (λ j a b. n j a (omega arith));
-        long = simp length-set w.long;
-      }
 
 -- what is written by a part of the list
 module _ (list : List ℕ) {from to : ℕ} (h : from ≤ to) (l : to ≤ length list) where

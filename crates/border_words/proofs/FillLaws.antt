@@ -69,9 +69,6 @@ module _ {from count : ℕ} {states : List ℕ} (r : Run from count states) wher
   cut_long : length cut ≡ count
   cut_long = length-take-le (from + count - from) (drop from states) (omega (arith, length-drop from states, r.states_long)) ∙ (let e : from + count - from ≡ count = omega arith in e)
 
-  pub cut_narrow : length cut ≤ 32
-  cut_narrow = omega (arith, cut_long, r.narrow)
-
   cut_at : (x : ℕ) → x < count → get_or cut x 0 ≡ get_or states (from + x) 0
   cut_at x h = get_or-take (from + count - from) (drop from states) x 0 (omega arith) ∙ get_or-drop from states x 0
 

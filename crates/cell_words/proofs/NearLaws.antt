@@ -1,4 +1,4 @@
--- Stamps: a row's word is made, and those of several rows. Assumes nothing.
+-- Stamps: no row's word is made yet, and a row's word is made. Assumes nothing.
 use Prim.Native.Nat.{ℕ, ◌+◌, ◌*◌, ◌≤◌, ◌<◌}
 use mathlib.Core.Path.{◌≡◌, refl, sym, ap, ◌∙◌}
 use mathlib.Core.Logic.{⊎_elim, ◌≢◌}
@@ -9,7 +9,7 @@ use lib.Dec.{eqb}
 use lib.ListN.{get_or, set, length-set, replicate, length-replicate, get_or-replicate}
 use lib.Seq.{get_or-set_same, get_or-set_other}
 use Rattle.std.specs.Prelude.{Option, Some, None}
-use Rattle.lists.proofs.Cases.{eq_or_ne, le_or_lt}
+use Rattle.lists.proofs.Cases.{eq_or_ne}
 use Rattle.grid.specs.declared.Grid.{Grid}
 use Rattle.shape.specs.Shape.{adjacent}
 use Rattle.offsets.specs.declared.table.CellInfo.{CellInfo}
@@ -104,23 +104,3 @@ module _ {g : Grid} {states : List ℕ} {table : List CellInfo} {marks : List �
 
         other : (z q : ℕ) → z ≢ y → z < g.height → get_or (set near.stamps.now y (Some p)) z None ≡ Some q → NearRow g states pids q (set near.words.now y word) z
         other z q n a b = rw (get_or-set_other near.words.now y z word 0 n) (t.says z q a (rw (get_or-set_other near.stamps.now y z (Some p) None n) at b))
-
--- SEVERAL ROWS
-module _ {g : Grid} {states pids : List ℕ} {p from : ℕ} {near₀ : Near} where
-  pub rows_none : Stamped g states pids near₀ → Restamped g states pids p from from near₀ near₀
-  rows_none t = record { stamped = t; same = same_lists near₀; here = λ y a b. absurd (omega arith); kept = λ y q. q }
-
-  module _ {y : ℕ} {near : Near} (m : Restamped g states pids p from y near₀ near) where
-    -- those up to y, and then those from y on
-    pub rows_on : {to : ℕ} {near' : Near} → Restamped g states pids p y to near near' → Restamped g states pids p from to near₀ near'
-    rows_on r =
-        record {
-          stamped = r.stamped;
-          same = same_then m.same r.same;
-          here = λ z a b. ⊎_elim (λ (l : y ≤ z). r.here z l b) (λ (l : z < y). r.kept z (m.here z a l)) (le_or_lt y z);
-          kept = λ z q. r.kept z (m.kept z q);
-        }
-
-    -- fewer of them
-    pub rows_all : {to : ℕ} → to ≤ y → Restamped g states pids p from to near₀ near
-    rows_all h = record { stamped = m.stamped; same = m.same; here = λ z a b. m.here z a (omega arith); kept = m.kept }

@@ -1,10 +1,9 @@
 // The room count (`CityCountConstraint`): a room graph with its count and a ledger over its edges. Making, stroke, decide, undo and ask.
 #![tactic(auto)]
 
-ghost use Rattle.std.specs.Prelude.{◌≡◌, ◌≤◌, length, take, ltb};
+ghost use Rattle.std.specs.Prelude.{◌≡◌, ◌≤◌, length, take};
 ghost use Rattle.std.proofs.lemmas.List.Edits.{sets};
 ghost use Rattle.limits.specs.Limits.{most_cells, most_borders};
-ghost use Rattle.lists.specs.Lists.{all};
 ghost use Rattle.answers.specs.Answers.{written, Finds};
 ghost use Rattle.answers.specs.Refusals.{code_of, Answers};
 ghost use Rattle.ledger.specs.Ledger.{decisions, state_for};

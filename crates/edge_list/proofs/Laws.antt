@@ -1,13 +1,12 @@
--- One turn and the end of the loop that copies the edges' ends, and that a graph's limit refuses what is copied of a longer list. Assumes nothing.
-use Prim.Native.Nat.{ℕ, ◌+◌, ◌≤◌, ◌<◌}
-use mathlib.Core.Path.{◌≡◌, refl, sym, ◌∙◌}
+-- The end of the loop that copies the edges' ends, and that a graph's limit refuses what is copied of a longer list. Assumes nothing.
+use Prim.Native.Nat.{ℕ, ◌≤◌, ◌<◌}
+use mathlib.Core.Path.{◌≡◌, sym, ◌∙◌}
 use mathlib.Core.Logic.{⊎_elim}
 use mathlib.Core.List.{List}
 use native.Mathlib.Omega.{arith}
-use native.Mathlib.Numerals.{add-one}
 use borrow.Author.Tests.{le-leb, lt-leb}
-use lib.ListN.{length, get_or, set, take, length-map, length-set, get_or-map}
-use lib.Seq.{take-suc, take-set-le, take_all, length-take-le, get_or-set_same}
+use lib.ListN.{length, take, length-map}
+use lib.Seq.{take_all, length-take-le}
 use Rattle.limits.specs.Limits.{most_cells, most_borders}
 use Rattle.lists.proofs.Cases.{le_or_lt}
 use Rattle.city_count.specs.Room.{make_of}
@@ -15,33 +14,12 @@ use Rattle.city_count.proofs.RoomLaws.{make_vertices, make_edges}
 use Rattle.edge_list.specs.declared.Edge.{Edge}
 use Rattle.edge_list.specs.EdgeList.{firsts, seconds, held_of}
 
-abbrev pub none : Edge
-none = record { u = 0; v = 0 }
-
--- a place more is stored
-stored : (us xs : List ℕ) (i : ℕ) (x : ℕ) → i < length us → i < length xs → get_or xs i 0 ≡ x → take i us ≡ take i xs → take (i + 1) (set us i x) ≡ take (i + 1) xs
-stored us xs i x h k at e =
-    let l : i < length (set us i x) = rw (length-set us i x) h in
-    rw (add-one, take-suc (set us i x) i 0 l, take-suc xs i 0 k, get_or-set_same us i x 0 h, take-set-le i us i x (omega arith), e, at)
-
 -- the first i edges of es have their ends in us and vs
 pub record Copied (es : List Edge) (i : ℕ) (us vs : List ℕ) : Type 0 where
   pub us_places : length us ≡ 1985
   pub vs_places : length vs ≡ 1985
   pub us_copied : take i us ≡ take i (firsts es)
   pub vs_copied : take i vs ≡ take i (seconds es)
-
-module _ (es : List Edge) where
-  pub copied_none : (us vs : List ℕ) → length us ≡ 1985 → length vs ≡ 1985 → Copied es 0 us vs
-  copied_none us vs p q = record { us_places = p; vs_places = q; us_copied = refl; vs_copied = refl }
-
-  pub copied_more : (i : ℕ) (us vs : List ℕ) → i < length es → i < 1985 → Copied es i us vs → Copied es (i + 1) (set us i (get_or es i none).u) (set vs i (get_or es i none).v)
-  copied_more i us vs h k c = record {
-    us_places = length-set us i (get_or es i none).u ∙ c.us_places;
-    vs_places = length-set vs i (get_or es i none).v ∙ c.vs_places;
-    us_copied = stored us (firsts es) i (get_or es i none).u (omega (arith, c.us_places)) (rw (length-map es (λ (e : Edge). e.u)) h) (get_or-map (λ (e : Edge). e.u) es i none) c.us_copied;
-    vs_copied = stored vs (seconds es) i (get_or es i none).v (omega (arith, c.vs_places)) (rw (length-map es (λ (e : Edge). e.v)) h) (get_or-map (λ (e : Edge). e.v) es i none) c.vs_copied;
-  }
 
 -- of two lists of l numbers, what has a place makes the same graph
 module _ (n : ℕ) (xs ys : List ℕ) (l count : ℕ) (p : length xs ≡ l) (q : length ys ≡ l) where

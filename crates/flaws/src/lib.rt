@@ -1,7 +1,7 @@
 // What is wrong with a case file: the first part, from the front, that is not as SPEC 5.1 to 5.3 have it, and at which byte.
 #![tactic(auto)]
 
-ghost use Rattle.std.specs.Prelude.{◌≡◌, ◌+◌, ◌<◌, length, MatchOption};
+ghost use Rattle.std.specs.Prelude.{◌≡◌};
 ghost use Rattle.case_file.specs.Sound.{decode_of};
 ghost use Rattle.flaws.specs.Flaws.{flaw_of, part_of, lists_of, calls_of, call_of, behind_of, is_sound, sound_of};
 

@@ -5,7 +5,7 @@ use mathlib.Core.List.{List}
 use mathlib.Core.Option.{Option, none, some}
 use native.Mathlib.Omega.{arith}
 use lib.ListN.{length, get_or, drop}
-use lib.Seq.{sets, length-sets}
+use lib.Seq.{length-sets}
 use Rattle.std.specs.Prelude as std
 use Rattle.lists.specs.Choice.{or_else}
 use Rattle.lists.specs.Lists.{range, first}
@@ -22,11 +22,6 @@ module _ {b b' : List ℕ} {r : std.Option ℕ} where
 
   no_fault : {n : ℕ} → Finds none b b' r → r ≡ std.Some n → ⊥
   no_fault {n} t e = let q : std.None ≡ std.Some n = sym t.answer ∙ e in let z : ◌≡◌ {A = ℕ} 0 1 = cc in omega arith
-
-  -- a fault: its length, and its list in the buffer
-  pub finds_fault : (o : Option (List ℕ)) {n : ℕ} → Finds o b b' r → r ≡ std.Some n → (L : List ℕ) × (o ≡ some L) × (n ≡ length L) × (b' ≡ sets b 0 L)
-  finds_fault none t e = absurd (no_fault t e)
-  finds_fault (some L) {n} t e = (L, refl, let q : std.Some (length L) ≡ std.Some n = sym t.answer ∙ e in cc, t.stored)
 
   -- nothing: the buffer is as it was
   pub finds_nothing : (o : Option (List ℕ)) → Finds o b b' r → r ≡ std.None → (o ≡ none) × (b' ≡ b)

@@ -1,7 +1,7 @@
 // The first stage of the shape check: a Wall inside a unit.
 #![tactic(auto)]
 
-ghost use Rattle.std.specs.Prelude.{◌≡◌, ◌*◌, ◌<◌, ◌≤◌, length};
+ghost use Rattle.std.specs.Prelude.{◌*◌, ◌≤◌, length};
 ghost use Rattle.lists.specs.Lists.{first};
 ghost use Rattle.grid.specs.Orders.{forward};
 ghost use Rattle.grid.specs.Grid.{Cell, cells};

@@ -1,5 +1,5 @@
 -- Two questions in their order, a law for each number of a stroke, and a decide as a stroke of one. Assumes nothing.
-use Prim.Native.Nat.{ℕ, ◌+◌, ◌*◌, ◌/◌, ◌%◌, ◌≤◌, ◌<◌}
+use Prim.Native.Nat.{ℕ, ◌/◌, ◌%◌, ◌≤◌, ◌<◌}
 use mathlib.Core.Path.{◌≡◌, refl, ap}
 use mathlib.Core.Logic.{◌⊎◌, inl, inr, ◌≢◌, ⊎_elim}
 use mathlib.Core.Bool.{Bool, true, false}
@@ -66,23 +66,7 @@ single_code n state e wall = rw (eq-eqb e e refl) (go (ltb e n) (eqb (state e) 0
     go true false = refl
     go false b = refl
 
--- the entry of a decide
-pub entry_far : (e : ℕ) (wall : Bool) → most_borders ≤ e → Entry e wall 65535
-entry_far e wall h = record { below = λ k. absurd (omega arith); above = λ k. omega arith }
-
-pub entry_wall : (e : ℕ) (wall : Bool) → e < most_borders → wall ≡ true → Entry e wall (2 * e + 1)
-entry_wall e wall h w =
-    let half : (2 * e + 1) / 2 ≡ e = omega arith in
-    let odd : (2 * e + 1) % 2 ≡ 1 = omega arith in
-    record { below = λ k. rw (half, odd, w); above = λ k. absurd (omega arith) }
-
-pub entry_connected : (e : ℕ) (wall : Bool) → e < most_borders → wall ≡ false → Entry e wall (2 * e)
-entry_connected e wall h w =
-    let half : (2 * e) / 2 ≡ e = omega arith in
-    let even : (2 * e) % 2 ≡ 0 = omega arith in
-    record { below = λ k. rw (half, even, w); above = λ k. absurd (omega arith) }
-
--- it stands for the decide in a stroke of one: the same decision, or both are refused 3
+-- the entry of a decide stands for it in a stroke of one: the same decision, or both are refused 3
 pub as_entry : (n : ℕ) (state : ℕ → ℕ) (e : ℕ) (wall : Bool) (x : ℕ) → n ≤ most_borders → Entry e wall x
     → (decisions (x ∷ []) ≡ single e wall) ⊎ ((stroke_code n state (decisions (x ∷ [])) ≡ 3) × (stroke_code n state (single e wall) ≡ 3))
 as_entry n state e wall x few k =

@@ -2,7 +2,7 @@
 // question refuses a stroke or an undo, and how a stroke is placed and taken back. A book is changed where it stands.
 #![tactic(auto)]
 
-ghost use Rattle.std.specs.Prelude.{◌≡◌, true, ◌%◌, ◌+◌, ◌-◌, ◌*◌, ◌≤◌, length, map, drop, replicate, eqb, ltb};
+ghost use Rattle.std.specs.Prelude.{◌≡◌, true, ◌%◌, ◌+◌, ◌-◌, ◌≤◌, length, map, drop, replicate, eqb, ltb};
 ghost use Rattle.limits.specs.Limits.{most_borders};
 ghost use Rattle.lists.specs.Choice.{pick};
 ghost use Rattle.lists.specs.Lists.{all};

@@ -2,9 +2,9 @@
 use Rattle.std.proofs.Common.{◌≡◌, sym, ◌∙◌, ℕ, ◌<◌, ◌↔◌, Bool, List, All, IsTrue, length, get_or}
 use lib.Seq.{ext_get_or}
 use lib.ListN.{replicate, length-replicate, get_or-replicate}
-use Rattle.lists.specs.Lists.{all, any}
+use Rattle.lists.specs.Lists.{all}
 use Rattle.lists.proofs.ChoiceLaws.{same_truth}
-use Rattle.lists.proofs.ListLaws.{all_true, true_all, any_true, true_any, in_get_d, get_d_in}
+use Rattle.lists.proofs.ListLaws.{all_true, true_all, in_get_d, get_d_in}
 
 -- where `iter().all(..)` is shown to test each element (mostly by `search rules`), it answers our `all`
 pub all_is : {A : Type 0} (p : A → Bool) (xs : List A) (r : Bool) → IsTrue r ↔ All (λ x. IsTrue (p x)) xs → r ≡ all p xs
@@ -12,13 +12,6 @@ all_is p xs r e =
     same_truth r (all p xs)
     (λ q. true_all p xs (λ x m. let o = in_get_d x x xs m in rw o.2 at (e.0 q o.0 x o.1)))
     (λ q. e.1 (λ k d h. all_true p xs q (get_or xs k d) (get_d_in d xs k h)))
-
--- the same of `iter().any(..)`, on numbers
-pub any_is : (p : ℕ → Bool) (xs : List ℕ) (r : Bool) → IsTrue r ↔ ((k : ℕ) × (k < length xs) × IsTrue (p (get_or xs k 0))) → r ≡ any p xs
-any_is p xs r e =
-    same_truth r (any p xs)
-    (λ q. let o = e.0 q in true_any p xs (get_or xs o.0 0) (get_d_in 0 xs o.0 o.1) o.2)
-    (λ q. let o = any_true p xs q in let i = in_get_d 0 o.0 xs o.1 in e.1 (i.0, i.1, rw i.2 o.2))
 
 -- what `fill` leaves in a part of n places
 pub filled : (ys : List ℕ) (n v : ℕ) → length ys ≡ n → ((k : ℕ) → k < n → get_or ys k 0 ≡ v) → ys ≡ replicate n v

@@ -5,18 +5,12 @@ use mathlib.Core.Bool.{Bool, true, false, not}
 use mathlib.Core.List.{List}
 use native.Mathlib.Omega.{arith}
 use lib.Dec.{eqb}
-use lib.IntN.{ℤ}
 use lib.ListN.{get_or, length}
-use lib.Signed.{mag}
-use mir.Syntax.{w32}
-use mir.Val.{to_z, of_z}
-use mir.ValLaws.{to_z-of_z}
 use Rattle.std.specs.Prelude as std
 use Rattle.std.specs.Bool.{then_some}
 use Rattle.limits.specs.Limits.{most_borders}
 use Rattle.lists.specs.Choice.{both, either, pick, give, through}
 use Rattle.grid.specs.declared.Direction.{Direction}
-use Rattle.grid.specs.declared.Direction.TheVariants.{Up, Down, Left, Right}
 use Rattle.grid.specs.declared.Neighbour.{Neighbour}
 use Rattle.grid.specs.declared.Grid.{Grid}
 use Rattle.grid.specs.Grid.{Limits, Cell, goes_on, next, border, border_count}
@@ -28,7 +22,6 @@ use Rattle.borders.specs.Fits.{Fits}
 use Rattle.offsets.specs.declared.shift.Shift.{Shift}
 use Rattle.offsets.specs.declared.spot.Spot.{Spot}
 use Rattle.offsets.specs.declared.table.CellInfo.{CellInfo}
-use Rattle.offsets.specs.declared.places.Place.{Place}
 use Rattle.offsets.specs.Told.{told}
 use Rattle.offsets.specs.Places.{ahead_of, border_of, land_of}
 use Rattle.offsets.specs.Table.{Table, blank, spot, spot_of, unit_in, units_in}
@@ -81,26 +74,6 @@ module _ (g : Grid) (states : List ℕ) (table : List CellInfo) (inner : Bool) (
     pub kept_shut : inner ≡ false → eqb (get_or states n.border 0) 2 ≡ kept_of g states (units_in g table) inner unit c d
     unfolding kept_of state_at
     kept_shut q = rw (q, b.0, b.2)
-
--- ahead of a cell lies one place
-ahead_fits : (d : Direction) → (mag (ahead_of d).y < 2) × (mag (ahead_of d).x < 2)
-ahead_fits Up = omega arith
-ahead_fits Down = omega arith
-ahead_fits Left = omega arith
-ahead_fits Right = omega arith
-
-exact : (z : ℤ) → mag z < 2 → to_z w32 (of_z w32 z) ≡ z
-exact z h = to_z-of_z w32 z (record { sfits = omega arith })
-
-module _ (p : Place) (d : Direction) (q : p ≡ ahead_of d) where
-  pub ahead_y : to_z w32 (of_z w32 p.y) ≡ (ahead_of d).y
-  ahead_y = ap (λ (a : Place). to_z w32 (of_z w32 a.y)) q ∙ exact (ahead_of d).y (ahead_fits d).0
-
-  pub ahead_x : to_z w32 (of_z w32 p.x) ≡ (ahead_of d).x
-  ahead_x = ap (λ (a : Place). to_z w32 (of_z w32 a.x)) q ∙ exact (ahead_of d).x (ahead_fits d).1
-
-  pub ahead_small : (mag (to_z w32 (of_z w32 p.y)) < 2) × (mag (to_z w32 (of_z w32 p.x)) < 2)
-  ahead_small = (omega (arith, ap mag ahead_y, (ahead_fits d).0), omega (arith, ap mag ahead_x, (ahead_fits d).1))
 
 -- a border lands where its cell falls
 pub landing_is : (g : Grid) (s : Shift) (p : Spot) (c : ℕ) (d : Direction) → Limits g → Fell g s p c → landing_of g s p d ≡ border_of (neighbour_in g d c)

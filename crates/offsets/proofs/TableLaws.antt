@@ -1,6 +1,6 @@
 -- What stands in the table of an ask, and how it is filled, cell by cell. Assumes nothing.
 use Prim.Native.Nat.{ℕ, ◌+◌, ◌*◌, ◌<◌}
-use mathlib.Core.Path.{◌≡◌, refl, ap, sym, ◌∙◌}
+use mathlib.Core.Path.{◌≡◌, ap, sym, ◌∙◌}
 use mathlib.Core.Logic.{◌≢◌, ⊎_elim}
 use mathlib.Core.List.{List, map}
 use native.Mathlib.Omega.{arith}
@@ -42,9 +42,6 @@ pub record Filling (g : Grid) (ids pids : List ℕ) (table₀ table : List CellI
   pub long : length table ≡ length table₀
 
 module _ {g : Grid} {ids pids : List ℕ} {table₀ : List CellInfo} (p : Fillable g ids pids table₀) where
-  pub filling_none : Filling g ids pids table₀ table₀ 0
-  filling_none = record { done = λ c h. absurd (omega arith); long = refl }
-
   -- the cell at a row and column of the board
   pub place_cell : {cell y x : ℕ} → cell ≡ y * g.width + x → y < g.height → x < g.width → Cell g cell
   place_cell {cell} {y} {x} e h k = omega (arith, mul-add-lt y g.width x g.height h k)

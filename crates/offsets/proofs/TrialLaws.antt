@@ -67,9 +67,6 @@ module _ {g : Grid} {table : List CellInfo} {cs : List ℕ} (u : Unit g table cs
       → ◌≡◌ {A = Shift} (record { unit = i.unit; from = a; to = b }) (shift_of g (unit_in table (head_or0 cs)) (head_or0 cs) t)
   shift_is {t} e to_cell x y = rw (x, e, spot_at u.table_of (head_or0 cs) head_cell, y ∙ spot_at u.table_of t to_cell)
 
-pub unit_of_lem : {g : Grid} {states : List ℕ} {table : List CellInfo} {marks cs : List ℕ} → Placed g states table marks cs → Unit g table cs
-unit_of_lem p = record { limits = p.limits; table_of = p.table_of; some = p.some; cells_are = p.cells_are }
-
 module _ {g : Grid} {states : List ℕ} {table : List CellInfo} {marks cs : List ℕ} {t : ℕ} (p : Placed g states table marks cs) (to_cell : Cell g t) where
   abbrev ids : List ℕ
   ids = units_in g table

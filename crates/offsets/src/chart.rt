@@ -1,5 +1,4 @@
 // A board's borders with the table of its cells.
-ghost use Rattle.std.specs.Prelude.{◌≡◌};
 ghost use Rattle.offsets.specs.Table.{Table};
 
 use crate::table::CellInfo;

@@ -19,12 +19,11 @@ pub struct Room<'b, 'a> {
 }
 
 impl Room<'_, '_> {
-    ghost use Rattle.std.specs.Prelude.{◌≡◌, ◌*◌, ◌≤◌, length, IfSome, Some, None};
+    ghost use Rattle.std.specs.Prelude.{◌≡◌, ◌*◌, ◌≤◌, length, IfSome};
     ghost use Rattle.std.proofs.lemmas.List.Edits.{sets};
-    ghost use Rattle.lists.specs.Choice.{pick};
-    ghost use Rattle.grid.specs.Grid.{next, border, Cell};
+    ghost use Rattle.grid.specs.Grid.{Cell};
     ghost use Rattle.borders.specs.Border.{state_of};
-    ghost use Rattle.rooms.specs.RoomGraph.{in_room, room_graph, room_borders, edge_state, side_of, room_entries};
+    ghost use Rattle.rooms.specs.RoomGraph.{room_graph, room_borders, edge_state, side_of, room_entries};
     ghost use Rattle.rooms.specs.Lent.{nowhere, numbered, marked_in, Written, There, edge_of};
 
     // Each cell of the room gets its vertex, counted from 1; the others have 0.

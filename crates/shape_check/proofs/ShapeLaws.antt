@@ -3,7 +3,6 @@ use Prim.Native.Nat.{ℕ, ◌*◌, ◌≤◌}
 use mathlib.Core.Path.{◌≡◌, refl}
 use mathlib.Core.Bool.{true, false}
 use mathlib.Core.List.{List}
-use mathlib.Core.Option.{Option, none, some}
 use native.Mathlib.Omega.{arith}
 use lib.ListN.{length}
 use Rattle.std.specs.Prelude as std
@@ -13,15 +12,9 @@ use Rattle.grid.specs.Grid.{cells}
 use Rattle.groups.specs.Groups.{group_ids, group_count}
 use Rattle.groups.proofs.EdgeLaws.{ids_length}
 use Rattle.shape.specs.Shape.{inner_wall, unit_fault, fault_in, shape_fault}
-use Rattle.answers.specs.Answers.{Finds, found, length_found}
-use Rattle.answers.specs.Refusals.{Answers}
+use Rattle.answers.specs.Answers.{Finds}
 use Rattle.inner_walls.proofs.FindLaws.{finds_long, first_finds, next_finds}
 use Rattle.unit_check.specs.Units.{unit_stage, Checked}
-
--- a check that nothing refuses answers what it finds
-pub found_answers : (o : Option (List ℕ)) {r : std.Option ℕ} → r ≡ length_found o → Answers (found o) (std.Ok r)
-found_answers none e = rw e refl
-found_answers (some L) e = rw e refl
 
 module _ (g : Grid) (states : List ℕ) where
   -- each cell's unit

@@ -38,9 +38,6 @@ use Rattle.unit_check.specs.Find.{unit_cells, own_of, fits_in, tries_all, AllFit
 
 -- THE UNITS IN TURN
 
-pub fit_none : (test : ℕ → Bool) (n : ℕ) → AllFit test n 0
-fit_none test n = record { within = omega arith; before = λ i l. absurd (omega arith) }
-
 module _ {test : ℕ → Bool} {n k : ℕ} (a : AllFit test n k) where
   pub fit_on : k < n → test k ≡ true → AllFit test n (k + 1)
   fit_on h t =

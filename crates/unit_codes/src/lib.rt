@@ -3,7 +3,6 @@
 #![tactic(auto)]
 
 ghost use Rattle.std.specs.Prelude.{◌≡◌, ◌+◌, ◌-◌, ◌*◌, ◌≤◌, length};
-ghost use Rattle.shape.specs.Shape.{head_or0};
 ghost use Rattle.boundary.specs.Appended.{Appended};
 ghost use Rattle.boundary.specs.Writes.{Writes};
 ghost use Rattle.words.specs.Layout.{base_of, side_at, back_of};
