@@ -12,7 +12,7 @@ use Rattle.grid.specs.Grid.{grid, border_count}
 use Rattle.grid.proofs.Geometry.{limits_ok, border_count_le}
 use Rattle.ledger.specs.declared.Book.{Book}
 use Rattle.ledger.specs.Ledger as ledger
-use Rattle.ledger.specs.Ledger.{Decision, decisions, single, standing, whole, stroke_code, undo_code, first_code, ledger_of}
+use Rattle.ledger.specs.Ledger.{Decision, decisions, single, standing, whole, stroke_code, undo_code, ledger_of}
 use Rattle.ledger.specs.Books.{state_at, placed, taken, book_after}
 use Rattle.ledger.proofs.Reached as book
 use Rattle.ledger.proofs.Reached.{Around}

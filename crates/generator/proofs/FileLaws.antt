@@ -5,7 +5,7 @@ use mathlib.Core.Logic.{◌≢◌}
 use mathlib.Core.Bool.{true, false}
 use mathlib.Core.List.{List, ◌∷◌, ◌++◌}
 use native.Mathlib.Omega.{arith}
-use borrow.Author.Tests.{eq-eqb, ne_eqb, le-leb, lt-leb}
+use borrow.Author.Tests.{ne_eqb, le-leb, lt-leb}
 use lib.Dec.{leb}
 use lib.ListN.{length}
 use lib.Seq.{sets}
@@ -15,7 +15,7 @@ use Rattle.answers.specs.Answers.{Outcome, refused, listed, written}
 use Rattle.answers.specs.Refusals.{Lists}
 use Rattle.std.specs.Prelude.{Result, Ok, Err}
 use Rattle.answers.specs.declared.Refusal.{Refusal}
-use Rattle.answers.specs.declared.Refusal.TheVariants.{Size, ZeroSeed, ShortBuffer}
+use Rattle.answers.specs.declared.Refusal.TheVariants.{Size, ShortBuffer}
 use Rattle.grid.specs.declared.Grid.{Grid}
 use Rattle.grid.specs.Grid.{grid, sizes_ok, border_count}
 use Rattle.case_file.specs.Sound.{Case}
@@ -81,9 +81,6 @@ module _ (seed h w n : ℕ) (buffer : List ℕ) where
   sizes_told e = told (refused 1) (Err Size) refl (rw e refl)
 
   module _ (ok : sizes_ok (grid h w) ≡ true) where
-    pub seed_told : seed ≡ 0 → Told (Err ZeroSeed) buffer
-    seed_told e = told (refused 13) (Err ZeroSeed) refl (rw (ok, eq-eqb seed 0 e) refl)
-
     module _ (z : seed ≢ 0) where
       abbrev drawn_case : Case
       drawn_case = case_of seed (grid h w) n
