@@ -5,6 +5,7 @@ use mathlib.Core.Logic.{◌≢◌}
 use mathlib.Core.List.{List, [], ◌∷◌, ◌++◌}
 use mathlib.Core.Option.{some}
 use native.Mathlib.Omega.{arith}
+use Rattle.std.proofs.lemmas.Nat.{mul-add-lt}
 use borrow.Author.Tests.{eq-eqb, ne_eqb}
 use lib.ListN.{get_or, length, set, length-append}
 use lib.Seq.{sets}
@@ -27,12 +28,18 @@ use Rattle.grid.proofs.Told.{some_told, none_told}
 use Rattle.shape.specs.Shape.{inner_at}
 use Rattle.answers.specs.Answers.{Finds}
 use Rattle.inner_walls.specs.Asked.{Asked}
-use Rattle.inner_walls.proofs.FindLaws.{finds_none}
+use Rattle.inner_walls.proofs.FindLaws.{Searched, finds_none}
+use Rattle.lists.specs.Lists.{first, range}
+use Rattle.grid.specs.Orders.{forward}
 
 -- an entry behind a list
 sets_last : (xs b : List ℕ) (at x : ℕ) → sets b at (xs ++ (x ∷ [])) ≡ set (sets b at xs) (at + length xs) x
 sets_last [] b at x = let q : at + 0 ≡ at = omega arith in rw q
 sets_last (y ∷ xs) b at x = let q : at + suc (length xs) ≡ suc at + length xs = omega arith in rw q (sets_last xs (set b at y) (suc at) x)
+
+-- the cell of a row and a column
+pub here : {g : Grid} {y x : ℕ} → (y < g.height) × (x < g.width) → Cell g (y * g.width + x)
+here {g} {y} {x} h = omega (arith, mul-add-lt y g.width x g.height h.0 h.1)
 
 -- what a Wall of these units asks
 pub asked : {g : Grid} {ids b : List ℕ} → cells g ≤ length ids → 9 * cells g ≤ length b → Asked g ids b
@@ -86,3 +93,7 @@ module _ {g : Grid} {states ids b : List ℕ} (f : Fits g states) (a : Asked g i
               answer = rw (long, length-append p (wall_entry e ∷ []));
               stored = rw (stored, long) (let z : 0 + length p ≡ length p = omega arith in sym (rw z at (sets_last p b 0 (2 * e + 1))));
             }
+
+-- the cells passed have no Wall inside their units
+abbrev pub Passed : Grid → List ℕ → List ℕ → List ℕ → List ℕ → ℕ → Type 0
+Passed g states ids b₀ b c = Searched (λ c. first (inner_at g states ids c) forward) (range (cells g)) 0 b₀ b c

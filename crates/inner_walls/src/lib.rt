@@ -1,10 +1,10 @@
 // The first stage of the shape check: a Wall inside a unit.
 #![tactic(auto)]
 
-ghost use Rattle.std.specs.Prelude.{◌*◌, ◌≤◌, length};
+ghost use Rattle.std.specs.Prelude.{◌+◌, ◌*◌, ◌<◌, ◌≤◌, length};
 ghost use Rattle.lists.specs.Lists.{first};
 ghost use Rattle.grid.specs.Orders.{forward};
-ghost use Rattle.grid.specs.Grid.{Cell, cells};
+ghost use Rattle.grid.specs.Grid.{cells};
 ghost use Rattle.shape.specs.Shape.{inner_at, inner_wall};
 ghost use Rattle.answers.specs.Answers.{Finds};
 ghost use Rattle.inner_walls.specs.Asked.{Asked};
@@ -21,14 +21,22 @@ struct Units<'a> {
 }
 
 impl Units<'_> {
-    // The Wall that a cell has in a direction, if it lies inside a unit: the path between its cells, and then that Wall.
-    fn inner_at(self, cell: usize, direction: Direction, buffer: &mut [u16]) -> Option<usize>
+    // The Wall that the cell of a row and column has in a direction, if it lies inside a unit: the path between its cells, and then that
+    // Wall.
+    fn inner_at(
+        self,
+        row: usize,
+        col: usize,
+        direction: Direction,
+        buffer: &mut [u16],
+    ) -> Option<usize>
         requires room { 9 * cells self.borders.grid ≤ length buffer.old }
-        requires cell { Cell self.borders.grid cell }
-        ensures { Finds (inner_at self.entry.borders.grid self.entry.borders.states.now self.entry.ids.now cell direction) buffer.old buffer.new result }
+        requires cell { (row < self.borders.grid.height) × (col < self.borders.grid.width) }
+        ensures { Finds (inner_at self.entry.borders.grid self.entry.borders.states.now self.entry.ids.now (row * self.entry.borders.grid.width + col) direction) buffer.old buffer.new result }
     {
         let Borders { grid, states, .. } = self.borders;
-        let Neighbour { cell: next, border } = grid.step(cell, direction)?;
+        let cell = row * grid.width + col;
+        let Neighbour { cell: next, border } = grid.step_at(row, col, cell, direction)?;
         if states[border] != 2 {
             return None;
         }
@@ -41,13 +49,13 @@ impl Units<'_> {
     }
 
     // A cell's Walls: down before right.
-    fn inner_cell(self, cell: usize, buffer: &mut [u16]) -> Option<usize>
+    fn inner_cell(self, row: usize, col: usize, buffer: &mut [u16]) -> Option<usize>
         requires room { 9 * cells self.borders.grid ≤ length buffer.old }
-        requires cell { Cell self.borders.grid cell }
-        ensures { Finds (first (inner_at self.entry.borders.grid self.entry.borders.states.now self.entry.ids.now cell) forward) buffer.old buffer.new result }
+        requires cell { (row < self.borders.grid.height) × (col < self.borders.grid.width) }
+        ensures { Finds (first (inner_at self.entry.borders.grid self.entry.borders.states.now self.entry.ids.now (row * self.entry.borders.grid.width + col)) forward) buffer.old buffer.new result }
     {
         for direction in grid::FORWARD {
-            if let Some(n) = self.inner_at(cell, direction, buffer) {
+            if let Some(n) = self.inner_at(row, col, direction, buffer) {
                 return Some(n);
             }
         }
@@ -55,15 +63,17 @@ impl Units<'_> {
     }
 }
 
-// All cells, row by row.
+// All cells, row by row, whose rows and columns are counted: none is found by a division.
 pub fn inner_wall(b: Borders<'_>, ids: &[u16], buffer: &mut [u16]) -> Option<usize>
     requires { Asked b.grid ids.now buffer.old }
     ensures { Finds (inner_wall b.entry.grid b.entry.states.now ids.now) buffer.old buffer.new result }
 {
     let units = Units { borders: b, ids };
-    for cell in 0..b.grid.cell_count() {
-        if let Some(n) = units.inner_cell(cell, buffer) {
-            return Some(n);
+    for row in 0..b.grid.height {
+        for col in 0..b.grid.width {
+            if let Some(n) = units.inner_cell(row, col, buffer) {
+                return Some(n);
+            }
         }
     }
     None

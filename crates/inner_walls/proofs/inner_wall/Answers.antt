@@ -1,28 +1,26 @@
 -- `inner_walls::inner_wall` meets its contract: the cells passed found nothing. Assumes nothing.
-use mathlib.Core.Path.{ap}
+use Prim.Native.Nat.{◌+◌, ◌*◌, ◌≤◌}
+use mathlib.Core.Path.{◌≡◌}
 use native.Mathlib.Omega.{arith}
-use lib.ListN.{length}
+use Rattle.grid.specs.Grid.{cells}
 use Rattle.shape.specs.Shape.{inner_wall}
-use Rattle.inner_walls.proofs.FindLaws.{searched_none, range_fault, range_on, range_over}
+use Rattle.inner_walls.proofs.FindLaws.{range_fault, range_on, range_over}
+use Rattle.inner_walls.proofs.InnerLaws.{here}
 use Rattle.inner_walls.proofs.inner_wall.Goals as goal
-
-pub loop-cell-init : goal.loop-cell-init
-loop-cell-init c = searched_none _ _ _ _
-
-pub inner_cell-requires : goal.inner_cell-requires
-inner_cell-requires c =
-    let e = ap length c.loop-cell.invariant.same in
-    record { room = omega (arith, c.requires.room); cell = omega (arith, c.cell_count-cell-end.ensures) }
 
 pub returns-in-Some : goal.returns-in-Some
 unfolding inner_wall
 returns-in-Some c =
-    range_fault _ _ c.loop-cell.invariant (rw c.cell_count-cell-end.ensures at c.loop-cell-test.true) c.inner_cell.ensures c.in-Some.is
+    range_fault _ _ c.loop-col.invariant (here (c.loop-row-test.true, c.loop-col-test.true)) c.inner_cell.ensures c.in-Some.is
 
-pub loop-cell-preserved : goal.loop-cell-preserved
-loop-cell-preserved c =
-    range_on _ _ c.loop-cell.invariant (rw c.cell_count-cell-end.ensures at c.loop-cell-test.true) c.inner_cell.ensures c.in_default.is
+pub loop-col-preserved : goal.loop-col-preserved
+loop-col-preserved c =
+    let n = c.loop-row.row * c.args.b.grid.width in
+    let e : n + (c.loop-col.col + 1) ≡ n + c.loop-col.col + 1 = omega arith in
+    rw e (range_on _ _ c.loop-col.invariant (here (c.loop-row-test.true, c.loop-col-test.true)) c.inner_cell.ensures c.in_default.is)
 
 pub returns : goal.returns
 unfolding inner_wall
-returns c = range_over _ _ c.loop-cell.invariant (rw c.cell_count-cell-end.ensures at c.loop-cell-test.false)
+returns c =
+    let e : c.loop-row.row ≡ c.args.b.grid.height = omega arith in
+    range_over _ _ c.loop-row.invariant (rw e (let k : cells c.args.b.grid ≤ c.args.b.grid.height * c.args.b.grid.width = omega arith in k))
