@@ -1,6 +1,7 @@
 -- The borders of a board as they stand: `states` has the state of border e at place e. Assumes nothing.
-use Rattle.std.specs.Prelude.{ℕ, ◌≤◌, ◌<◌, Bool, List, eqb, get_or}
+use Rattle.std.specs.Prelude.{ℕ, ◌≤◌, ◌<◌, Bool, List, eqb, get_or, not, take}
 use Rattle.lists.specs.Choice.{both}
+use Rattle.lists.specs.Lists.{all}
 use Rattle.grid.specs.declared.Direction.{Direction}
 use Rattle.grid.specs.declared.Grid.{Grid}
 use Rattle.grid.specs.Grid.{goes_on, border, border_count}
@@ -21,3 +22,7 @@ stands g states k d c = both (goes_on g d c) (eqb (state_at g states d c) k)
 -- states 0 to 2 (SPEC 1.3); what stands behind the board's borders is no part of it (1.11)
 abbrev pub StatesOk : Grid → List ℕ → Type 0
 StatesOk g states = (e : ℕ) → e < border_count g → state_of states e ≤ 2
+
+-- no border of the board is undecided
+abbrev pub decided : Grid → List ℕ → Bool
+decided g states = all (λ s. not (eqb s 0)) (take (border_count g) states)

@@ -4,6 +4,7 @@
 ghost use Rattle.std.specs.Prelude.{◌≡◌, ◌<◌};
 ghost use Rattle.lists.specs.Choice.{pick};
 ghost use Rattle.borders.specs.Entry.{entry_of};
+ghost use Rattle.borders.specs.Border.{decided};
 ghost use Rattle.borders.specs.Fits.{Fits};
 
 use grid::Grid;
@@ -14,6 +15,16 @@ pub struct Borders<'a> {
     pub grid: Grid,
     pub states: &'a [u8],
     ghost fits: { Fits grid states.now },
+}
+
+impl Borders<'_> {
+    // Whether no border of the board is undecided.
+    pub fn are_decided(self) -> bool
+        ensures { result ≡ decided self.entry.grid self.entry.states.now }
+    {
+        let states = &self.states[..self.grid.border_count()];
+        states.iter().all(|&state| state != 0)
+    }
 }
 
 // The entry of a border, as Wall or as Connected.

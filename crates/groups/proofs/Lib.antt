@@ -1,5 +1,6 @@
 pub mod GroupLaws
 pub mod EdgeLaws
+pub mod Agreement
 pub mod JoinLaws
 pub mod NumberLaws
 pub mod TurnLaws

@@ -7,19 +7,20 @@ use mathlib.Core.Option.{Option, some}
 use borrow.Author.Tests.{not-false}
 use lib.Dec.{eqb}
 use lib.ListN.{get_or}
-use Rattle.lists.specs.Choice.{both, either, pick, when, give, or_else}
+use Rattle.lists.specs.Choice.{both, either, pick, give, or_else}
 use Rattle.lists.specs.Lists.{In, range, keep, any, all, gather, first}
 use Rattle.lists.proofs.ListLaws.{in_range}
 use Rattle.grid.specs.declared.Direction.{Direction}
 use Rattle.grid.specs.declared.Grid.{Grid}
 use Rattle.grid.specs.Grid.{cells, Cell, goes_on, next, border}
 use Rattle.borders.specs.Entry.{connected_entry, wall_entry}
-use Rattle.borders.proofs.Congruence.{both_same, either_same, holds_same, keep_same, any_same, through_same, gather_same, first_same}
+use Rattle.borders.proofs.Congruence.{either_same, holds_same, keep_same, any_same, through_same, gather_same, first_same}
 use Rattle.grid.specs.Orders.{around, forward}
-use Rattle.borders.proofs.Agreement.{Agree, border_reads, state_reads, stands_reads}
-use Rattle.parts.specs.Parts.{Edge, edge, roots, begun_in, parts}
-use Rattle.groups.specs.Groups.{passes, edge_at, edges_over, edges, group_ids, group_count, cells_of}
+use Rattle.borders.proofs.Agreement.{Agree, state_reads, stands_reads}
+use Rattle.parts.specs.Parts.{Edge, roots, begun_in, parts}
+use Rattle.groups.specs.Groups.{passes, edges, group_ids, group_count, cells_of}
 use Rattle.groups.proofs.GroupLaws.{in_cells}
+use Rattle.groups.proofs.Agreement.{edges_agree}
 use Rattle.path.proofs.Agreement.{list_agrees}
 use Rattle.boundary.specs.Boundary.{ahead, potential_boundary}
 use Rattle.boundary.proofs.Agreement.{unit_agrees, potential_agrees}
@@ -29,24 +30,16 @@ use Rattle.shape.proofs.Translation.{shift_moves}
 
 module _ (g : Grid) (a b : List ℕ) (agree : Agree g a b) where
   -- GROUPS
-  edges_agree : (potential : Bool) → edges g a potential ≡ edges g b potential
-  unfolding edges_over edge_at
-  edges_agree potential =
-      let test : List ℕ → ℕ → Bool = λ states e. passes potential (get_or states e 0) in
-      gather_same (λ c. gather (edge_at g (test a) c) forward) (λ c. gather (edge_at g (test b) c) forward) (range (cells g))
-      (λ c m.
-      gather_same (edge_at g (test a) c) (edge_at g (test b) c) forward
-      (λ d i.
-      ap (λ t. when t (edge c (next g d c)))
-      (both_same (goes_on g d c) (test a (border g d c)) (test b (border g d c)) (λ q. ap (passes potential) (border_reads g a b agree d c (in_range (cells g) c m) q)))))
+  board_edges_agree : (potential : Bool) → edges g a potential ≡ edges g b potential
+  board_edges_agree potential = edges_agree g _ _ (λ e h. ap (passes potential) (agree e h))
 
   ids_agree : (potential : Bool) → group_ids g a potential ≡ group_ids g b potential
   unfolding group_ids
-  ids_agree potential = ap (parts (cells g)) (edges_agree potential)
+  ids_agree potential = ap (parts (cells g)) (board_edges_agree potential)
 
   count_agrees : (potential : Bool) → group_count g a potential ≡ group_count g b potential
   unfolding group_count
-  count_agrees potential = ap (λ (E : List Edge). begun_in (roots (cells g) E) (cells g)) (edges_agree potential)
+  count_agrees potential = ap (λ (E : List Edge). begun_in (roots (cells g) E) (cells g)) (board_edges_agree potential)
 
   module _ (ids pids : List ℕ) where
     -- INNER WALLS
