@@ -30,7 +30,7 @@ module _ (g : Grid) (states : List ℕ) where
     pub checked : 9 * cells g ≤ length b → Checked g g units (length b')
     checked h = record { units_of = refl; ids_long = ids_length g states false; enough = omega (arith, finds_long (inner_wall g states units) t) }
 
-    pub units_found : r ≡ std.None → {b'' : List ℕ} {r' : std.Option ℕ} → Finds (unit_stage g states units (group_count g states false)) b' b'' r'
+    pub units_found : r ≡ std.None → {b'' : List ℕ} {r' : std.Option ℕ} → Finds (unit_stage g states units (group_ids g states true) (group_count g states true) (group_count g states false)) b' b'' r'
         → Finds (shape_fault g states) b b'' r'
     unfolding shape_fault fault_in
     units_found e u = next_finds t e u

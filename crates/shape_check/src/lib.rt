@@ -1,7 +1,8 @@
 // The shape check (`SendaiShapeConstraint::find_inconsistency`): a board's ask.
 #![tactic(auto)]
 
-ghost use Rattle.std.specs.Prelude.{◌≡◌, ◌*◌, ◌≤◌, length};
+ghost use Rattle.std.specs.Prelude.{◌≡◌, ◌+◌, ◌*◌, ◌≤◌, length};
+ghost use Rattle.grid.specs.Grid.{cells};
 ghost use Rattle.shape.specs.Shape.{shape_fault};
 ghost use Rattle.answers.specs.Answers.{Finds, written};
 ghost use Rattle.answers.specs.Refusals.{Answers};
@@ -13,17 +14,44 @@ use borders::Borders;
 use groups::GroupArrays;
 use limits::CELLS;
 
+// The check of borders on a board of at most N cells: inner Walls, and else the units in order. The arrays are no longer than N asks, since all of
+// an array is zeroed. Where no border is undecided the potential units are the units.
+fn fault_in<const N: usize, const STARTS: usize, const NEAR: usize, const BORDERS: usize>(
+    b: Borders<'_>,
+    buffer: &mut [u16],
+) -> Option<usize>
+    requires enough { 9 * cells b.grid ≤ length buffer.old }
+    requires room { (cells b.grid ≤ N) × (cells b.grid + 1 ≤ STARTS) × (4 * cells b.grid ≤ NEAR) × (6 * cells b.grid ≤ BORDERS) }
+    requires arrays_small { (N ≤ 1024) × (STARTS ≤ 1025) × (NEAR ≤ 4096) × (BORDERS ≤ 6144) }
+    ensures { Finds (shape_fault b.entry.grid b.entry.states.now) buffer.old buffer.new result }
+{
+    let mut arrays = GroupArrays::<N>::blank();
+    let units = arrays.group(b, false);
+    if let Some(len) = inner_walls::inner_wall(b, units.ids, buffer) {
+        return Some(len);
+    }
+    let mut others = GroupArrays::<N>::blank();
+    let potentials = if b.are_decided() {
+        units
+    } else {
+        others.group(b, true)
+    };
+    unit_check::check::<N, STARTS, NEAR, BORDERS>(b, units, potentials, buffer)
+}
+
 // The check of borders: inner Walls, and else the units in order.
 pub fn shape_fault(b: Borders<'_>, buffer: &mut [u16]) -> Option<usize>
     requires { 9 * (b.grid.height * b.grid.width) ≤ length buffer.old }
     ensures { Finds (shape_fault b.entry.grid b.entry.states.now) buffer.old buffer.new result }
 {
-    let mut arrays = GroupArrays::<CELLS>::blank();
-    let units = arrays.group(b, false);
-    if let Some(len) = inner_walls::inner_wall(b, units.ids, buffer) {
-        return Some(len);
+    let cells = b.grid.cell_count();
+    if cells <= 64 {
+        return fault_in::<64, 65, 256, 384>(b, buffer);
     }
-    unit_check::check(b, units, buffer)
+    if cells <= 400 {
+        return fault_in::<400, 401, 1600, 2400>(b, buffer);
+    }
+    fault_in::<CELLS, 1025, 4096, 6144>(b, buffer)
 }
 
 // A board's ask: whether its standing borders contradict the laws that concern shape, and by which.

@@ -1,17 +1,16 @@
 -- The stage: the units of a board in order. Assumes nothing.
-use Rattle.std.specs.Prelude.{ℕ, ◌*◌, ◌≤◌, ◌≡◌, true, List, length}
+use Rattle.std.specs.Prelude.{ℕ, ◌*◌, ◌≤◌, ◌≡◌, List, length}
 use Rattle.std.proofs.Math.Option.{Option}
 use Rattle.lists.specs.Lists.{range, first}
 use Rattle.grid.specs.declared.Grid.{Grid}
 use Rattle.grid.specs.Grid.{cells}
-use Rattle.groups.specs.Groups.{group_ids, group_count}
 use Rattle.shape.specs.Shape.{unit_fault}
 use Rattle.offsets.specs.declared.table.CellInfo.{CellInfo}
 use Rattle.offsets.specs.Table.{units_in, potentials_in}
 
--- the fault of the first unit that has one, of n units (SPEC 4.11)
-abbrev pub unit_stage : Grid → List ℕ → List ℕ → ℕ → Option (List ℕ)
-unit_stage g states ids n = first (unit_fault g states ids (group_ids g states true) (group_count g states true)) (range n)
+-- the fault of the first unit that has one, of n units, among so many potential units (SPEC 4.11)
+abbrev pub unit_stage : Grid → List ℕ → List ℕ → List ℕ → ℕ → ℕ → Option (List ℕ)
+unit_stage g states ids pids count n = first (unit_fault g states ids pids count) (range n)
 
 -- there is a unit for each cell of the board, and so much room in the buffer
 pub record Checked (g g₁ : Grid) (ids : List ℕ) (room : ℕ) : Type 0 where
@@ -21,4 +20,4 @@ pub record Checked (g g₁ : Grid) (ids : List ℕ) (room : ℕ) : Type 0 where
 
 -- the list of the first of n units that fits nowhere, on a board of so many potential units, where the table tells both
 abbrev pub first_list : Grid → List ℕ → List CellInfo → ℕ → ℕ → Option (List ℕ)
-first_list g states table count n = first (unit_fault g states (units_in g table) (potentials_in g table) count) (range n)
+first_list g states table count n = unit_stage g states (units_in g table) (potentials_in g table) count n

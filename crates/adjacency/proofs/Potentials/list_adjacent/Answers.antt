@@ -11,19 +11,19 @@ bounds-starts-0 c = omega (arith, c.requires.room.starts_long)
 
 pub loop-p-init : goal.loop-p-init
 loop-p-init c =
-    let s = c.args.self in listing_none s.borders.states.now (rw s.one_board at s.groups.turns) c.requires.room c.requires.unmarked refl
+    let s = c.args.self in listing_none s.chart.borders.states.now (rw s.one_board at s.groups.turns) c.requires.room c.requires.unmarked refl
 
 pub list_one-requires : goal.list_one-requires
 list_one-requires c =
     let s = c.args.self in
     let i = c.loop-p.invariant in
-    let o = asked s.borders.states.now (rw s.one_board at s.groups.turns) c.requires.room i (omega (arith, c.len-p-end.ensures)) (rw s.one_board at c.cells.ensures.cells_are) in
+    let o = asked s.chart.borders.states.now (rw s.one_board at s.groups.turns) c.requires.room i (omega (arith, c.len-p-end.ensures)) (rw s.one_board at c.cells.ensures.cells_are) in
     record { looks = o.0; by_index = o.1; unmarked = i.clear }
 
 pub loop-p-preserved : goal.loop-p-preserved
 loop-p-preserved c =
     let s = c.args.self in
-    listing_turn s.borders.states.now (rw s.one_board at s.groups.turns) c.requires.room c.loop-p.invariant (omega (arith, c.len-p-end.ensures)) (rw s.one_board at c.cells.ensures.cells_are)
+    listing_turn s.chart.borders.states.now (rw s.one_board at s.groups.turns) c.requires.room c.loop-p.invariant (omega (arith, c.len-p-end.ensures)) (rw s.one_board at c.cells.ensures.cells_are)
     c.list_one.ensures.kept c.list_one.ensures.listed
 
 pub returns : goal.returns

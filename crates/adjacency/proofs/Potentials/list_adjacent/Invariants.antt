@@ -6,4 +6,4 @@ use Rattle.adjacency.proofs.Potentials.list_adjacent.Given as goal
 abbrev pub invariant-loop-p : goal.invariant-loop-p
 invariant-loop-p l =
     let s = l.self in
-    Progress s.borders.grid s.borders.states.now s.groups.ids.now (length s.groups.starts.now) s.groups.starts.now l.fn.starts l.initial.notes l.starts l.notes l.p
+    Progress s.chart.borders.grid s.chart.borders.states.now s.groups.ids.now (length s.groups.starts.now) s.groups.starts.now l.fn.starts l.initial.notes l.starts l.notes l.p

@@ -6,4 +6,4 @@ use Rattle.adjacency.proofs.Potentials.look_round.Given as goal
 
 abbrev pub invariant-loop-direction : goal.invariant-loop-direction
 invariant-loop-direction l =
-    let s = l.self in SoFar (λ d q. wall_to s.borders.grid s.borders.states.now s.groups.ids.now q l.cell d) 1 around l.initial.notes l.direction-index l.notes
+    let s = l.self in SoFar (λ d q. wall_to s.chart.borders.grid s.chart.borders.states.now s.groups.ids.now q l.cell d) 1 around l.initial.notes l.direction-index l.notes
