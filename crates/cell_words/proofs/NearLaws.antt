@@ -59,10 +59,6 @@ module _ {g : Grid} {states : List ℕ} {table : List CellInfo} {marks : List �
   pids = potentials_in g table
 
   module _ {near : Near} (t : Stamped g states pids near) where
-    -- its word stands there
-    pub stands : stamp near y ≡ Some p → Restamped g states pids p y (y + 1) near near
-    stands e = record { stamped = t; same = same_lists near; here = λ z a b. rw (let q : z ≡ y = omega arith in q) e; kept = λ z q. q }
-
     -- its word is made
     pub made : (word : ℕ) → Says g.width (λ x. marked_at table marks (y * g.width + x)) word
         → Restamped g states pids p y (y + 1) near

@@ -1,4 +1,4 @@
--- Std's words for tests of a whole list, which the contracts of `all` and `any` lead to, and ours. Assumes nothing.
+-- Std's words for a test of a whole list and for what `fill` leaves, to which the contracts of `all` and `fill` lead, and ours. Assumes nothing.
 use Rattle.std.proofs.Common.{◌≡◌, sym, ◌∙◌, ℕ, ◌<◌, ◌↔◌, Bool, List, All, IsTrue, length, get_or}
 use lib.Seq.{ext_get_or}
 use lib.ListN.{replicate, length-replicate, get_or-replicate}

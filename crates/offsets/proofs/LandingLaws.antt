@@ -46,7 +46,6 @@ module _ (g : Grid) (d : Direction) (c : ℕ) where
       go true p q = absurd (let z : ◌≡◌ {A = ℕ} 0 1 = cc in omega arith)
       go false p q = p
 
--- whether a border must land well
 -- what lies beyond a cell's border
 module _ (g : Grid) (d : Direction) (c : ℕ) {n : Neighbour} (h : Cell g c) (b : (goes_on g d c ≡ true) × (n.cell ≡ next g d c) × (n.border ≡ border g d c)) where
   pub seen_cell : Cell g n.cell
@@ -57,6 +56,7 @@ module _ (g : Grid) (d : Direction) (c : ℕ) {n : Neighbour} (h : Cell g c) (b 
       let j : n.border < border_count g = rw b.2 (border_lt g d c (next g d c) (border g d c) (goes_step g d c h b.0)) in
       omega (arith, fits.borders)
 
+-- whether a border must land well
 module _ (g : Grid) (states : List ℕ) (table : List CellInfo) (inner : Bool) (unit c : ℕ) (d : Direction) where
   pub kept_end : goes_on g d c ≡ false → not inner ≡ kept_of g states (units_in g table) inner unit c d
   unfolding kept_of
