@@ -42,6 +42,10 @@ parted_cell g states pids cs on q t =
     let s = stands_step g states 2 w.0 o.0 (rw i.2 at (on i.0 i.1)) b.0 in
     (next g w.0 o.0, s.cell', eqb-true (get_or pids (next g w.0 o.0) 0) q b.1)
 
+-- the cells of a potential unit are cells of the board
+cells_on : (g : Grid) (pids : List ℕ) (p i : ℕ) → i < length (cells_of g pids p) → Cell g (get_or (cells_of g pids p) i 0)
+cells_on g pids p i h = (in_cells g pids p (get_or (cells_of g pids p) i 0) (get_d_in 0 (cells_of g pids p) i h)).0
+
 module _ {test : ℕ → Bool} {k : ℕ} {marks list : List ℕ} {len : ℕ} {marks' list' : List ℕ} {len' : ℕ} (u : Unmarked marks) (l : Looked test k marks list len marks' list' len') where
   pub noted : Noted len test marks' list' len'
   noted =
@@ -104,7 +108,7 @@ module _ {g : Grid} (states : List ℕ) {pids : List ℕ} {count : ℕ} {first f
               rising = λ p h. absurd (omega arith);
               within = λ p h. let z : p ≡ 0 = omega arith in rw z (omega arith);
               fits = omega (arith, s);
-              has = λ p q h t. absurd (omega arith);
+              has = λ p q h n t. absurd (omega arith);
               only = λ p i h a b. absurd (omega arith);
             };
         end = s ∙ sym empty;
@@ -140,9 +144,7 @@ module _ {g : Grid} (states : List ℕ) {pids : List ℕ} {count : ℕ} {first f
         small = λ c l. omega (arith, turns.small c l, w.marks_long, a.marks_long);
         room = omega (arith, how_many, a.next_room h, (turns.between p h).within, w.list_long, a.list_long);
       },
-      λ i l.
-          let z : i < length (cells_of g pids p) = rw own_cells at l in
-          rw own_cells (in_cells g pids p (get_or (cells_of g pids p) i 0) (get_d_in 0 (cells_of g pids p) i z)).0,
+      λ i l. let z : i < length (cells_of g pids p) = rw own_cells at l in rw own_cells (cells_on g pids p i z),
     )
 
     module _ {after : Notes} (m : Kept now after) (l : Listed (parted g states pids cs) (4 * length cs) now.marks.now now.list.now now.len after.marks.now after.list.now after.len) where
@@ -187,12 +189,12 @@ module _ {g : Grid} (states : List ℕ) {pids : List ℕ} {count : ℕ} {first f
                 omega (arith, old k lower, new, a.lists.within k lower, a.end, l.more))
                 (eq_or_ne k (p + 1));
             fits = unfold to in omega (arith, new, upto, (turns.between p h).within, w.list_long, a.list_long, l.list_long);
-            has = λ k q z t.
+            has = λ k q z n t.
                 ⊎_elim
                 (λ (e : k ≡ p). let r : parted g states pids (cells_of g pids k) q ≡ true → Has k q = rw e (has_new q) in r t)
                 (λ (e : k ≢ p).
                 let lower : k < p = omega arith in
-                let o = a.lists.has k q lower t in
+                let o = a.lists.has k q lower n t in
                 let b : o.0 < now.len = omega (arith, o.2, a.lists.within (k + 1) (omega arith), a.end) in
                 (o.0, rw (old k (omega arith)) o.1, rw (old (k + 1) (omega arith)) o.2, l.before o.0 b ∙ o.3))
                 (eq_or_ne k p);
@@ -225,6 +227,26 @@ module _ {g : Grid} (states : List ℕ) {pids : List ℕ} {count : ℕ} {first f
             list_long = l.list_long ∙ a.list_long;
           }
 
+-- a potential unit that is alone has no other behind its Walls
+pub listed_alone : {g : Grid} (states : List ℕ) {pids : List ℕ} {count : ℕ} {first flat marks starts list : List ℕ} → InTurn g pids count first flat → count ≡ 1 → Room g count marks starts list
+    → Adjacency g states pids count (set (set starts 0 0) 1 0) list
+listed_alone {g} states {pids} {count} {starts = starts} {list = list} turns alone room =
+    let now = set (set starts 0 0) 1 0 in
+    let second : get_or now 1 0 ≡ 0 = get_or-set_same (set starts 0 0) 1 0 0 (simp length-set (omega (arith, alone, room.starts_long))) in
+    let first : get_or now 0 0 ≡ 0 = get_or-set_other (set starts 0 0) 1 0 0 0 (λ e. omega arith) ∙ get_or-set_same starts 0 0 0 (omega (arith, room.starts_long)) in
+    let none : (p : ℕ) → p ≤ count → get_or now p 0 ≡ 0 =
+    λ p h. ⊎_elim (λ (z : p ≡ 0). rw z first) (λ (z : p ≢ 0). let y : p ≡ 1 = omega arith in rw y second) (eq_or_ne p 0) in
+    record {
+      long = simp length-set room.starts_long;
+      rising = λ p h. omega (arith, none p (omega arith));
+      within = λ p h. omega (arith, none p h);
+      fits = omega (arith, none count (omega arith));
+      has = λ p q h z t.
+          let o = parted_cell g states pids (cells_of g pids p) (cells_on g pids p) q t in
+          absurd (omega (arith, turns.small o.0 o.1, o.2));
+      only = λ p i h x y. absurd (omega (arith, none (p + 1) (omega arith)));
+    }
+
 -- what marks need of the lists
 pub marking : {g : Grid} {states pids : List ℕ} {count : ℕ} {starts list : List ℕ} → ((c : ℕ) → Cell g c → get_or pids c 0 < count) → Adjacency g states pids count starts list
     → (marks : List ℕ) → count ≤ length marks → (p : ℕ) → p < count → Marking p starts list marks
@@ -234,8 +256,7 @@ marking {g} {states} {pids} {count} {list = list} few a marks long p h =
       rising = a.rising p h;
       list_long = omega (arith, a.within (p + 1) (omega arith), a.fits);
       small = λ i x y.
-          let on : (j : ℕ) → j < length (cells_of g pids p) → Cell g (get_or (cells_of g pids p) j 0) = λ j l. (in_cells g pids p (get_or (cells_of g pids p) j 0) (get_d_in 0 (cells_of g pids p) j l)).0 in
-          let o = parted_cell g states pids (cells_of g pids p) on (get_or list i 0) (a.only p i h x y) in
+          let o = parted_cell g states pids (cells_of g pids p) (cells_on g pids p) (get_or list i 0) (a.only p i h x y) in
           omega (arith, few o.0 o.1, o.2);
       own = omega arith;
     }

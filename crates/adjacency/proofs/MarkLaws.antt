@@ -69,9 +69,9 @@ module _ {g : Grid} {states pids : List ℕ} {count : ℕ} {starts list : List �
   beyond = parted g states pids (cells_of g pids p)
 
   module _ {mark : ℕ} {marks marks' : List ℕ} (w : Written list (get_or starts p 0) (get_or starts (p + 1) 0) mark marks marks') (q : ℕ) where
-    at_parted : beyond q ≡ true → get_or marks' q 0 ≡ mark
+    at_parted : q ≢ p → beyond q ≡ true → get_or marks' q 0 ≡ mark
     unfolding beyond
-    at_parted t = let o = a.has p q k t in rw o.3 at (w.here o.0 o.1 o.2)
+    at_parted z t = let o = a.has p q k z t in rw o.3 at (w.here o.0 o.1 o.2)
 
     at_other : beyond q ≡ false → get_or marks' q 0 ≡ get_or marks q 0
     unfolding beyond
@@ -88,7 +88,7 @@ module _ {g : Grid} {states pids : List ℕ} {count : ℕ} {starts list : List �
       (λ (z : q ≢ p).
       rw (not_self g states pids p q z, get_or-set_other marks' p q 1 0 z)
       (⊎_elim
-      (λ (t : beyond q ≡ true). rw (at_parted w q t) (sym t))
+      (λ (t : beyond q ≡ true). rw (at_parted w q z t) (sym t))
       (λ (t : beyond q ≡ false). rw (at_other w q t, u q) (sym t))
       (true_or_false (beyond q))))
       (eq_or_ne q p)
@@ -102,7 +102,7 @@ module _ {g : Grid} {states pids : List ℕ} {count : ℕ} {starts list : List �
       (λ (z : q ≢ p).
       rw (get_or-set_other marks' p q 0 0 z)
       (⊎_elim
-      (λ (t : beyond q ≡ true). at_parted w q t)
+      (λ (t : beyond q ≡ true). at_parted w q z t)
       (λ (t : beyond q ≡ false).
       at_other w q t
       ∙ ⊎_elim

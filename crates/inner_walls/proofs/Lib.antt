@@ -1,2 +1,3 @@
 pub mod FindLaws
 pub mod InnerLaws
+pub mod NoneLaws

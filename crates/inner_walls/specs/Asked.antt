@@ -1,5 +1,5 @@
 -- What the stage of inner Walls asks. Assumes nothing.
-use Rattle.std.specs.Prelude.{ℕ, ◌*◌, ◌≤◌, List, length}
+use Rattle.std.specs.Prelude.{ℕ, ◌+◌, ◌*◌, ◌≤◌, ◌<◌, ◌≡◌, ◌≢◌, List, get_or, length}
 use Rattle.grid.specs.declared.Grid.{Grid}
 use Rattle.grid.specs.Grid.{cells}
 
@@ -7,3 +7,7 @@ use Rattle.grid.specs.Grid.{cells}
 pub record Asked (g : Grid) (ids buffer : List ℕ) : Type 0 where
   pub ids_long : cells g ≤ length ids
   pub room : 9 * cells g ≤ length buffer
+
+-- none of so many borders that follow one another is a Wall inside a unit: the first lies between a cell and the one `step` numbers further on
+abbrev pub NoneInside : List ℕ → List ℕ → ℕ → ℕ → ℕ → ℕ → Type 0
+NoneInside states ids border cell step count = (i : ℕ) → i < count → get_or states (border + i) 0 ≡ 2 → get_or ids (cell + i) 0 ≢ get_or ids (cell + step + i) 0

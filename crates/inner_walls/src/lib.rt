@@ -1,16 +1,17 @@
 // The first stage of the shape check: a Wall inside a unit.
 #![tactic(auto)]
 
-ghost use Rattle.std.specs.Prelude.{◌+◌, ◌*◌, ◌<◌, ◌≤◌, length};
+ghost use Rattle.std.specs.Prelude.{◌≡◌, true, ◌+◌, ◌*◌, ◌<◌, ◌≤◌, length};
+ghost use Rattle.std.proofs.Math.Option.{none};
 ghost use Rattle.lists.specs.Lists.{first};
 ghost use Rattle.grid.specs.Orders.{forward};
 ghost use Rattle.grid.specs.Grid.{cells};
 ghost use Rattle.shape.specs.Shape.{inner_at, inner_wall};
 ghost use Rattle.answers.specs.Answers.{Finds};
-ghost use Rattle.inner_walls.specs.Asked.{Asked};
+ghost use Rattle.inner_walls.specs.Asked.{Asked, NoneInside};
 
 use borders::Borders;
-use grid::{Direction, Neighbour};
+use grid::{Direction, Grid, Neighbour};
 
 // A board's borders, and the unit of each cell.
 #[derive(Clone, Copy)]
@@ -21,6 +22,34 @@ struct Units<'a> {
 }
 
 impl Units<'_> {
+    // Whether none of so many borders that follow one another, and whose cells do, is a Wall inside a unit: the first lies between a cell and the
+    // one `step` numbers further on. The loop has one exit, so the compiler takes many borders at a time.
+    fn none_inside(self, border: usize, cell: usize, step: usize, count: usize) -> bool
+        requires states_long { border + count ≤ length self.borders.states.now }
+        requires ids_long { cell + step + count ≤ length self.ids.now }
+        ensures { result ≡ true → NoneInside self.entry.borders.states.now self.entry.ids.now border cell step count }
+    {
+        let mut none = true;
+        for i in 0..count {
+            let one_unit = self.ids[cell + i] == self.ids[cell + step + i];
+            none &= self.borders.states[border + i] != 2 || !one_unit;
+        }
+        none
+    }
+
+    // Whether no Wall lies inside a unit: all borders between rows at once, and then those of each row.
+    fn has_none(self) -> bool
+        ensures { result ≡ true → inner_wall self.entry.borders.grid self.entry.borders.states.now self.entry.ids.now ≡ none }
+    {
+        let Grid { height, width } = self.borders.grid;
+        let below = height * (width - 1);
+        let mut none = self.none_inside(below, 0, width, (height - 1) * width);
+        for row in 0..height {
+            none &= self.none_inside(row * (width - 1), row * width, 1, width - 1);
+        }
+        none
+    }
+
     // The Wall that the cell of a row and column has in a direction, if it lies inside a unit: the path between its cells, and then that
     // Wall.
     fn inner_at(
@@ -63,12 +92,15 @@ impl Units<'_> {
     }
 }
 
-// All cells, row by row, whose rows and columns are counted: none is found by a division.
+// All cells, row by row, whose rows and columns are counted: none is found by a division. On most boards no Wall lies inside a unit.
 pub fn inner_wall(b: Borders<'_>, ids: &[u16], buffer: &mut [u16]) -> Option<usize>
     requires { Asked b.grid ids.now buffer.old }
     ensures { Finds (inner_wall b.entry.grid b.entry.states.now ids.now) buffer.old buffer.new result }
 {
     let units = Units { borders: b, ids };
+    if units.has_none() {
+        return None;
+    }
     for row in 0..b.grid.height {
         for col in 0..b.grid.width {
             if let Some(n) = units.inner_cell(row, col, buffer) {

@@ -1,13 +1,19 @@
 -- `adjacency::Potentials::list_adjacent` meets its contract: the lists of the first p are made. Assumes nothing.
-use mathlib.Core.Path.{◌≡◌, refl}
+use mathlib.Core.Path.{◌≡◌, refl, sym, ◌∙◌}
 use native.Mathlib.Omega.{arith}
 use borrow.Author.Rules.{rules}
 use lib.ListN.{length}
-use Rattle.adjacency.proofs.ListingLaws.{listed_at, marked_at, listing_none, asked, listing_turn}
+use Rattle.adjacency.proofs.ListingLaws.{listed_alone, listed_at, marked_at, listing_none, asked, listing_turn}
 use Rattle.adjacency.proofs.Potentials.list_adjacent.Goals as goal
 
 pub bounds-starts-0 : goal.bounds-starts-0
 bounds-starts-0 c = omega (arith, c.requires.room.starts_long)
+
+pub returns-then-len-eq1-clause-adjacency : goal.returns-then-len-eq1-clause-adjacency
+returns-then-len-eq1-clause-adjacency c =
+    let s = c.args.self in
+    let alone : length s.groups.starts.now ≡ 1 = sym c.len.ensures ∙ c.if-len-eq1.true in
+    listed_alone s.chart.borders.states.now (rw s.one_board at s.groups.turns) alone c.requires.room
 
 pub loop-p-init : goal.loop-p-init
 loop-p-init c =
