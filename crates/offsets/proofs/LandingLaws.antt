@@ -26,7 +26,8 @@ use Rattle.offsets.specs.Told.{told}
 use Rattle.offsets.specs.Places.{ahead_of, border_of, land_of}
 use Rattle.offsets.specs.Table.{Table, blank, spot, spot_of, unit_in, units_in}
 use Rattle.offsets.specs.Reach.{Bounded, Small}
-use Rattle.offsets.specs.Landings.{bad_of, kept_of, landing_of, fail_at, Turning}
+use Rattle.lists.proofs.ChoiceLaws.{both_false}
+use Rattle.offsets.specs.Landings.{bad_of, kept_of, lands_badly, landing_of, fail_at, Turning}
 use Rattle.offsets.proofs.TableLaws.{unit_at_lem, spot_at}
 use Rattle.offsets.proofs.PlaceLaws.{coordinate_moves, place_lands}
 use Rattle.offsets.proofs.ReachLaws.{bounded, Fell, fell, fell_cell}
@@ -74,6 +75,27 @@ module _ (g : Grid) (states : List ℕ) (table : List CellInfo) (inner : Bool) (
     pub kept_shut : inner ≡ false → eqb (get_or states n.border 0) 2 ≡ kept_of g states (units_in g table) inner unit c d
     unfolding kept_of state_at
     kept_shut q = rw (q, b.0, b.2)
+
+-- whether a border of c lands badly, where c falls on x
+module _ (g : Grid) (states : List ℕ) (table : List CellInfo) (inner : Bool) (unit c x : ℕ) (d : Direction) where
+  abbrev bad : Bool
+  bad = lands_badly g states (units_in g table) inner unit c x d
+
+  abbrev kept : Bool
+  kept = kept_of g states (units_in g table) inner unit c d
+
+  pub bad_unkept : kept ≡ false → false ≡ bad
+  unfolding lands_badly
+  bad_unkept k = rw k
+
+  pub bad_end : goes_on g d x ≡ false → false ≡ bad
+  unfolding lands_badly stands
+  bad_end e = rw e (sym (both_false kept))
+
+  pub bad_there : {n : Neighbour} → kept ≡ true → (goes_on g d x ≡ true) × (n.cell ≡ next g d x) × (n.border ≡ border g d x)
+      → bad_of inner (get_or states n.border 0) ≡ bad
+  unfolding lands_badly stands state_at
+  bad_there k b = rw (k, b.0, b.2)
 
 -- a border lands where its cell falls
 pub landing_is : (g : Grid) (s : Shift) (p : Spot) (c : ℕ) (d : Direction) → Limits g → Fell g s p c → landing_of g s p d ≡ border_of (neighbour_in g d c)

@@ -6,4 +6,5 @@ pub mod ToldLaws
 pub mod ReachLaws
 pub mod LandingLaws
 pub mod FailLaws
+pub mod WellLaws
 pub mod TrialLaws

@@ -9,7 +9,6 @@ use native.Mathlib.Omega.{arith}
 use lib.Dec.{eqb}
 use lib.ListN.{get_or, length}
 use Rattle.std.specs.Prelude as std
-use Rattle.std.specs.Option.{is_some}
 use Rattle.lists.specs.Choice.{both, either, give, or_else, holds, through}
 use Rattle.lists.specs.Lists.{In, all, any, first}
 use Rattle.lists.proofs.ChoiceLaws.{both_true, holds_true}
@@ -31,10 +30,11 @@ use Rattle.offsets.specs.declared.table.CellInfo.{CellInfo}
 use Rattle.offsets.specs.Told.{told}
 use Rattle.offsets.specs.Table.{blank, spot, spot_of, unit_in, potential_in, units_in, potentials_in}
 use Rattle.offsets.specs.Reach.{moved, Small, falls_off, falls_marked, reaches_of}
-use Rattle.offsets.specs.Landings.{fail_at, fail_cell, first_fail, kept_of, failure_of, Falling}
+use Rattle.offsets.specs.Landings.{fail_at, fail_cell, first_fail, kept_of, failure_of, lands_well, Falling}
 use Rattle.offsets.specs.Trial.{unit_at, shift_of, tried_at, Unit, Placed}
 use Rattle.offsets.proofs.TableLaws.{potential_at, spot_at}
 use Rattle.offsets.proofs.ReachLaws.{bounded, fell, fell_cell}
+use Rattle.offsets.proofs.WellLaws.{well_is}
 use Rattle.offsets.proofs.NoneLaws.{is_none, none_or_else, good_pick}
 use Rattle.offsets.proofs.ToldLaws.{told_some, told_none}
 
@@ -222,13 +222,10 @@ module _ {g : Grid} {states : List ℕ} {table : List CellInfo} {marks cs : List
           unfolding landed
           trial_good k = sym (by_landing none (told_none _ (sym failure_is ∙ k)))
 
-          -- whether it is good
-          good_by : (o : std.Option ℕ) → r ≡ o → (b : Bool) → is_some o ≡ not b → b ≡ is_good answer
-          unfolding is_good
-          good_by std.None k true q = ap is_good (trial_good k)
-          good_by (std.Some l) k false q = ap is_good (trial_failed k)
-          good_by std.None k false q = cc
-          good_by (std.Some l) k true q = cc
-
-          pub good_told : {b : Bool} → is_some r ≡ not b → b ≡ is_good answer
-          good_told {b} = good_by r refl b
+        -- whether it is good, by its landings alone
+        pub good_landed : {b : Bool} → b ≡ all (lands_well g s' states ids) cs → b ≡ is_good answer
+        good_landed landed_well =
+            landed_well
+            ∙ ap (λ (z : Shift). all (lands_well g z states ids) cs) e
+            ∙ well_is g states ids s (falling (sym met_is ∙ q))
+            ∙ sym (rw (sym met_is ∙ q) at good_is)

@@ -2,8 +2,8 @@
 use Rattle.std.specs.Prelude as std
 use Rattle.std.specs.Prelude.{ℕ, ◌≡◌, Bool, true, false, not, List, eqb}
 use Rattle.std.proofs.Math.Option.{Option, some}
-use Rattle.lists.specs.Choice.{both, either, pick, give, or_else, through}
-use Rattle.lists.specs.Lists.{In, first}
+use Rattle.lists.specs.Choice.{both, either, pick, give, holds, or_else, through}
+use Rattle.lists.specs.Lists.{In, any, first}
 use Rattle.grid.specs.declared.Direction.{Direction}
 use Rattle.grid.specs.Orders.{around, forward}
 use Rattle.grid.specs.declared.Grid.{Grid}
@@ -63,6 +63,20 @@ first_fail g s states ids inner cs = first (fail_cell g s states ids inner) cs
 unfoldable pub failure_of : Grid → Shift → List ℕ → List ℕ → List ℕ → Option ℕ
 unfolding or_else first_fail
 failure_of g s states ids cs = or_else (first_fail g s states ids true cs) (first_fail g s states ids false cs)
+
+-- the border of c in that direction lands badly, where c falls on x
+unfoldable pub lands_badly : Grid → List ℕ → List ℕ → Bool → ℕ → ℕ → ℕ → Direction → Bool
+unfolding kept_of stands
+lands_badly g states ids inner unit c x d = both (kept_of g states ids inner unit c d) (stands g states (bad_state inner) d x)
+
+-- one of the borders of c lands badly, where c falls on x
+unfoldable pub has_bad : Grid → List ℕ → List ℕ → ℕ → ℕ → ℕ → Bool
+unfolding any lands_badly
+has_bad g states ids unit c x = either (any (lands_badly g states ids true unit c x) (directions_of true)) (any (lands_badly g states ids false unit c x) (directions_of false))
+
+-- c falls on the board, and its borders land well
+abbrev pub lands_well : Grid → Shift → List ℕ → List ℕ → ℕ → Bool
+lands_well g s states ids c = holds (moved g s (spot g c)) (λ x. not (has_bad g states ids s.unit c x))
 
 -- c is a cell, and falls on the board
 pub record Turning (g : Grid) (s : Shift) (c : ℕ) : Type 0 where

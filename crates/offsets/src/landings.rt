@@ -3,7 +3,7 @@ ghost use Rattle.std.specs.Prelude.{◌≡◌};
 ghost use Rattle.grid.specs.Grid.{Cell};
 ghost use Rattle.offsets.specs.Told.{told};
 ghost use Rattle.offsets.specs.Table.{units_in};
-ghost use Rattle.offsets.specs.Landings.{Turning, Falling, is_inner, directions_of, bad_of, kept_of, fail_at, fail_cell, first_fail};
+ghost use Rattle.offsets.specs.Landings.{Turning, Falling, is_inner, directions_of, bad_of, kept_of, lands_badly, has_bad, fail_at, fail_cell, first_fail};
 
 use crate::chart::Chart;
 use crate::shift::Shift;
@@ -61,6 +61,54 @@ impl Chart<'_> {
             Kind::Inner => self.table[neighbour.cell].unit == unit,
             Kind::Outer => self.borders.states[neighbour.border] == 2,
         }
+    }
+
+    // Whether the border of a cell in a direction lands badly, where the cell falls on `fallen`: it lands there, which is sooner told than the
+    // place that an entry wants.
+    #[inline(always)]
+    fn lands_badly(
+        self,
+        unit: u16,
+        kind: Kind,
+        cell: usize,
+        fallen: usize,
+        direction: Direction,
+    ) -> bool
+        requires { Cell self.borders.grid cell × Cell self.borders.grid fallen }
+        ensures { result ≡ lands_badly self.entry.borders.grid self.entry.borders.states.now (units_in self.entry.borders.grid self.entry.table.now) (is_inner kind) unit cell fallen direction }
+    {
+        if !self.keeps(unit, kind, cell, direction) {
+            return false;
+        }
+        let Spot { row, col } = self.table[fallen].spot();
+        match self.borders.grid.step_at(row, col, fallen, direction) {
+            Some(beyond) => kind.is_bad(self.borders.states[beyond.border]),
+            None => false,
+        }
+    }
+
+    // Whether one of the borders of a cell that falls on `fallen` lands badly.
+    #[inline(always)]
+    pub fn has_bad(self, unit: u16, cell: usize, fallen: usize) -> bool
+        requires { Cell self.borders.grid cell × Cell self.borders.grid fallen }
+        ensures { result ≡ has_bad self.entry.borders.grid self.entry.borders.states.now (units_in self.entry.borders.grid self.entry.table.now) unit cell fallen }
+    {
+        if self.lands_badly(unit, Kind::Inner, cell, fallen, Direction::Down) {
+            return true;
+        }
+        if self.lands_badly(unit, Kind::Inner, cell, fallen, Direction::Right) {
+            return true;
+        }
+        if self.lands_badly(unit, Kind::Outer, cell, fallen, Direction::Up) {
+            return true;
+        }
+        if self.lands_badly(unit, Kind::Outer, cell, fallen, Direction::Down) {
+            return true;
+        }
+        if self.lands_badly(unit, Kind::Outer, cell, fallen, Direction::Left) {
+            return true;
+        }
+        self.lands_badly(unit, Kind::Outer, cell, fallen, Direction::Right)
     }
 
     // The entry of a cell's border in a direction, where it lands badly.

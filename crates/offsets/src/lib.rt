@@ -2,12 +2,13 @@
 #![tactic(auto)]
 
 ghost use Rattle.std.specs.Prelude.{◌≡◌};
+ghost use Rattle.lists.specs.Lists.{all};
 ghost use Rattle.grid.specs.Grid.{Cell};
 ghost use Rattle.shape.specs.Shape.{head_or0, is_good};
 ghost use Rattle.offsets.specs.Told.{told};
 ghost use Rattle.offsets.specs.Table.{unit_in, units_in, potentials_in};
 ghost use Rattle.offsets.specs.Reach.{Small, reaches_of};
-ghost use Rattle.offsets.specs.Landings.{Falling, failure_of};
+ghost use Rattle.offsets.specs.Landings.{Falling, failure_of, lands_well};
 ghost use Rattle.offsets.specs.Trial.{shift_of, tried_at};
 
 use chart::Chart;
@@ -51,6 +52,27 @@ impl UnitCells<'_> {
             return Some(entry);
         }
         self.chart.first_failure(shift, Kind::Outer, self.cells)
+    }
+}
+
+impl UnitCells<'_> {
+    // Whether all its borders land well, by the cells on which its own fall: whether `failure` finds none.
+    #[inline(always)]
+    fn lands_well(self, shift: Shift) -> bool
+        requires { Falling self.chart.borders.grid self.cells.now shift }
+        ensures { result ≡ all (lands_well self.entry.chart.borders.grid shift self.entry.chart.borders.states.now (units_in self.entry.chart.borders.grid self.entry.chart.table.now)) self.entry.cells.now }
+    {
+        let Chart { borders, table } = self.chart;
+        for &cell in self.cells {
+            let cell = usize::from(cell);
+            let Some(fallen) = shift.falls(borders.grid, table[cell].spot()) else {
+                return false;
+            };
+            if self.chart.has_bad(shift.unit, cell, fallen) {
+                return false;
+            }
+        }
+        true
     }
 }
 
@@ -99,6 +121,6 @@ impl Trial<'_> {
         ensures { result ≡ is_good (tried_at self.entry.unit.chart.borders.grid self.entry.unit.chart.borders.states.now self.entry.unit.chart.table.now self.entry.unit.cells.now to) }
     {
         let shift = self.unit.shift_to(to);
-        self.reaches(shift) && self.unit.failure(shift).is_none()
+        self.reaches(shift) && self.unit.lands_well(shift)
     }
 }

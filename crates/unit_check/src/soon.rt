@@ -33,14 +33,16 @@ fn longest_run(unit: UnitCells<'_>) -> usize
     longest
 }
 
-// The cell beside the unit to the right of its first cell.
-fn right_of(unit: UnitCells<'_>) -> usize {
-    usize::from(unit.cells[0]) + longest_run(unit)
+// The cell beside the unit to the right of its first cell, where its longest run has so many cells.
+fn right_of(unit: UnitCells<'_>, run: usize) -> usize
+    requires { run ≤ 1024 }
+{
+    usize::from(unit.cells[0]) + run
 }
 
 // The cell beside the unit to the left of its first cell; the board's first cell where there is none.
-fn left_of(unit: UnitCells<'_>) -> usize {
-    usize::from(unit.cells[0]).saturating_sub(longest_run(unit))
+fn left_of(unit: UnitCells<'_>, run: usize) -> usize {
+    usize::from(unit.cells[0]).saturating_sub(run)
 }
 
 // The cell under the unit's last row, in the column of its first cell.
@@ -77,16 +79,17 @@ fn turns(borders: Borders<'_>, beside: usize) -> usize
 }
 
 // The place that is tried in turn `i`: right of the unit, under it, left of it, and behind the turns beside it all places from the first on.
-fn place(unit: UnitCells<'_>, beside: usize, i: usize) -> usize
+fn place(unit: UnitCells<'_>, run: usize, beside: usize, i: usize) -> usize
+    requires { run ≤ 1024 }
     ensures { beside ≤ i → result ≡ i - beside }
 {
     if beside <= i {
         return i - beside;
     }
     match i {
-        0 => right_of(unit),
+        0 => right_of(unit, run),
         1 => under(unit),
-        _ => left_of(unit),
+        _ => left_of(unit, run),
     }
 }
 
@@ -97,9 +100,10 @@ pub fn fits_soon(trial: Trial<'_>) -> bool
     ensures value { tries_all trial.entry.unit.chart.borders.grid ≡ true → result ≡ fits_at trial.entry.unit.chart.borders.grid trial.entry.unit.chart.borders.states.now trial.entry.unit.chart.table.now trial.entry.unit.cells.now }
 {
     let borders = trial.unit.chart.borders;
+    let run = longest_run(trial.unit);
     let beside = turns_beside(borders);
     for i in 0..turns(borders, beside) {
-        if is_good_at(trial, place(trial.unit, beside, i)) {
+        if is_good_at(trial, place(trial.unit, run, beside, i)) {
             return true;
         }
     }
