@@ -31,8 +31,9 @@ impl Units<'_> {
     {
         let mut none = true;
         for i in 0..count {
+            let wall = self.borders.states[border + i] == 2;
             let one_unit = self.ids[cell + i] == self.ids[cell + step + i];
-            none &= self.borders.states[border + i] != 2 || !one_unit;
+            none &= !(wall & one_unit);
         }
         none
     }

@@ -133,14 +133,19 @@ impl Puzzle {
         self.board.book.holds(self.board.grid.border_count(), marks)
     }
 
-    // Question 2 of the ledger. A small board has a short array, since all of an array is zeroed.
+    // Question 2 of the ledger. The array is no longer than the board asks, or one of 20 by 20, since all of it is zeroed.
     fn ledger_holds(&self) -> bool
         requires fits { self.now.given_len ≤ most_borders }
         requires given { Given (grid_of self.now) (given_of self.now) }
         ensures { result ≡ book_holds (borders_of self.now) (is_given (given_of self.now)) (book_of self.now) }
     {
-        if self.board.grid.is_small() {
+        let borders = self.board.grid.border_count();
+        if borders <= 256 {
             let mut marks = [0u8; 256];
+            return self.holds_in(&mut marks);
+        }
+        if borders <= 760 {
+            let mut marks = [0u8; 760];
             return self.holds_in(&mut marks);
         }
         let mut marks = [0u8; limits::BORDERS];
