@@ -5,6 +5,7 @@ pub mod NoneLaws
 pub mod ToldLaws
 pub mod ReachLaws
 pub mod LandingLaws
+pub mod SideLaws
 pub mod FailLaws
 pub mod WellLaws
 pub mod TrialLaws

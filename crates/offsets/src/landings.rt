@@ -99,6 +99,9 @@ impl Chart<'_> {
         if self.lands_badly(unit, Kind::Inner, cell, fallen, Direction::Right) {
             return true;
         }
+        if !self.is_shut(cell) {
+            return false;
+        }
         if self.lands_badly(unit, Kind::Outer, cell, fallen, Direction::Up) {
             return true;
         }

@@ -22,6 +22,7 @@ pub mod chart;
 pub mod landings;
 mod places;
 pub mod shift;
+pub mod sides;
 pub mod spot;
 pub mod table;
 pub mod trial;
@@ -62,7 +63,7 @@ impl UnitCells<'_> {
         requires { Falling self.chart.borders.grid self.cells.now shift }
         ensures { result ≡ all (lands_well self.entry.chart.borders.grid shift self.entry.chart.borders.states.now (units_in self.entry.chart.borders.grid self.entry.chart.table.now)) self.entry.cells.now }
     {
-        let Chart { borders, table } = self.chart;
+        let Chart { borders, table, .. } = self.chart;
         for &cell in self.cells {
             let cell = usize::from(cell);
             let Some(fallen) = shift.falls(borders.grid, table[cell].spot()) else {
@@ -83,7 +84,7 @@ impl Trial<'_> {
         requires { Small self.unit.chart.borders.grid shift }
         ensures { result ≡ reaches_of self.entry.unit.chart.borders.grid shift (units_in self.entry.unit.chart.borders.grid self.entry.unit.chart.table.now) (potentials_in self.entry.unit.chart.borders.grid self.entry.unit.chart.table.now) self.entry.marks.now self.entry.unit.cells.now }
     {
-        let Chart { borders, table } = self.unit.chart;
+        let Chart { borders, table, .. } = self.unit.chart;
         let mut met = false;
         for &cell in self.unit.cells {
             let spot = table[usize::from(cell)].spot();

@@ -10,6 +10,7 @@ use adjacency::{Near, Potentials};
 use borders::Borders;
 use groups::Groups;
 use offsets::chart::Chart;
+use offsets::sides;
 use offsets::table::{self, CellInfo};
 use stage::Stage;
 
@@ -34,12 +35,15 @@ pub fn check<'a, const N: usize, const STARTS: usize, const NEAR: usize, const B
 {
     let mut table = [CellInfo::default(); N];
     table::fill(borders.grid, units.ids, potentials.ids, &mut table);
+    let mut shut = [1; N];
+    sides::fill(borders, &mut shut);
     let mut marks = [0; N];
     let mut near_starts = [0; STARTS];
     let mut near = [0; NEAR];
     let chart = Chart {
         borders,
         table: &table,
+        shut: &shut,
     };
     let around = Potentials {
         chart,

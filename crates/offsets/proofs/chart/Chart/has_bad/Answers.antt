@@ -2,7 +2,9 @@
 use mathlib.Core.Path.{refl, sym, ◌∙◌}
 use Rattle.lists.specs.Lists.{any}
 use Rattle.lists.proofs.ChoiceLaws.{either_false}
+use Rattle.offsets.specs.Table.{units_in}
 use Rattle.offsets.specs.Landings.{has_bad}
+use Rattle.offsets.proofs.SideLaws.{open_lands}
 use Rattle.offsets.proofs.chart.Chart.has_bad.Goals as goal
 
 pub returns-then-lands_badly : goal.returns-then-lands_badly
@@ -12,6 +14,12 @@ returns-then-lands_badly c = rw (← c.if-lands_badly.ensures) refl
 pub returns-then-lands_badly-2 : goal.returns-then-lands_badly-2
 unfolding has_bad any
 returns-then-lands_badly-2 c = rw (← c.if-lands_badly.ensures, ← c.if-lands_badly-2.ensures) refl
+
+pub returns-then-not-is_shut : goal.returns-then-not-is_shut
+unfolding has_bad any
+returns-then-not-is_shut c =
+    rw (← c.if-lands_badly.ensures, ← c.if-lands_badly-2.ensures)
+    (let a = c.args in sym (open_lands _ _ (units_in a.self.borders.grid a.self.table.now) a.unit a.cell a.fallen (c.is_shut.ensures c.if-not-is_shut.true)))
 
 pub returns-then-lands_badly-3 : goal.returns-then-lands_badly-3
 unfolding has_bad any
