@@ -64,7 +64,7 @@ class Drawings(unittest.TestCase):
                      ROOMS.replace("-", "═").replace("|", "║").replace("+", "╬"),
                      "┌───┬───────┐\n│ 2   . │ 1 │\n├───┐   ├───┤\n│   │   o   │\n╰───┴───┴───╯".replace("┬───────┐", "────┬───┐")):
             self.assertEqual(parse(form), plain, form)
-        with open(os.path.join(TOP, "tools", "next", "README.md"), encoding="utf-8") as f:
+        with open(os.path.join(TOP, "README.md"), encoding="utf-8") as f:
             drawn = re.search(r"\n(    \+---(?:.*\n)(?:    [|+].*\n)+)    4  wall 0", f.read()).group(1)
         self.assertEqual(parse(drawn).calls, [(WALL, 0), (WALL, 6), (ASK, None)])
 
@@ -128,6 +128,8 @@ MISTAKES = [
     (ONE + "\nclue 1 1", "line 4, column 6: there is no room 1: they are 0 to 0"),
     (ONE + "\nclue 0 2", "line 4, column 8: clue 2 is above the 1 cell of room 0"),
     ("+---+\n| 1 |\n+---+\nclue 0 1", "line 4, column 8: room 0 has a clue already, 1"),
+    (ONE + "\nask\n  " + ONE, "line 5, column 3: a second drawing starts here: a case has one, and calls behind it"),
+    ("+---+\nask\n|   |\n+---+", "line 3, column 1: a second drawing starts here: a case has one, and calls behind it"),
     (row_of(33), "line 1, column 130: a board has at most 32 columns, and here are 33"),
     (row_of(1, 40), "line 66, column 1: a board has at most 32 rows, and here are 40"),
 ]

@@ -1,7 +1,7 @@
 #!/usr/bin/env python3
 """Tests of solve.py, held to the truth: all full boards, judged by the four laws of docs/SPEC.md alone.
 
-    python3 tools/next/test_solve.py [--seed N] [--puzzles N] [options of unittest]
+    python3 tools/test_solve.py [--seed N] [--puzzles N] [options of unittest]
 
 Run it anywhere. --seed: of the puzzles that are drawn (1); --puzzles: how many of them (150).
 """

@@ -156,10 +156,23 @@ def decimal(word):
     return word.isascii() and word.isdecimal()
 
 
+def parted(lines):
+    """The lines of the board, which stand in one piece, and the others, which are calls."""
+    drawn, orders = [], []
+    for n, line in lines:
+        column = len(line) - len(line.lstrip()) + 1
+        if line[column - 1] not in "+|":
+            orders.append((n, line))
+        elif drawn and orders and orders[-1][0] > drawn[-1][0]:
+            raise Mistake("a second drawing starts here: a case has one, and calls behind it", n, column)
+        else:
+            drawn.append((n, line))
+    return drawn, orders
+
+
 def parse(text, as_is=False):
     """The case of a drawing. With `as_is` it may be one that the program refuses."""
-    lines = tidy(text)
-    drawn = [(n, line) for n, line in lines if line.lstrip()[0] in "+|"]
+    drawn, orders = parted(tidy(text))
     sheet = Sheet(drawn)
     sheet.check(as_is)
     sheet.check_edges()
@@ -170,7 +183,6 @@ def parse(text, as_is=False):
     case.walls.sort()
     case.calls.sort(key=lambda call: call[1])
     reading.clues()
-    orders = [(n, line) for n, line in lines if line.lstrip()[0] not in "+|"]
     for n, line in orders:
         reading.order(n, line)
     if all(line.split()[0] == "clue" for _, line in orders):

@@ -47,7 +47,7 @@ def arguments(words):
     parser.add_argument("--all", dest="limit", action="store_const", const=0, help="find all answers: --limit 0")
     parser.add_argument("--seconds", type=duration, metavar="S", help="stop after so many seconds")
     parser.add_argument("--asks", type=natural, metavar="N", help="stop after so many asks")
-    parser.add_argument("--trace", metavar="FILE", help="write every call to FILE, in the form that tools/next/solver/trace.py describes")
+    parser.add_argument("--trace", metavar="FILE", help="write every call to FILE, in the form that tools/solver/trace.py describes")
     parser.add_argument("--json", action="store_true", help="print answers (1 Connected, 2 Wall, by border) and counts as one JSON object")
     parser.add_argument("--draw", type=natural, default=100, metavar="N", help="draw at most so many answers (100)")
     parser.add_argument("--quiet", action="store_true", help="draw nothing, and show no progress")
