@@ -50,7 +50,7 @@ from cases.file import encode
 from cases.model import Case, Mistake, drawable, refusal
 from cases.page import Book, page_path
 from cases.program import run
-from cases.read import naming, read_bytes, read_case, text_of, told
+from cases.read import MOST_LINES, naming, read_bytes, read_case, text_of, told
 from cases.reasons import why
 from cases.text import refusal_said
 from cases.turns import Choice, check_lines
@@ -111,7 +111,7 @@ def answer_lines(args, case):
     if source is None:
         return None
     with naming(source):
-        lines = run(source, case) if args.program else text_of(read_bytes(source)).splitlines()
+        lines = run(source, case) if args.program else text_of(read_bytes(source, MOST_LINES)).splitlines()
         check_lines(case, lines)
     return lines
 

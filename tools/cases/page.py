@@ -20,7 +20,7 @@ p { margin: .3rem 0; overflow-wrap: anywhere } nav, .legend { display: flex; fle
 .legend li { list-style: none; display: flex; align-items: center; gap: .4rem }
 .steps { display: grid; grid-template-columns: repeat(auto-fill, minmax(min(100%%, %dpx), 1fr)); gap: .8rem; padding: 0; margin: 0 }
 .step { list-style: none; border: 1px solid; border-left-width: 6px; border-radius: 4px; padding: .6rem } .step:target { outline: 2px solid }
-.step svg { max-width: 100%%; height: auto } .why { font-weight: 600 } .parts { position: absolute }
+.step { overflow-x: auto } .step svg { max-width: %s; height: auto } .why { font-weight: 600 } .parts { position: absolute }
 %s
 @media (prefers-color-scheme: dark) {
 %s
@@ -62,7 +62,8 @@ class Book:
         part = self.steps[(number - 1) * self.each:number * self.each]
         said = refusal_said(self.case) if self.refused else steps_said(part, self.choice)
         wide = max(NARROWEST, self.drawer.wide + LEFT + 2 * GAP) + 30
-        style = STYLE + LAYOUT % (wide, COLOURS % LIGHT, COLOURS % DARK)
+        shrinks = "none" if self.drawer.numbers else "100%"  # a board in a narrow window; its numbers would be too small to read
+        style = STYLE + LAYOUT % (wide, shrinks, COLOURS % LIGHT, COLOURS % DARK)
         if self.refused:
             made = ['<li class="step">%s</li>' % self.board(Panel(said, {}, {}))]
         return "\n".join([

@@ -7,7 +7,8 @@ import sys
 from . import drawing, file, url
 from .model import Mistake
 
-MOST_BYTES = 1 << 24  # far more than a drawing, a case file or its answers have; a device may never end
+MOST_BYTES = 1 << 24  # far more than a drawing or a case file has; a device may never end
+MOST_LINES = 1 << 28  # and this of the lines that the program prints
 
 
 @contextlib.contextmanager
@@ -23,18 +24,18 @@ def is_url(source):
     return url.LIKELY.match(source) is not None and not os.path.exists(source)
 
 
-def read_bytes(path):
+def read_bytes(path, most=MOST_BYTES):
     """What a file holds, or standard input for '-'."""
     try:
         if path == "-":
-            data = sys.stdin.buffer.read(MOST_BYTES + 1) if sys.stdin else b""
+            data = sys.stdin.buffer.read(most + 1) if sys.stdin else b""
         else:
             with open(path, "rb") as f:
-                data = f.read(MOST_BYTES + 1)
+                data = f.read(most + 1)
     except (OSError, ValueError) as e:
         raise Mistake(told(e)) from None
-    if len(data) > MOST_BYTES:
-        raise Mistake("there are more than %d bytes in it" % MOST_BYTES)
+    if len(data) > most:
+        raise Mistake("there are more than %d bytes in it" % most)
     return data
 
 

@@ -100,10 +100,10 @@ class Drawer:
                path("gone shaded", (self.side(b) for b in links if self.sides[b][0] in shaded)),
                path("listed", (self.side(b) if value else self.link(b) for b, value in listed.items() if value is not None)),
                path("connected", (self.link(b) for b in links)), path("wall", (self.side(b) for b in walls)),
-               path("differs", (self.side(b) for b, value in listed.items() if value is None)), '<use href="#over"/>']
+               path("differs", (self.side(b) for b, value in listed.items() if value is None))]
         if panel.touched is not None and panel.touched < len(self.spots):
             out.append('<circle class="now" cx="%d" cy="%d" r="8"/>' % self.middle(panel.touched))
-        return "".join(out)
+        return "".join(out) + '<use href="#over"/>'
 
 
 def path(kind, pieces):

@@ -6,13 +6,14 @@ import signal
 import subprocess
 import sys
 import unittest
+import unittest.mock
 
 import case
 from cases.file import decode, encode
 from cases.model import ASK, NO_CLUE, Case
 from cases.read import read_bytes, read_case
 
-from .support import PAPER, PAPER_CASE, PAPER_DRAWING, PAPER_LINES, PROGRAM, ROOMS, InFolder, run
+from .support import PAPER, PAPER_CASE, PAPER_DRAWING, PAPER_LINES, PROGRAM, ROOMS, TOP, InFolder, run
 
 PAPER_URL = "https://puzz.link/p?sendai/3/1/0g"
 DRAWN = "+---+---+---+\n|   X   O   |\n+---+---+---+\n"
@@ -158,6 +159,13 @@ class Refused(InFolder):
                 self.assertRegex(line, r"^case\.py: %s\n\Z" % said, words)
         self.assertFalse(os.path.exists(self.file("load")))
 
+    def test_a_program_that_never_ends(self):
+        program = self.file("endless", "#!/bin/sh\nexec yes decided\n")
+        os.chmod(program, 0o755)
+        with unittest.mock.patch("cases.program.MOST_LINES", 10 ** 6):
+            ended = run("show", self.drawing, "--program", program)
+        self.assertEqual(ended, (2, "", "case.py: %s: the program prints more than 1000000 bytes\n" % program))
+
     def test_a_refused_puzzle_by_status(self):
         program = self.file("refuses", "#!/bin/sh\necho refused 9\necho why >&2\nexit 1\n")
         os.chmod(program, 0o755)
@@ -200,6 +208,12 @@ class Ended(InFolder):
 
 @unittest.skipUnless(os.path.exists(PROGRAM), "no %s (run `bindings/prove program`)" % PROGRAM)
 class Program(InFolder):
+    def test_the_picture_of_the_readme(self):
+        """docs/pictures/words.svg is what the commands draw today."""
+        drawn = self.file("words.svg")
+        self.assertEqual(run("show", os.path.join(TOP, "tools", "words.txt"), "--program", PROGRAM, "--svg", drawn), (0, "", ""))
+        self.assertEqual(read_bytes(drawn), read_bytes(os.path.join(TOP, "docs", "pictures", "words.svg")))
+
     def test_paper(self):
         made = self.file("made", PAPER)
         status, out, said = run("show", made, "--program", PROGRAM)

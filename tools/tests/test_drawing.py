@@ -7,7 +7,6 @@ from cases import text
 from cases.drawing import parse
 from cases.file import encode
 from cases.model import ASK, CONNECT, NO_CLUE, WALL, Case, Mistake, border_count, rooms
-from checker import TOP
 
 from .support import PAPER, PAPER_DRAWING, ROOMS, TOP, random_case
 

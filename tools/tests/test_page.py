@@ -98,6 +98,11 @@ class Pages(unittest.TestCase):
         (content,) = Book(Case(1, 2, [], [NO_CLUE], [(WALL, 7)]), ["refused 3"], Choice()).pages("x.html")
         self.assertNotIn('<circle class="now" cx="', content.split('<li class="step')[1])
 
+    def test_clues_are_over_the_ring(self):
+        (content,) = Book(Case(32, 32, [], [1024], [(WALL, 0), (ASK, None)]), None, Choice()).pages("x.html")
+        first = content.split('<li class="step')[1]
+        self.assertLess(first.index('<circle class="now" cx="36"'), first.index('<use href="#over"/>'))
+
     def test_a_long_list_is_folded(self):
         made = Case(1, 32, [], [32], [(1, b) for b in range(20)] + [(ASK, None)])
         found = self.only(made, ["decided"] * 20 + ["room 0: " + " ".join(str(2 * b) for b in range(20))])
