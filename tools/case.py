@@ -175,7 +175,10 @@ def write_pages(path, book):
 def answers(args):
     case = read_case(args.file)
     opened(args.library)
-    found = found_answers(puzzle_of(case), args.cap)
+    try:
+        found = found_answers(puzzle_of(case), args.cap)
+    except sendai.Refused as e:
+        raise Mistake("%s%s" % (e, "; solve.py takes more" if e.name == "MANY_UNDECIDED" else "")) from None
     print(report(found))
     if args.svg:
         drawings = found.drawings()

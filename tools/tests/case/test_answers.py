@@ -123,6 +123,8 @@ class Called(WithCalls):
         for number, made in ((1, Case(0, 3)), (3, Case(1, 3, [2], [NO_CLUE] * 2)), (7, Case(1, 3, [1, 0])),
                              (8, Case(1, 3)), (9, Case(1, 3, [], [4])), (12, Case(4, 5, [], [NO_CLUE]))):
             self.assertRegex(self.answers(made), "^case.py: refused %d: [a-z]" % number)
+        many = self.answers(Case(4, 5, [], [NO_CLUE]))
+        self.assertEqual(many, "case.py: refused 12: more than 24 borders are undecided (31 undecided); solve.py takes more\n")
 
     def test_missing_parts(self):
         row = Case(1, 4, [], [NO_CLUE])
