@@ -40,7 +40,6 @@ one room without a clue. A file has at most 60,003 bytes: a load of more is refu
 Only Python's standard library is used.
 """
 import argparse
-import os
 import re
 import sys
 
@@ -55,7 +54,7 @@ from cases.reasons import why
 from cases.text import refusal_said
 from cases.turns import Choice, check_lines
 from checker import puzzle_of, sendai
-from command import Parser, let_go, natural
+from command import Parser, finished, natural
 
 
 # What the checker's own calls find: the only use of the library.
@@ -179,6 +178,8 @@ def answers(args):
         found = found_answers(puzzle_of(case), args.cap)
     except sendai.Refused as e:
         raise Mistake("%s%s" % (e, "; solve.py takes more" if e.name == "MANY_UNDECIDED" else "")) from None
+    except MemoryError:
+        raise Mistake("no memory for so many boards: a smaller --cap") from None
     print(report(found))
     if args.svg:
         drawings = found.drawings()
@@ -269,25 +270,7 @@ def command_line():
 def main(words):
     """Acts on the words of a command, and returns the exit status: 0, or 2 where something is wrong, which one line says."""
     args = command_line().parse_args(words)
-    sys.stdout = sys.stdout or open(os.devnull, "w")  # there is none where the shell has closed it
-    try:
-        args.act(args)
-        sys.stdout.flush()
-        return 0
-    except BrokenPipeError:  # who reads the output wants no more
-        let_go()
-        return 128 + 13
-    except KeyboardInterrupt:
-        return 128 + 2
-    except MemoryError:
-        wrong = "no memory for so many boards: a smaller --cap"
-    except OSError as e:
-        let_go()
-        wrong = "standard output: " + told(e)
-    except (Mistake, sendai.Refused) as e:
-        wrong = str(e)
-    print("case.py: " + " ".join(wrong.split()), file=sys.stderr)
-    return 2
+    return finished("case.py", lambda: args.act(args) or 0)
 
 
 if __name__ == "__main__":

@@ -4,6 +4,9 @@ import os
 import sys
 
 from cases.drawing import decimal
+from cases.model import Mistake
+from cases.read import told
+from checker import sendai
 
 
 class Parser(argparse.ArgumentParser):
@@ -23,3 +26,28 @@ def natural(word):
 def let_go():
     """Leaves nothing to be flushed to a standard output that takes no more."""
     os.dup2(os.open(os.devnull, os.O_WRONLY), sys.stdout.fileno())
+
+
+def finished(name, act, failures=()):
+    """Acts, and returns the exit status, that of the act or 2 where something is wrong, which one line says. `failures` end with 3."""
+    sys.stdout = sys.stdout or open(os.devnull, "w")  # there is none where the shell has closed it
+    status = 2
+    try:
+        status_of_act = act()
+        sys.stdout.flush()
+        return status_of_act
+    except BrokenPipeError:  # who reads the output wants no more
+        let_go()
+        return 128 + 13
+    except KeyboardInterrupt:
+        return 128 + 2
+    except failures as e:
+        status, wrong = 3, str(e)
+    except OSError as e:
+        if e.filename is None:
+            let_go()
+        wrong = "%s: %s" % (e.filename or "standard output", told(e))
+    except (Mistake, sendai.Refused) as e:
+        wrong = str(e)
+    print("%s: %s" % (name, " ".join(wrong.split())), file=sys.stderr)
+    return status

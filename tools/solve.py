@@ -20,10 +20,9 @@ import json
 import os
 import sys
 
-from cases.model import Mistake
-from cases.read import read_case, told
+from cases.read import read_case
 from checker import puzzle_of, sendai
-from command import Parser, let_go, natural
+from command import Parser, finished, natural
 from solver.report import effort, report, verdict
 from solver.search import Bounds, NoSolver, Solver
 
@@ -84,28 +83,13 @@ def run(args):
         print(json.dumps({"told": verdict(found), **vars(found), "answers": [list(answer) for answer in found.answers]}))
     else:
         print(report(case, puzzle, found, None if args.quiet else args.draw))
-    sys.stdout.flush()
     return EARLY.get(found.stopped, 0)
 
 
 def main(words):
     """Acts on the words of a command, and returns the exit status; one line says what is wrong."""
     args = arguments(words)
-    try:
-        return run(args)
-    except BrokenPipeError:  # who reads the output wants no more
-        let_go()
-        return 128 + 13
-    except KeyboardInterrupt:
-        return 128 + 2
-    except (NoSolver, sendai.NoLibrary) as e:
-        status, wrong = 3, str(e)
-    except OSError as e:
-        status, wrong = 2, "%s: %s" % (e.filename or "standard output", told(e))
-    except (Mistake, sendai.Refused) as e:
-        status, wrong = 2, str(e)
-    print("solve.py: " + " ".join(wrong.split()), file=sys.stderr)
-    return status
+    return finished("solve.py", lambda: run(args), (NoSolver, sendai.NoLibrary))
 
 
 if __name__ == "__main__":

@@ -132,6 +132,15 @@ class Command(unittest.TestCase):
         self.assertTrue(out[2].startswith("%d asks, %d faults, " % (asks, faults)))
         self.assertEqual((status, puzzle), (0, sendai.Puzzle(2, 4, [1, 4], [2, NO_CLUE])))
 
+    @unittest.skipUnless(os.path.exists("/dev/full"), "no /dev/full")
+    def test_an_output_that_takes_nothing(self):
+        with open(self.path, "wb") as f:
+            f.write(encode(Case(1, 4, [], [NO_CLUE])))
+        command = [sys.executable, os.path.abspath(solve.__file__), self.path]
+        for output, status, said in ((">&-", 0, b""), ("> /dev/full", 2, b"solve.py: standard output: No space left on device\n")):
+            done = subprocess.run(["sh", "-c", '"$@" ' + output, "sh"] + command, stderr=subprocess.PIPE)
+            self.assertEqual((done.returncode, done.stderr), (status, said))
+
     def test_interrupted(self):
         with open(self.path, "wb") as f:
             f.write(encode(Case(12, 12, [], [NO_CLUE])))
