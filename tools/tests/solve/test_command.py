@@ -17,6 +17,8 @@ from checker import sendai
 from solver.search import NoSolver, Solver
 from solver.trace import MAGIC
 
+from ..case.support import Terminal
+
 
 def played(data):
     """Plays a trace on a puzzle of its own, and holds each ask to what the trace says: the puzzle, and how many asks and faults it had."""
@@ -49,11 +51,12 @@ class Command(unittest.TestCase):
         self.addCleanup(folder.cleanup)
         self.path = os.path.join(folder.name, "sendai.bin")
 
-    def told(self, case, *options):
+    def told(self, case, *options, terminal=False):
         """The status, and the lines of both outputs, for a case or the bytes of a file."""
+        said = Terminal() if terminal else io.StringIO()
         with open(self.path, "wb") as f:
             f.write(case if isinstance(case, bytes) else encode(case))
-        with unittest.mock.patch("sys.stdout", io.StringIO()) as out, unittest.mock.patch("sys.stderr", io.StringIO()) as err:
+        with unittest.mock.patch("sys.stdout", io.StringIO()) as out, unittest.mock.patch("sys.stderr", said) as err:
             try:
                 status = solve.main([self.path, *options])
             except SystemExit as e:
@@ -81,6 +84,12 @@ class Command(unittest.TestCase):
                                     (2, "started             in all answers      1                   2", False)):
             out = self.told(Case(1, 4, [], [NO_CLUE]), "--all", "--draw", str(most))[1]
             self.assertEqual((out[3], out[-1] == "drawn are the first %d of 2 answers: --draw N for more" % most), (titles, drawn))
+
+    def test_progress_on_a_terminal(self):
+        row = Case(1, 4, [], [NO_CLUE])
+        err = self.told(row, "--all", terminal=True)[2]
+        self.assertRegex("\n".join(err), r"\x1b\[K\d+ asks, \d+ faults, \d+\.\d seconds, 1 found\n(.*, 2 found\n)+\x1b\[K$")
+        self.assertEqual((self.told(row, "--all", "--quiet", terminal=True)[2], self.told(row, "--all")[2]), ([], []))
 
     def test_verdicts(self):
         for case, said in ((Case(1, 4, [1], [1, NO_CLUE]), "1 answer: it is the only one"), (Case(1, 1, [], [NO_CLUE]), "no answer"),
