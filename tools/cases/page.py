@@ -64,7 +64,7 @@ class Book:
         wide = max(NARROWEST, self.drawer.wide + LEFT + 2 * GAP) + 30
         shrinks = "none" if self.drawer.numbers else "100%"  # a board in a narrow window; its numbers would be too small to read
         style = STYLE + LAYOUT % (wide, shrinks, COLOURS % LIGHT, COLOURS % DARK)
-        if self.refused:
+        if not made:  # the puzzle alone
             made = ['<li class="step">%s</li>' % self.board(Panel(said, {}, {}))]
         return "\n".join([
             '<!doctype html>', '<html lang="en">', "<head>", '<meta charset="utf-8">', '<meta name="viewport" content="width=device-width">',

@@ -76,6 +76,7 @@ class Pages(unittest.TestCase):
                                (Choice([(1, 1), (4, 9)]), ["step-1", "step-4"]), (Choice([(1, 2)], faults=True), [])):
             found = self.only(PAPER_CASE, PAPER_LINES, choice)
             self.assertEqual([name for name in found.ids if name.startswith("step")], wanted)
+            self.assertEqual(found.tags.count("svg"), max(1, len(wanted)) + 1 + len(page.OF_STEPS))  # the puzzle alone where there is no step
 
     def test_border_numbers_on_wish(self):
         self.assertEqual([('class="number"' in "".join(Book(PAPER_CASE, None, Choice(), wish).pages("x"))) for wish in (False, True)], [False, True])
