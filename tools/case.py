@@ -44,9 +44,9 @@ import re
 import sys
 
 from cases import svg, text, url
-from cases.answers import Answers, report, values
+from cases.answers import found_answers, report
 from cases.file import encode
-from cases.model import Case, Mistake, drawable, refusal
+from cases.model import Mistake, drawable, refusal
 from cases.page import Book, page_path
 from cases.program import run
 from cases.read import MOST_LINES, naming, read_bytes, read_case, text_of, told
@@ -57,36 +57,12 @@ from checker import puzzle_of, sendai
 from command import Parser, finished, natural
 
 
-# What the checker's own calls find: the only use of the library.
-
 def opened(path):
     """Takes the checker's calls from an archive or a shared library."""
     try:
         sendai.load(path)
     except sendai.NoLibrary as e:
         raise Mistake(str(e)) from None
-
-
-def found_answers(puzzle, cap):
-    """The right boards of a puzzle up to a cap."""
-    case = Case(puzzle.height, puzzle.width, puzzle.given, puzzle.clues)
-    standing = values(puzzle.states())
-    boards, more = puzzle.right_boards(cap)
-    boards = [values(board) for board in boards]
-    differing = [b for b in boards[0] if differs(puzzle, boards, b, more and b not in standing)] if boards else []
-    return Answers(case, standing, boards, more, differing)
-
-
-def differs(puzzle, boards, border, others):
-    """Whether answers differ in a border; where others exist that aren't shown, it is tried the other way."""
-    value = boards[0][border]
-    if any(board[border] != value for board in boards):
-        return True
-    if not others:
-        return False
-    otherwise = puzzle.copy()
-    otherwise.decide(border, not value)
-    return otherwise.right_boards(0).more
 
 
 # The commands.

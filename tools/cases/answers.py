@@ -1,5 +1,5 @@
 """The right boards of a case, as they are told and drawn."""
-from .model import CONNECT, WALL, counted
+from .model import CONNECT, WALL, Case, counted
 from .text import beside, draw, heading
 
 
@@ -30,6 +30,28 @@ class Answers:
 def values(states):
     """The decided borders, each with 1 for Wall and 0 for Connected."""
     return {border: int(state == WALL) for border, state in enumerate(states) if state in (CONNECT, WALL)}
+
+
+def found_answers(puzzle, cap):
+    """The right boards of a puzzle up to a cap."""
+    case = Case(puzzle.height, puzzle.width, puzzle.given, puzzle.clues)
+    standing = values(puzzle.states())
+    boards, more = puzzle.right_boards(cap)
+    boards = [values(board) for board in boards]
+    differing = [b for b in boards[0] if differs(puzzle, boards, b, more and b not in standing)] if boards else []
+    return Answers(case, standing, boards, more, differing)
+
+
+def differs(puzzle, boards, border, others):
+    """Whether answers differ in a border; where others exist that aren't shown, it is tried the other way."""
+    value = boards[0][border]
+    if any(board[border] != value for board in boards):
+        return True
+    if not others:
+        return False
+    otherwise = puzzle.copy()
+    otherwise.decide(border, not value)
+    return otherwise.right_boards(0).more
 
 
 def report(found):

@@ -5,9 +5,8 @@ import unittest
 import unittest.mock
 import xml.etree.ElementTree as ElementTree
 
-import case
 from cases import svg, text
-from cases.answers import report
+from cases.answers import found_answers, report
 from cases.drawing import parse
 from cases.file import encode
 from cases.model import CONNECT, NO_CLUE, UNDO, WALL, ASK, Case
@@ -48,7 +47,7 @@ class Drawn(unittest.TestCase):
     """How right boards are drawn, with or without the checker's calls at hand."""
 
     def found(self, cap, boards=ROW_OF_FOUR):
-        return case.found_answers(Listed(boards), cap)
+        return found_answers(Listed(boards), cap)
 
     def test_report(self):
         self.assertEqual(report(self.found(10)).split("\n"), [
@@ -149,10 +148,10 @@ class Called(WithCalls):
             made = Case(rng.randint(1, 3), rng.randint(1, 4), [], [NO_CLUE])
             made.calls = [(rng.choice((CONNECT, WALL)), rng.randrange(20)) for _ in range(rng.randint(0, 4))]
             puzzle = puzzle_of(made)
-            whole = case.found_answers(puzzle, 10 ** 6)
+            whole = found_answers(puzzle, 10 ** 6)
             self.assertFalse(whole.more)
             self.assertEqual(sorted(whole.boards, key=lambda board: list(board.values())), whole.boards)
             for cap in range(1, 4):
-                some = case.found_answers(puzzle, cap)
+                some = found_answers(puzzle, cap)
                 told = (whole.boards[:cap], len(whole.boards) > cap, whole.differing)
                 self.assertEqual((some.boards, some.more, some.differing), told)
