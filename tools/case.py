@@ -186,7 +186,8 @@ LIBRARY = "the archive with the checker's calls, or a shared library of it (defa
 
 
 def add_make(commands):
-    it = commands.add_parser("make", help="write the case file of a drawing or a puzzle's URL")
+    it = commands.add_parser("make", help="write the case file of a drawing or a puzzle's URL", description="Writes the case file of a drawing or "
+                             "a puzzle's URL. What is wrong with it is said by line and column, or by character.")
     it.add_argument("drawing", metavar="DRAWING|URL", help="a drawing in text ('-' is standard input) or a puzzle's URL")
     it.add_argument("file", metavar="FILE", nargs="?", default="sendai.bin", help=TARGET)
     it.add_argument("--as-is", action="store_true", help="write it even if the program will refuse it: for trying refusals")
@@ -194,13 +195,15 @@ def add_make(commands):
 
 
 def add_url(commands):
-    it = commands.add_parser("url", help="print the URL of a case's puzzle")
+    it = commands.add_parser("url", help="print the URL of a case's puzzle", description="Prints the URL of a case's puzzle; its calls have no "
+                             "place in it.")
     it.add_argument("file", metavar="FILE", nargs="?", default="sendai.bin", help=SOURCE)
     it.set_defaults(act=write_url)
 
 
 def add_show(commands):
-    it = commands.add_parser("show", help="draw a case with its answers")
+    it = commands.add_parser("show", help="draw a case with its answers", description="Draws a case: its board, each call, and the board of each "
+                             "ask. What the program answers is drawn, too, where --program or --answers is given.")
     it.add_argument("file", metavar="FILE", nargs="?", default="sendai.bin", help=SOURCE)
     lines = it.add_mutually_exclusive_group()
     lines.add_argument("--answers", metavar="LINES", help="a file with the lines that the program printed for it; '-' is standard input")
@@ -216,7 +219,8 @@ def add_show(commands):
 
 
 def add_answers(commands):
-    it = commands.add_parser("answers", help="draw the right boards of a case's puzzle")
+    it = commands.add_parser("answers", help="draw the right boards of a case's puzzle", description="Draws what the calls of a case decide, and "
+                             "all right boards that extend it. At most 24 borders may be undecided: solve.py takes more.")
     it.add_argument("file", metavar="FILE", nargs="?", default="sendai.bin", help=SOURCE)
     it.add_argument("--cap", metavar="N", type=natural, default=10, help="at most so many of them (default: 10); 0: only whether there is one")
     it.add_argument("--svg", metavar="PICTURE", help="draw them as an SVG picture too")
@@ -225,7 +229,8 @@ def add_answers(commands):
 
 
 def add_load(commands):
-    it = commands.add_parser("load", help="write the case file that a seed makes")
+    it = commands.add_parser("load", help="write the case file that a seed makes", description="Writes the case file that a seed makes: decides, "
+                             "undos and asks on a board without given walls and clues, the same each time.")
     it.add_argument("seed", metavar="SEED", type=seed_number, help="a number of 32 bits other than 0, decimal or after 0x hexadecimal")
     it.add_argument("height", metavar="HEIGHT", type=natural, help="rows, 1 to 32")
     it.add_argument("width", metavar="WIDTH", type=natural, help="columns, 1 to 32")
