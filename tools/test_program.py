@@ -1,24 +1,31 @@
 #!/usr/bin/env python3
-"""Tests of the program as it is installed, with its statuses. Run it anywhere: python3 tools/next/test_program.py [PROGRAM]
+"""Tests of the program, with its statuses and what it says on standard error. Run it anywhere: python3 tools/test_program.py [PROGRAM]
 
-PROGRAM is target/bindings/sendai, which bindings/build makes, where none is named. What is wrong with a file is held to a reader of its own here.
+PROGRAM is target/bin/sendai, which bindings/prove program makes, where none is named. What is wrong with a file is held to a reader of its own here.
 """
+import errno
 import os
 import random
 import re
 import resource
 import signal
+import socket
 import stat
 import subprocess
 import sys
 import tempfile
 import unittest
 
-TOP = os.path.dirname(os.path.dirname(os.path.dirname(os.path.abspath(__file__))))
-PROGRAM = os.path.join(TOP, "target", "bindings", "sendai")
+TOP = os.path.dirname(os.path.dirname(os.path.abspath(__file__)))
+PROGRAM = os.path.join(TOP, "target", "bin", "sendai")
 SECONDS = 2  # nothing that is refused takes longer
 PAPER = bytes.fromhex("010012010300000001FFFF0004020000010001" + "0300")
 PAPER_LINES = b"decided\ndecided\nshape: 1 2\nundone\n"
+
+
+def system(number):
+    """The system's words for an error, as the program has them."""
+    return "%s (os error %d)" % (os.strerror(number), number)
 
 
 def case_file(rest, version=1):
@@ -117,10 +124,10 @@ class Files(Program):
         self.ends([self.write(puzzle(1, 3, [], [65535]))], 0, b"")
 
     def test_a_missing_file(self):
-        self.unsound("none.bin", "No such file or directory")
-        self.ends([], 1, b"refused 11\n", "sendai: sendai.bin: No such file or directory")
-        self.ends([""], 1, b"refused 11\n", "sendai: : No such file or directory")
-        self.unsound(self.write(PAPER) + "/x", "Not a directory")
+        self.unsound("none.bin", system(errno.ENOENT))
+        self.ends([], 1, b"refused 11\n", "sendai: sendai.bin: " + system(errno.ENOENT))
+        self.ends([""], 1, b"refused 11\n", "sendai: : " + system(errno.ENOENT))
+        self.unsound(self.write(PAPER) + "/x", system(errno.ENOTDIR))
 
     def test_a_folder(self):
         os.mkdir(self.path("sub"))
@@ -130,7 +137,10 @@ class Files(Program):
     def test_what_is_no_regular_file_is_not_waited_for(self):
         os.mkfifo(self.path("pipe"))
         os.symlink("pipe", self.path("link"))
-        for name in ("pipe", "link", "/dev/zero", "/dev/null", "/dev/full"):
+        bound = socket.socket(socket.AF_UNIX)
+        self.addCleanup(bound.close)
+        bound.bind(self.path("socket"))
+        for name in ("pipe", "link", "socket", "/dev/zero", "/dev/null", "/dev/full"):
             self.unsound(name, "it is no regular file")
 
     def test_a_link_to_a_file_is_followed(self):
@@ -140,12 +150,12 @@ class Files(Program):
     @unittest.skipIf(os.geteuid() == 0, "root may read every file")
     def test_a_file_that_may_not_be_read(self):
         os.chmod(self.path(self.write(PAPER)), 0)
-        self.unsound("case.bin", "Permission denied")
+        self.unsound("case.bin", system(errno.EACCES))
 
     def test_a_long_name(self):
-        self.unsound("x" * 300, "File name too long")
-        self.unsound("x/" * 2047, "No such file or directory")
-        self.ends(["x" * 4096], 1, b"refused 11\n", "sendai: %s: File name too long" % ("x" * 4096))
+        self.unsound("x" * 300, system(errno.ENAMETOOLONG))
+        self.unsound("x/" * 2047, system(errno.ENOENT))
+        self.ends(["x" * 4096], 1, b"refused 11\n", "sendai: %s: %s" % ("x" * 4096, system(errno.ENAMETOOLONG)))
         self.ends(["x" * 4097], 2, b"", "sendai: an argument is longer than 4,096 bytes")
 
     def test_names_with_spaces_dashes_and_line_feeds(self):
@@ -153,8 +163,12 @@ class Files(Program):
         self.ends(["--", self.write(PAPER, "--help")], 0, PAPER_LINES)
         self.ends(["--", self.write(PAPER, "-")], 0, PAPER_LINES)
         self.ends(["./-"], 0, PAPER_LINES)
-        self.ends(["a\nb\x1b\x7f"], 1, b"refused 11\n", "sendai: a?b??: No such file or directory")
+        self.ends(["a\nb\x1b\x7f"], 1, b"refused 11\n", "sendai: a?b??: " + system(errno.ENOENT))
         self.ends(["--", self.write(b"", "ä\r")], 1, b"refused 11\n", "sendai: ä?: %s" % flaw(b""))
+
+    def test_a_name_that_is_no_text(self):
+        name = self.write(PAPER, b"a\xff\n\xe9".decode(errors="surrogateescape"))
+        self.ends([name], 1, b"refused 11\n", "sendai: a???: its name is not UTF-8, and can't be opened here")
 
 
 class Flaws(Program):
@@ -261,18 +275,27 @@ class Output(Program):
     def test_output_that_is_full(self):
         for words in ([self.write(PAPER)], ["none.bin"], [self.write(b"", "empty.bin")], ["--help"], ["--version"]):
             with open("/dev/full", "wb") as full:
-                self.not_written(words, "No space left on device", stdout=full)
+                self.not_written(words, system(errno.ENOSPC), stdout=full)
+
+    def test_a_pipe_that_no_one_reads(self):
+        for words in ([self.write(PAPER)], ["none.bin"], ["--help"]):
+            reader, writer = os.pipe()
+            os.close(reader)
+            try:
+                self.not_written(words, system(errno.EPIPE), stdout=writer)
+            finally:
+                os.close(writer)
 
     def test_output_that_is_closed(self):
         for words in ([self.write(PAPER)], ["none.bin"], ["--version"]):
-            self.not_written(words, "Bad file descriptor", stdout=None, preexec_fn=lambda: os.close(1))
+            self.not_written(words, system(errno.EBADF), stdout=None, preexec_fn=lambda: os.close(1))
 
     def test_output_that_fills_up(self):
         """The lines before the failed write stand, whole or cut, and nothing comes after them."""
         self.write(PAPER)
         with open(self.path("out"), "wb") as out:
             limit = len(b"decided\ndec")
-            self.not_written(["case.bin"], "File too large", stdout=out, preexec_fn=lambda: limited(limit))
+            self.not_written(["case.bin"], system(errno.EFBIG), stdout=out, preexec_fn=lambda: limited(limit))
         with open(self.path("out"), "rb") as out:
             self.assertEqual(out.read(), PAPER_LINES[:limit])
 
@@ -291,5 +314,5 @@ if __name__ == "__main__":
     if len(sys.argv) > 1 and not sys.argv[1].startswith("-"):
         PROGRAM = sys.argv.pop(1)
     if not (os.path.exists(PROGRAM) and os.stat(PROGRAM).st_mode & stat.S_IXUSR):
-        sys.exit("%s is not there: bindings/build makes it" % PROGRAM)
+        sys.exit("%s is not there: bindings/prove program makes it" % PROGRAM)
     unittest.main()
