@@ -19,6 +19,7 @@ mod random;
 mod recorded;
 mod reference;
 mod runs;
+mod said;
 mod sample;
 mod stubs;
 mod tally;

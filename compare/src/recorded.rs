@@ -1,4 +1,4 @@
-//! The calls of tools/next/solve.py on a puzzle, as it wrote them to a file. tools/next/solver/trace.py says what a file has.
+//! The calls of tools/solve.py on a puzzle, as it wrote them to a file. tools/solver/trace.py says what a file has.
 use crate::puzzles::Making;
 use std::path::{Path, PathBuf};
 

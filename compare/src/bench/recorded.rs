@@ -1,4 +1,4 @@
-//! The calls of tools/next/solve.py on a puzzle, played again on both sides: parts of them for the paper, or all of them.
+//! The calls of tools/solve.py on a puzzle, played again on both sides: parts of them for the paper, or all of them.
 use super::paper::{count, number};
 use super::traces::{checked, fresh, once, play_ones, play_rust, play_strokes, rust, timed, Both, Counts, Parts, Times, Traced};
 use crate::answers::Answer;
@@ -14,7 +14,7 @@ const PARTS: usize = 40;
 const ASKS: usize = 500;
 
 /// The command that makes the trace.
-const MAKE: &str = "tools/next/solve.py tools/next/learner.txt --all --quiet --asks 3000000 --trace target/learner.trace";
+const MAKE: &str = "tools/solve.py tools/learner.txt --all --quiet --asks 3000000 --trace target/learner.trace";
 
 /// Cuts parts out of the trace, evenly spread: each a trace of its own, which draws first what stood there, and takes all back at its end.
 struct Cut {
@@ -123,7 +123,7 @@ pub fn about() -> String {
         return format!("The row of clingo is left out, since its trace was not there. It is made by\n\n    {MAKE}\n");
     };
     format!(
-        "The row of clingo has what tools/next/solve.py called on the puzzle of tools/next/learner.txt: the clause learner is clingo, and each fault's
+        "The row of clingo has what tools/solve.py called on the puzzle of tools/learner.txt: the clause learner is clingo, and each fault's
 list a nogood. Its trace has {} asks. {PARTS} parts of {ASKS} asks, evenly spread over it, are checked and timed as the other traces are,
 each from the fresh puzzle, on which what stood there is drawn first, to the fresh puzzle. `compare/run replay` plays all of it. It was made by
 

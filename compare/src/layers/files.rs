@@ -5,11 +5,15 @@ use crate::files::{self, Case, Line};
 use crate::port::file::{self as port, Lent, Parts, LINE_ROOM};
 use crate::port::PuzzleRecord;
 use crate::random::Random;
+use crate::said;
 use crate::tally::Tally;
 use std::path::{Path, PathBuf};
 use std::process::Command;
 
 pub(super) const ROOT: &str = concat!(env!("CARGO_MANIFEST_DIR"), "/..");
+
+/// The number that refuses a file that is unsound.
+const UNSOUND: u8 = 11;
 
 /// How many calls at once are run at most.
 const AT_ONCE: usize = 6;
@@ -145,9 +149,9 @@ impl Compared {
         self.tally.same(&(bytes.len(), left), &(at, &puzzle), || hexadecimal(bytes));
     }
 
-    /// A file through the functions over slices: whether it is sound, and its lines. With `whole` also what is read of it, each line
-    /// by itself, and the calls some at once.
-    pub(super) fn file(&mut self, bytes: &[u8], whole: bool) -> (bool, String) {
+    /// A file through the functions over slices: the number that refuses it or its puzzle, 0 where none does, and its lines. With `whole`
+    /// also what is read of it, each line by itself, and the calls some at once.
+    pub(super) fn file(&mut self, bytes: &[u8], whole: bool) -> (u8, String) {
         self.tally.case();
         let on = || hexadecimal(bytes);
         let case = files::decode(bytes);
@@ -161,7 +165,7 @@ impl Compared {
                 // one line is printed, of what the port answered
                 let printed = port::line(5, opened.code as usize, &[], &mut self.lent, 27).unwrap_or_default();
                 self.line(&line, &printed, on);
-                (case.is_some(), line.text())
+                (number, line.text())
             }
             Ok((lines, left)) => {
                 self.tally.same(&(0, parts.calls_at, lines.len()), &(opened.code, opened.at, opened.count), on);
@@ -171,7 +175,7 @@ impl Compared {
                     self.written(&lines);
                     self.at_once(bytes, &opened, &lines, &left);
                 }
-                (true, lines.iter().map(Line::text).collect())
+                (0, lines.iter().map(Line::text).collect())
             }
         }
     }
@@ -179,9 +183,9 @@ impl Compared {
     /// A damaged file.
     fn damaged(&mut self, bytes: &[u8]) {
         let whole = self.random.chance(1, 16);
-        let (sound, _) = self.file(bytes, whole);
+        let (refused, _) = self.file(bytes, whole);
         self.counts.damaged += 1;
-        self.counts.still_sound += sound as u64;
+        self.counts.still_sound += (refused != UNSOUND) as u64;
     }
 
     /// A sound file, and so many damaged ones of it.
@@ -195,26 +199,26 @@ impl Compared {
         }
     }
 
-    /// A file through the functions and through the program, which finds it, or none, in a folder of its own: whether it is sound, and
-    /// its lines.
-    pub(super) fn program(&mut self, folder: &Path, bytes: Option<&[u8]>) -> (bool, String) {
+    /// A file through the functions and through the program, which finds it, or none, in a folder of its own: what refuses it, and its lines.
+    /// The program's status and standard error are held to SPEC 5.8 and 5.9.
+    pub(super) fn program(&mut self, folder: &Path, bytes: Option<&[u8]>) -> (u8, String) {
         let file = folder.join("sendai.bin");
-        let (sound, expected) = match bytes {
+        let (refused, expected) = match bytes {
             Some(bytes) => {
                 std::fs::write(&file, bytes).expect("a temporary folder");
                 self.file(bytes, false)
             }
-            None => (false, Line::Refused(11).text()),
+            None => (UNSOUND, Line::Refused(UNSOUND).text()),
         };
         let program = Path::new(ROOT).join("target/bin/sendai").canonicalize().expect("the program");
         let output = Command::new(program).current_dir(folder).output().expect("the program runs");
         self.counts.programs += 1;
         let told = (output.status.code(), text(&output.stdout), text(&output.stderr));
         let on = || format!("the program on {}", bytes.map_or("no file".into(), hexadecimal));
-        let due = (Some(0), expected, String::new());
+        let due = (Some((refused != 0) as i32), expected, said::line(bytes, refused));
         self.tally.same(&due, &told, on);
         drop(std::fs::remove_file(file));
-        (sound, due.1)
+        (refused, due.1)
     }
 
     /// Says what of some files was compared, and how many lines of each kind.

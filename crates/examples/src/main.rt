@@ -2,7 +2,8 @@
 // calls are what the generator draws from these.
 #![tactic(auto)]
 
-use std::io;
+use program::Status;
+use std::process::ExitCode;
 use std::rt::Files;
 
 // The files in turn; the last is not there.
@@ -19,15 +20,16 @@ const NAMES: [&str; 10] = [
     "missing.bin",
 ];
 
-// Each file's name and lines, up to the first that can't be written.
-fn show_all(rt: &(impl Files + Print + Eprint)) -> io::Result<()> {
+// Each file's name and lines, up to the first that can't be written. A file that is refused is as good an example as any.
+fn show_all(rt: &(impl Files + Print + Eprint)) -> Status {
     for name in NAMES {
-        rt.println(name)?;
-        program::run(rt, name.as_bytes())?;
+        if rt.println(name).is_err() || program::run(rt, name.as_bytes()) == Status::NotWritten {
+            return Status::NotWritten;
+        }
     }
-    Ok(())
+    Status::Done
 }
 
-fn main(rt: HostRuntime) {
-    let _ = show_all(&rt);
+fn main(rt: HostRuntime) -> ExitCode {
+    ExitCode::from(show_all(&rt))
 }

@@ -1,7 +1,8 @@
-// sendai: runs the calls of `sendai.bin` in the folder that it is started in, and prints a line for each.
+// sendai: does what its arguments say, and ends with the status that tells how that went.
 #![tactic(auto)]
 
-// Where a line can't be written, that has been said by then.
-fn main(rt: HostRuntime) {
-    let _ = program::run(&rt, b"sendai.bin");
+use std::process::ExitCode;
+
+fn main(rt: HostRuntime) -> ExitCode {
+    ExitCode::from(program::run_arguments(&rt))
 }

@@ -1,0 +1,35 @@
+"""The program, run on a case."""
+import os
+import subprocess
+import tempfile
+
+from .file import encode
+from .model import Mistake, refusal
+from .read import MOST_LINES, text_of, told
+
+
+def run(program, case):
+    """The lines that the program prints for a case, in a folder of its own."""
+    with tempfile.TemporaryDirectory() as folder, tempfile.TemporaryFile() as said:
+        with open(os.path.join(folder, "sendai.bin"), "wb") as f:
+            f.write(encode(case))
+        try:
+            process = subprocess.Popen([os.path.abspath(program)], cwd=folder, stdin=subprocess.DEVNULL, stdout=subprocess.PIPE, stderr=said)
+        except (OSError, ValueError) as e:
+            raise Mistake(told(e)) from None
+        with process:
+            printed = process.stdout.read(MOST_LINES + 1)
+            if len(printed) > MOST_LINES:  # it may never end
+                process.kill()
+                raise Mistake("the program prints more than %d bytes" % MOST_LINES)
+        if process.returncode and not refusal(case):  # that a puzzle is refused, the program may tell by its status, too
+            said.seek(0)
+            raise Mistake("the program " + ended(process.returncode, said.read()))
+    return text_of(printed).splitlines()
+
+
+def ended(status, said):
+    """How a program ended that failed, and what it said last."""
+    last = said.decode("utf-8", "replace").strip().split("\n")[-1]
+    how = "was ended by signal %d" % -status if status < 0 else "ended with status %d" % status
+    return how + (": " + last if last else "")

@@ -1,1 +1,0 @@
-"""Tests of the tools; tools/next/test_case.py runs them."""
