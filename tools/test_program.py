@@ -168,7 +168,7 @@ class Files(Program):
 
     def test_a_name_that_is_no_text(self):
         name = self.write(PAPER, b"a\xff\n\xe9".decode(errors="surrogateescape"))
-        self.ends([name], 1, b"refused 11\n", "sendai: a???: its name is not UTF-8, and can't be opened here")
+        self.ends([name], 1, b"refused 11\n", "sendai: a\ufffd?\ufffd: its name is not UTF-8, and can't be opened here")
 
 
 class Flaws(Program):

@@ -1,6 +1,7 @@
 // The program's arguments (SPEC 5.7): at most one file, or one option. A file whose name begins with a dash stands behind `--`.
-ghost use Rattle.std.specs.Prelude.{◌≡◌, length, IfOk};
+ghost use Rattle.std.specs.Prelude.{◌≡◌, IfOk};
 ghost use Rattle.program.specs.Arguments.{asked_in, asked_of, asked_by, is_dashed, word_in};
+ghost use Rattle.program.specs.declared.status.Status.TheVariants.{Done};
 
 use crate::{Status, ended, run};
 use reasons::Misuse;
@@ -30,13 +31,17 @@ It ends with 0; 1 where the file or its puzzle is refused, and standard error sa
 2 where it is started in another way; 3 where standard output can't be written.
 ";
 
-fn print_help(rt: &impl Print) -> io::Result<Status> {
+fn print_help(rt: &impl Print) -> io::Result<Status>
+    ensures { IfOk result (λ status. status ≡ Done) }
+{
     rt.print(USAGE)?;
     Ok(Status::Done)
 }
 
 // `sendai 1.0.0`.
-fn print_version(rt: &impl Print) -> io::Result<Status> {
+fn print_version(rt: &impl Print) -> io::Result<Status>
+    ensures { IfOk result (λ status. status ≡ Done) }
+{
     let (major, minor, patch) = (VERSION / 10000, VERSION / 100 % 100, VERSION % 100);
     println!(rt; "sendai {major}.{minor}.{patch}")?;
     Ok(Status::Done)

@@ -1,2 +1,3 @@
--- Defined here: the sentence that says why a file is refused (`Sentences`).
+-- Defined here: the lines on standard error that say why a file is refused, or a wrong use (`Sentences`).
+-- Proved in proofs/: what a name that is written character by character comes to (`NameLaws`).
 pub mod Sentences

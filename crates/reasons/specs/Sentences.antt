@@ -1,5 +1,7 @@
 -- Why a file is refused, as one sentence (SPEC 5.9). Assumes nothing.
-use Rattle.std.specs.Prelude.{ℕ, ◌+◌, ◌-◌, List, ◌++◌, leb, length, get_or, codes, decimal, Option, Some, None}
+use Rattle.std.specs.Prelude.{ℕ, ◌+◌, ◌-◌, List, ◌++◌, leb, length, get_or, codes, decimal, map, encode_utf8_all, Option, Some, None}
+use Rattle.std.specs.Char.{is_control}
+use Rattle.bstr.specs.Utf8.{lossy_chars}
 use Rattle.lists.specs.Choice.{pick}
 use Rattle.answers.specs.declared.Refusal.{Refusal}
 use Rattle.answers.specs.declared.Refusal.TheVariants.{Size, Missing, Unsorted, ClueCount, LargeClue}
@@ -7,8 +9,18 @@ use Rattle.answers.specs.Refusals.{number_of}
 use Rattle.case_file.specs.Layout.{word_at}
 use Rattle.flaws.specs.declared.Flaw.{Flaw}
 use Rattle.flaws.specs.declared.Flaw.TheVariants.{Long, Short, Version, Length, Walls, Clues, Calls, Cut, Kind, Behind}
+use Rattle.reasons.specs.declared.said.Misuse.{Misuse}
+use Rattle.reasons.specs.declared.said.Misuse.TheVariants.{UnknownOption, TooMany, LongArgument}
 use Rattle.reasons.specs.declared.Why.{Why}
 use Rattle.reasons.specs.declared.Why.TheVariants.{Unsound, Refused, Folder, NotRegular, NotText, NotRead}
+
+-- a character of a name as a line can show it: one that would end the line or steer a terminal is a `?`
+abbrev pub shown_char : ℕ → ℕ
+shown_char c = pick (is_control c) 63 c
+
+-- a name, of which bytes that are no text are read as U+FFFD
+abbrev pub name_text : List ℕ → List ℕ
+name_text bs = encode_utf8_all (map shown_char (lossy_chars bs))
 
 -- the number at a byte, 0 where the file ends before it
 abbrev pub said_at : List ℕ → ℕ → ℕ
@@ -59,3 +71,14 @@ why_text (NotRead e) = None
 abbrev pub refused_text : Option Flaw → List ℕ → Refusal → List ℕ
 refused_text (Some flaw) bs r = flaw_text bs flaw
 refused_text None bs r = puzzle_text bs r
+
+-- THE LINE of a file that is refused, by the name that it was called by, as far as its sentence is known
+abbrev pub line_text : List ℕ → Option (List ℕ) → Option (List ℕ)
+line_text name None = None
+line_text name (Some why) = Some (codes "sendai: " ++ (name_text name ++ (codes ": " ++ why)))
+
+-- the line of a wrong use (SPEC 5.7)
+abbrev pub misuse_text : Misuse → List ℕ
+misuse_text (UnknownOption word) = codes "sendai: " ++ (name_text word.now ++ codes " is no option: see sendai --help")
+misuse_text TooMany = codes "sendai: too many arguments: see sendai --help"
+misuse_text LongArgument = codes "sendai: an argument is longer than 4,096 bytes"

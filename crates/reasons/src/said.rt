@@ -1,4 +1,7 @@
 // The lines themselves.
+ghost use Rattle.std.specs.Prelude.{Some};
+ghost use Rattle.reasons.specs.Sentences.{why_text, line_text, misuse_text};
+
 use crate::Why;
 use crate::name::Name;
 use std::{fmt, io};
@@ -11,6 +14,8 @@ pub struct FileReason<'a> {
 }
 
 impl fmt::Display for FileReason<'_> {
+    ghost output = { λ reason. line_text reason.name.now (why_text reason.why) };
+
     fn fmt<W: fmt::Write>(&self, f: &mut fmt::Formatter<W>) -> fmt::Result {
         write!(f, "sendai: {}: {}", Name(self.name), self.why)
     }
@@ -25,6 +30,8 @@ pub enum Misuse<'a> {
 }
 
 impl fmt::Display for Misuse<'_> {
+    ghost output = { λ misuse. Some (misuse_text misuse) };
+
     fn fmt<W: fmt::Write>(&self, f: &mut fmt::Formatter<W>) -> fmt::Result {
         match *self {
             Misuse::UnknownOption(word) => write!(
