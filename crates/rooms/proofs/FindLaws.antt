@@ -43,8 +43,8 @@ module _ (g h : Graph) (s t : ℕ → ℕ) (vertices : g.vertices ≡ h.vertices
   side_same count = cc (vertices, parts_same is_connected, parts_same not_wall)
 
 -- THE ROOM'S GRAPH IN ARRAYS
-module _ (g : Grid) (marks states cs : List ℕ) (w : Housed g marks states cs) (us vs here : List ℕ) (m : ℕ)
-    (o : Written g (marked_in marks) states cs blank blank blank us vs here m) where
+module _ (n : ℕ) (g : Grid) (marks states cs : List ℕ) (w : Housed g marks states cs) (room : 2 * length cs ≤ n) (us vs here : List ℕ) (m : ℕ)
+    (o : Written g (marked_in marks) states cs (blank n) (blank n) (blank n) us vs here m) where
   abbrev ss : List Spot
   ss = spots g (marked_in marks) cs
 
@@ -52,11 +52,10 @@ module _ (g : Grid) (marks states cs : List ℕ) (w : Housed g marks states cs) 
   few_edges = omega (arith, edges_few g (marked_in marks) cs w.inside w.rising, border_count_le g w.limits)
 
   -- what stands in front
-  front_is : (f : Spot → ℕ) {l : List ℕ} → l ≡ sets blank 0 (map f ss) → take m l ≡ map f ss
-  unfolding blank
+  front_is : (f : Spot → ℕ) {l : List ℕ} → l ≡ sets (blank n) 0 (map f ss) → take m l ≡ map f ss
   front_is f e =
-      let n : length (map f ss) ≡ m = omega (arith, length-map ss f, o.count_is) in
-      rw (e, ← n) (front blank (map f ss) (omega (arith, o.count_is, few_edges, length-replicate {A = ℕ} 2048 0)))
+      let k : length (map f ss) ≡ m = omega (arith, length-map ss f, o.count_is) in
+      rw (e, ← k) (front (blank n) (map f ss) (omega (arith, k, o.few, room, length-replicate {A = ℕ} n 0)))
 
   us_are : take m us ≡ map (from_of cs) ss
   us_are = front_is (from_of cs) o.us_are

@@ -1,5 +1,5 @@
 -- What the functions over lent slices ask and promise. Assumes nothing.
-use Rattle.std.specs.Prelude.{ℕ, suc, ◌≤◌, ◌<◌, ◌≡◌, Bool, not, List, [], ◌∷◌, map, eqb, length, get_or, set, replicate, Option, Some, None}
+use Rattle.std.specs.Prelude.{ℕ, suc, ◌*◌, ◌≤◌, ◌<◌, ◌≡◌, Bool, not, List, [], ◌∷◌, map, eqb, length, get_or, set, replicate, Option, Some, None}
 use Rattle.lists.specs.Choice.{pick}
 use Rattle.std.proofs.lemmas.List.Edits.{sets}
 use Rattle.limits.specs.Limits.{most_borders, most_cells}
@@ -13,15 +13,15 @@ use Rattle.groups.specs.Turn.{sizes_of}
 use Rattle.rooms.specs.Rooms.{room_ids, room_count}
 use Rattle.rooms.specs.RoomGraph.{in_room, spots, from_of, into_of, border_of}
 
--- arrays with nothing written: marks of borders, vertices of cells, two edges for each cell
+-- arrays with nothing written: marks of borders, vertices of cells, n edges
 unfoldable pub unmarked : List ℕ
 unmarked = replicate most_borders 0
 
 unfoldable pub nowhere : List ℕ
 nowhere = replicate most_cells 0
 
-unfoldable pub blank : List ℕ
-blank = replicate 2048 0
+abbrev pub blank : ℕ → List ℕ
+blank n = replicate n 0
 
 -- k at the first of the places, and one more at each of the next
 unfoldable pub numbered : List ℕ → ℕ → List ℕ → List ℕ
@@ -81,7 +81,7 @@ pub record Housed (g : Grid) (marks states cs : List ℕ) : Type 0 where
 -- the ends and states of a room's edges stand at the fronts; `count` is how many there are
 pub record Written (g : Grid) (given : ℕ → Bool) (states cs us vs here us' vs' here' : List ℕ) (count : ℕ) : Type 0 where
   pub count_is : count ≡ length (spots g given cs)
-  pub few : count ≤ 2048
+  pub few : count ≤ 2 * length cs
   pub us_are : us' ≡ sets us 0 (map (from_of cs) (spots g given cs))
   pub vs_are : vs' ≡ sets vs 0 (map (into_of g cs) (spots g given cs))
   pub here_are : here' ≡ sets here 0 (map (λ s. get_or states (border_of g s) 0) (spots g given cs))

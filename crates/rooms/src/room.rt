@@ -56,7 +56,10 @@ impl Room<'_, '_> {
     }
 
     // Writes the ends and the state of each edge, and returns how many edges there are.
-    fn edges(self, us: &mut [u16; EDGES], vs: &mut [u16; EDGES], states: &mut [u8; EDGES]) -> usize
+    fn edges(self, us: &mut [u16], vs: &mut [u16], states: &mut [u8]) -> usize
+        requires us_long { 2 * length self.cells.now ≤ length us.old }
+        requires vs_long { 2 * length self.cells.now ≤ length vs.old }
+        requires states_long { 2 * length self.cells.now ≤ length states.old }
         ensures { Written self.entry.borders.grid (marked_in self.entry.marks.now) self.entry.borders.states.now self.entry.cells.now
             us.old vs.old states.old us.new vs.new states.new result }
     {
@@ -76,14 +79,16 @@ impl Room<'_, '_> {
         m
     }
 
-    // The count of the room: nothing, or which side of it fails, its Walls (true) or its Connected borders.
-    pub fn find(self, count: usize) -> Option<bool>
+    // The count of the room, by arrays of N edges.
+    fn find_in<const N: usize>(self, count: usize) -> Option<bool>
+        requires room { 2 * length self.cells.now ≤ N }
+        requires short { N ≤ 2048 }
         ensures { result ≡ side_of (room_graph self.entry.borders.grid (marked_in self.entry.marks.now) self.entry.cells.now) count
             (edge_state (room_borders self.entry.borders.grid (marked_in self.entry.marks.now) self.entry.cells.now) (state_of self.entry.borders.states.now)) }
     {
-        let mut us = [0u16; EDGES];
-        let mut vs = [0u16; EDGES];
-        let mut states = [0u8; EDGES];
+        let mut us = [0u16; N];
+        let mut vs = [0u16; N];
+        let mut states = [0u8; N];
         let m = self.edges(&mut us, &mut vs, &mut states);
         let graph = RoomGraph {
             vertices: self.cells.len(),
@@ -92,6 +97,18 @@ impl Room<'_, '_> {
             states: &states[..m],
         };
         graph.failing(count)
+    }
+
+    // The count of the room: nothing, or which side of it fails, its Walls (true) or its Connected borders. A room of at most 64 cells has short
+    // arrays, since all of an array is zeroed.
+    pub fn find(self, count: usize) -> Option<bool>
+        ensures { result ≡ side_of (room_graph self.entry.borders.grid (marked_in self.entry.marks.now) self.entry.cells.now) count
+            (edge_state (room_borders self.entry.borders.grid (marked_in self.entry.marks.now) self.entry.cells.now) (state_of self.entry.borders.states.now)) }
+    {
+        if self.cells.len() <= 64 {
+            return self.find_in::<128>(count);
+        }
+        self.find_in::<EDGES>(count)
     }
 
     // Writes the entries of the room's Walls, or of its Connected edges, to the buffer's front, and returns how many there are.
