@@ -152,6 +152,10 @@ class Files(Program):
         os.chmod(self.path(self.write(PAPER)), 0)
         self.unsound("case.bin", system(errno.EACCES))
 
+    @unittest.skipUnless(os.path.isfile("/proc/self/mem"), "no regular file is at hand whose read fails")
+    def test_a_read_that_fails(self):
+        self.unsound("/proc/self/mem", system(errno.EIO))
+
     def test_a_long_name(self):
         self.unsound("x" * 300, system(errno.ENAMETOOLONG))
         self.unsound("x/" * 2047, system(errno.ENOENT))
