@@ -66,7 +66,7 @@ def found() -> str:
 def opened(path: str) -> Calls:
     """The calls of an archive, a shared library, or one of the system's by its name."""
     if not os.path.exists(path) and path != os.path.basename(path):
-        raise NoLibrary("no %s" % path)
+        raise NoLibrary("no library is at %s" % path)
     if not path.endswith(".a"):
         return Calls(path)
     if os.path.realpath(path) == os.path.realpath(ARCHIVE):
