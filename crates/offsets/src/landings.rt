@@ -87,7 +87,8 @@ impl Chart<'_> {
         }
     }
 
-    // Whether one of the borders of a cell that falls on `fallen` lands badly.
+    // Whether one of the borders of a cell that falls on `fallen` lands badly. Around a cell without a Wall or an edge on a side only inner borders
+    // must land well. The directions are written out as in `cell_failure`.
     #[inline(always)]
     pub fn has_bad(self, unit: u16, cell: usize, fallen: usize) -> bool
         requires { Cell self.borders.grid cell × Cell self.borders.grid fallen }

@@ -133,7 +133,7 @@ impl Puzzle {
         self.board.book.holds(self.board.grid.border_count(), marks)
     }
 
-    // Question 2 of the ledger. The array is no longer than the board asks, or one of 20 by 20, since all of it is zeroed.
+    // Question 2 of the ledger. Boards of three sizes, the second up to 20 by 20, have arrays of their own, since all of an array is zeroed.
     fn ledger_holds(&self) -> bool
         requires fits { self.now.given_len ≤ most_borders }
         requires given { Given (grid_of self.now) (given_of self.now) }
