@@ -126,7 +126,7 @@ WRONG = [
     ("make sendai/case.bin", "sendai/case.bin: No such file or directory"),
     ("make https://puzz.link/p?sendai/3/1/w", "the URL: character 32: 'w' does not belong in the borders"),
     ("load 1 1 2 ² FOLDER/load", "load: argument COUNT: '²' is no natural number .*"),
-    ("load 1 1 2 2 FOLDER/load --library FOLDER/none", "no FOLDER/none"),
+    ("load 1 1 2 2 FOLDER/load --library FOLDER/none", "no library is at FOLDER/none"),
     ("load 1 1 2 2 FOLDER/load --library DRAWING", "DRAWING: (invalid ELF header|file too short)"),
     ("answers FOLDER/latin", "FOLDER/latin: byte 3 is no text in UTF-8"),
     ("url FOLDER/none", "FOLDER/none: No such file or directory"),
