@@ -72,9 +72,11 @@ class Pages(unittest.TestCase):
         self.assertNotIn("decided", found.words)
 
     def test_choices(self):
-        for choice, wanted in ((Choice(faults=True), ["step-3"]), (Choice([(2, 3)]), ["step-2", "step-3"]),
-                               (Choice([(1, 1), (4, 9)]), ["step-1", "step-4"]), (Choice([(1, 2)], faults=True), [])):
+        for choice, said, wanted in ((Choice(faults=True), "fault 3", ["step-3"]), (Choice([(2, 3)]), "steps 2 to 3", ["step-2", "step-3"]),
+                                     (Choice([(1, 1), (4, 9)]), "steps 1 to 4", ["step-1", "step-4"]),
+                                     (Choice([(1, 2)], faults=True), "no fault", [])):
             found = self.only(PAPER_CASE, PAPER_LINES, choice)
+            self.assertIn(said, found.words)
             self.assertEqual([name for name in found.ids if name.startswith("step")], wanted)
             self.assertEqual(found.tags.count("svg"), max(1, len(wanted)) + 1 + len(page.OF_STEPS))  # the puzzle alone where there is no step
 
