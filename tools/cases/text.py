@@ -47,7 +47,7 @@ def report(case, lines, choice=Choice(), explain=None):
     """
     yield heading(case)
     if not drawable(case):
-        yield "no such board is drawn"
+        yield "no such board is drawn: " + refusal_said(case)
         return
     clues = clue_texts(case)
     yield draw(case, clues=clues)

@@ -43,7 +43,7 @@ class Answers(unittest.TestCase):
     def test_a_refused_puzzle_and_a_board_that_is_not_drawn(self):
         self.assertIn("the puzzle is refused 8: there are not", report(Case(1, 3, [1], [], [(ASK, None)]), ["refused 8"]))
         self.assertIn("the puzzle is refused 8: there are not", report(Case(1, 3, [1], [], [(ASK, None)]), None))
-        self.assertIn("no such board", report(Case(0, 33), ["refused 1"]))
+        self.assertIn("no such board is drawn: the puzzle is refused 1", report(Case(0, 33), ["refused 1"]))
         self.assertEqual([refusal(made) for made in (
             Case(33, 1), Case(1, 3, [2]), Case(1, 3, [1, 0]), Case(1, 3, [0, 0]), Case(1, 3, [1]), Case(1, 3, [1], [0, 2]), Case(1, 3, [1], [2, 1]))],
             [1, 3, 7, 7, 8, 9, 0])
