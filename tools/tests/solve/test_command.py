@@ -74,10 +74,11 @@ class Command(unittest.TestCase):
         self.assertRegex(out[2], r"^\d+ asks, \d+ faults, \d+\.\d seconds$")
 
     def test_a_limit_is_told(self):
-        status, out, _ = self.told(Case(2, 4, [], [NO_CLUE]), "--limit", "2")
-        self.assertEqual((status, out[1]), (0, "at least 2 answers; stopped at the limit"))
-        self.assertIn("in these answers", out[3])
-        self.assertTrue(out[-1].endswith("; others may differ elsewhere"))
+        for options, count in (((), 2), (("--limit", "2"), 2), (("--limit", "3"), 3)):
+            status, out, _ = self.told(Case(2, 4, [], [NO_CLUE]), *options)
+            self.assertEqual((status, out[1]), (0, "at least %d answers; stopped at the limit" % count))
+            self.assertIn("in these answers", out[3])
+            self.assertTrue(out[-1].endswith("; others may differ elsewhere"))
 
     def test_how_many_are_drawn(self):
         for most, titles, drawn in ((0, "started             in all answers", True), (1, "started             in all answers      1", True),
