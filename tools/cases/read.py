@@ -21,7 +21,7 @@ def naming(source):
 
 
 def is_url(source):
-    return url.LIKELY.match(source) is not None and not os.path.exists(source)
+    return url.LIKELY.match(source.strip()) is not None and not os.path.exists(source)
 
 
 def read_bytes(path, most=MOST_BYTES):
@@ -69,4 +69,4 @@ def case_of(data, as_is=False):
 def read_case(source, as_is=False):
     """The case of a path ('-': standard input) or a URL. With `as_is` a drawing or a URL may be one that the program refuses."""
     with naming(source):
-        return url.parse(source, as_is) if is_url(source) else case_of(read_bytes(source), as_is)
+        return url.parse(source.strip(), as_is) if is_url(source) else case_of(read_bytes(source), as_is)

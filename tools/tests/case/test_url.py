@@ -54,8 +54,8 @@ class Urls(unittest.TestCase):
 
     def test_sites(self):
         for site in SITES:
-            for end in ("", "/"):
-                self.assertEqual(read_case(site + ELEVEN_ROOMS + end), parse(ELEVEN_DRAWN))
+            for before, end in (("", ""), ("", "/"), (" ", "\n")):
+                self.assertEqual(read_case(before + site + ELEVEN_ROOMS + end), parse(ELEVEN_DRAWN))
 
     def test_clues_of_all_lengths(self):
         for clue, written in ((0, "0"), (15, "f"), (16, "-10"), (255, "-ff"), (256, "+100"), (1024, "+400"), (NO_CLUE, "g")):
