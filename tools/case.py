@@ -245,12 +245,22 @@ def command_line():
     commands = parser.add_subparsers(dest="command", metavar="COMMAND", help="what to do:", required=True)
     for add in (add_make, add_show, add_answers, add_load, add_url):
         add(commands)
-    return parser
+    return parser, commands.choices
+
+
+def arguments(words):
+    """What the words of a command say."""
+    parser, commands = command_line()
+    if not words or words[0] not in commands:
+        return parser.parse_args(words)
+    own, rest = commands[words[0]], words[1:]
+    # the command's own parser takes an option between two arguments, which the one above it does not; but it would lose a -- in front of them
+    return own.parse_args(rest) if "--" in rest else own.parse_intermixed_args(rest)
 
 
 def main(words):
     """Acts on the words of a command, and returns the exit status: 0, or 2 where something is wrong, which one line says."""
-    args = command_line().parse_args(words)
+    args = arguments(words)
     return finished("case.py", lambda: args.act(args) or 0)
 
 

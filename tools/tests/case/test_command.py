@@ -73,6 +73,15 @@ class Taken(InFolder):
         self.assertEqual(run("make", "--as-is", large, self.path)[::2], (2, "case.py: %s: 65536 does not fit 16 bits\n" % large))
         self.assertEqual(run("url", self.path), (2, "", "case.py: %s: the puzzle is refused 9: a clue is above its room's cells\n" % self.path))
 
+    def test_an_option_between_arguments(self):
+        drawing = self.file("drawing.txt", PAPER_DRAWING)
+        for words in ((drawing, "--as-is", self.path), (drawing, self.path, "--as-is"), ("--as-is", "--", drawing, self.path)):
+            self.assertEqual(run("make", *words), (0, "", ""), words)
+            self.assertEqual(read_bytes(self.path), PAPER)
+            os.remove(self.path)
+        none = self.file("none")
+        self.assertEqual(run("load", "5", "6", "6", "3", "--library", none, self.path), (2, "", "case.py: no library is at %s\n" % none))
+
     def test_help(self):
         for words in ((), ("make",), ("show",), ("answers",), ("load",), ("url",)):
             status, out, said = run(*words, "--help")
@@ -88,7 +97,7 @@ WRONG = [
     ("", "the following arguments are required: COMMAND (`case.py --help` says more)"),
     ("make", "make: the following arguments are required: DRAWING|URL (`case.py make --help` says more)"),
     ("shew", None),
-    ("show --sgv x", "unrecognized arguments: --sgv .*"),
+    ("show --sgv x", "show: unrecognized arguments: --sgv .*"),
     ("answers --cap x", "answers: argument --cap: 'x' is no natural number .*"),
     ("answers --cap -1", "answers: argument --cap: .*"),
     ("make FOLDER/none", "FOLDER/none: No such file or directory"),
