@@ -1,4 +1,5 @@
 import random
+import re
 import unittest
 import xml.etree.ElementTree as ElementTree
 
@@ -76,6 +77,14 @@ class Pictures(unittest.TestCase):
         self.assertEqual([board[-1].get("href") for board in boards(tree)], ["#over"])
         numbers = [e.text for e in over if e.get("class") == "number"]
         self.assertEqual(numbers, [str(n) for n in range(border_count(made))])
+
+    def test_a_number_leaves_its_sign_to_be_seen(self):
+        tree = tree_of(svg.asks(Case(2, 1, [], [NO_CLUE], [(CONNECT, 0), (ASK, None)]), None, numbers=True))
+        (sign,) = [e.get("d") for e in boards(tree)[0] if e.get("class") == "connected"]
+        top, high = map(int, re.fullmatch(r"M18 (\d+)v(\d+)", sign).groups())
+        (foot,) = [int(e.get("y")) for e in tree.iter(SVG + "text") if e.get("class") == "number"]
+        # a digit is 7 high, and has a rim of 2: above and below that the sign shows
+        self.assertGreaterEqual(min(foot - 9 - top, top + high - (foot + 2)), 8)
 
     def test_a_long_list_is_broken(self):
         made = Case(32, 32, [], [1000], [(CONNECT, b) for b in range(25)] + [(ASK, None)])
