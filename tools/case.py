@@ -9,7 +9,8 @@ right boards.
     case.py url [FILE]                               print the URL of a case's puzzle
 
 `case.py COMMAND --help` says what each takes. FILE is sendai.bin where none is named; where one is read, it may be a case file, a drawing,
-a URL, or '-' for standard input. What is wrong is said in one line, and the exit status is 2 then.
+a URL, or '-' for standard input. What is wrong is said in one line, and the exit status is 2 then; so it is where what a command prints can't
+be written.
 
 A drawing has a row of cells and a row of borders in turn, three characters a cell:
 
@@ -260,8 +261,10 @@ def arguments(words):
 
 def main(words):
     """Acts on the words of a command, and returns the exit status: 0, or 2 where something is wrong, which one line says."""
-    args = arguments(words)
-    return finished("case.py", lambda: args.act(args) or 0)
+    def act():
+        args = arguments(words)
+        return args.act(args) or 0
+    return finished("case.py", act)
 
 
 if __name__ == "__main__":

@@ -10,8 +10,8 @@ It says whether there is no answer, one, or several, and draws them, with X and 
 differ. By default it stops at two answers, since that tells whether there is just one. On a terminal it shows how far it is. Ctrl-C ends it
 with what was found until then.
 
-Status: 0 where the search ended or met its limit of answers; 1 where it was stopped before (--seconds, --asks); 2 for a wrong use or a
-puzzle that is refused; 3 where clingo or the checker's library is missing or failed; 130 after Ctrl-C.
+Status: 0 where the search ended or met its limit of answers; 1 where it was stopped before (--seconds, --asks); 2 for a wrong use, a puzzle
+that is refused, or an output that can't be written; 3 where clingo or the checker's library is missing or failed; 130 after Ctrl-C.
 
 Needed are clingo with Python inside (Debian's package gringo; tried with 5.4.1) and the checker's library, which bindings/python finds.
 """
@@ -88,8 +88,7 @@ def run(args):
 
 def main(words):
     """Acts on the words of a command, and returns the exit status; one line says what is wrong."""
-    args = arguments(words)
-    return finished("solve.py", lambda: run(args), (NoSolver, sendai.NoLibrary))
+    return finished("solve.py", lambda: run(arguments(words)), (NoSolver, sendai.NoLibrary))
 
 
 if __name__ == "__main__":

@@ -197,12 +197,16 @@ class Ended(InFolder):
 
     @unittest.skipUnless(os.path.exists("/dev/full"), "no /dev/full")
     def test_a_full_device(self):
-        with open("/dev/full", "wb") as full, self.started("show", self.file("one", PAPER), stdout=full) as process:
-            self.assertEqual((process.stderr.read(), process.wait(20)), (b"case.py: standard output: No space left on device\n", 2))
+        for words in (("show", self.file("one", PAPER)), ("--help",), ("show", "--help")):
+            with open("/dev/full", "wb") as full, self.started(*words, stdout=full) as process:
+                self.assertEqual((process.stderr.read(), process.wait(20)), (b"case.py: standard output: No space left on device\n", 2), words)
 
     def test_closed_streams(self):
-        one, command = self.file("one", PAPER), [sys.executable, os.path.abspath(case.__file__), "show"]
-        for words, closed, status, said in (([one], ">&-", 0, b""), (["-"], "<&-", 2, b"case.py: standard input: there is nothing in it\n")):
+        one, command = self.file("one", PAPER), [sys.executable, os.path.abspath(case.__file__)]
+        output = b"case.py: standard output: Bad file descriptor\n"
+        for words, closed, status, said in ((["show", one], ">&-", 2, output), (["make", PAPER_URL, "-"], ">&-", 2, output),
+                                            (["--help"], ">&-", 2, output), (["make", PAPER_URL, self.path], ">&-", 0, b""),
+                                            (["show", "-"], "<&-", 2, b"case.py: standard input: there is nothing in it\n")):
             done = subprocess.run(["sh", "-c", '"$@" ' + closed, "sh"] + command + words, stdout=subprocess.PIPE, stderr=subprocess.PIPE)
             self.assertEqual((done.returncode, done.stderr), (status, said))
 

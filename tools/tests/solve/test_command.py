@@ -147,9 +147,10 @@ class Command(unittest.TestCase):
         with open(self.path, "wb") as f:
             f.write(encode(Case(1, 4, [], [NO_CLUE])))
         command = [sys.executable, os.path.abspath(solve.__file__), self.path]
-        for output, status, said in ((">&-", 0, b""), ("> /dev/full", 2, b"solve.py: standard output: No space left on device\n")):
-            done = subprocess.run(["sh", "-c", '"$@" ' + output, "sh"] + command, stderr=subprocess.PIPE)
-            self.assertEqual((done.returncode, done.stderr), (status, said))
+        for output, said in ((">&-", b"Bad file descriptor"), ("> /dev/full", b"No space left on device")):
+            for words in ([], ["--help"]):
+                done = subprocess.run(["sh", "-c", '"$@" ' + output, "sh"] + command + words, stderr=subprocess.PIPE)
+                self.assertEqual((done.returncode, done.stderr), (2, b"solve.py: standard output: %s\n" % said))
 
     def test_interrupted(self):
         with open(self.path, "wb") as f:
