@@ -56,7 +56,7 @@ def arguments(words):
 
 def shown(found):
     """The line of progress, which the next one is written over."""
-    sys.stderr.write("\r\x1b[K%s, %d found" % (effort(found), len(found.answers)))
+    sys.stderr.write("\r\x1b[K{}, {:,} found".format(effort(found), len(found.answers)))
     sys.stderr.flush()
 
 

@@ -44,7 +44,8 @@ class Book:
         self.each = max(1, min(STEPS_ON_A_PAGE, CELLS_ON_A_PAGE // (case.height * case.width)))
         self.count = max(1, -(-len(self.steps) // self.each))
         if self.count > MOST_PAGES:
-            raise Mistake("%d steps make %d pages, more than %d: choose some by --steps or --faults" % (len(self.steps), self.count, MOST_PAGES))
+            raise Mistake("%s make %s, more than %d: choose some by --steps or --faults" % (
+                counted(len(self.steps), "step"), counted(self.count, "page"), MOST_PAGES))
 
     def pages(self, path):
         """The text of each page, in turn; `path` is that of the first."""

@@ -4,7 +4,7 @@ import subprocess
 import tempfile
 
 from .file import encode
-from .model import Mistake, refusal
+from .model import Mistake, counted, refusal
 from .read import MOST_LINES, text_of, told
 
 
@@ -21,7 +21,7 @@ def run(program, case):
             printed = process.stdout.read(MOST_LINES + 1)
             if len(printed) > MOST_LINES:  # it may never end
                 process.kill()
-                raise Mistake("the program prints more than %d bytes" % MOST_LINES)
+                raise Mistake("the program prints more than %s" % counted(MOST_LINES, "byte"))
         if process.returncode and not refusal(case):  # that a puzzle is refused, the program may tell by its status, too
             said.seek(0)
             raise Mistake("the program " + ended(process.returncode, said.read()))

@@ -148,7 +148,7 @@ def legend(signs, top, wide):
 
 def check_size(case, boards):
     if boards * case.height * case.width > MOST_CELLS:
-        raise Mistake("%d boards are too many for one picture: choose fewer, by --steps, --faults or --cap" % boards)
+        raise Mistake("%s are too many for one picture: choose fewer, by --steps, --faults or --cap" % counted(boards, "board"))
 
 
 def picture(case, panels, signs, numbers=False, widest=1000):

@@ -106,7 +106,7 @@ WRONG = [
     ("show FOLDER/latin", "FOLDER/latin: byte 3 is no text in UTF-8"),
     ("show FOLDER/odd", "FOLDER/odd: byte 4 is no text in UTF-16"),
     ("show FOLDER/empty", "FOLDER/empty: there is nothing in it"),
-    ("show FOLDER/cut", "FOLDER/cut: unsound: length 18, but 17 bytes follow"),
+    ("show FOLDER/cut", "FOLDER/cut: unsound: length 18, but 17 bytes behind it"),
     ("show FOLDER/version", "FOLDER/version: unsound: version 2"),
     ("show -", "standard input: there is nothing in it"),
     ("show - --answers -", "standard input can't be both the case and its answers"),
@@ -119,7 +119,7 @@ WRONG = [
     ("show DRAWING --answers FOLDER/latin", "FOLDER/latin: byte 3 is no text in UTF-8"),
     ("show DRAWING --answers FOLDER/lines", "FOLDER/lines: line 3: 'shape: 1 two' is no line that the program prints"),
     ("show DRAWING --answers FOLDER/few", "FOLDER/few: 1 line for 4 calls"),
-    ("show /dev/zero", "/dev/zero: there are more than 16777216 bytes in it"),
+    ("show /dev/zero", "/dev/zero: there are more than 16,777,216 bytes in it"),
     ("make FOLDER/refused", "FOLDER/refused: the puzzle is refused 8: there are not as many clues as rooms"),
     ("show DRAWING --answers FOLDER/lines --program x", "show: argument --program: not allowed with argument --answers .*"),
     ("show DRAWING --program FOLDER/none", "FOLDER/none: No such file or directory"),
@@ -173,7 +173,7 @@ class Refused(InFolder):
         os.chmod(program, 0o755)
         with unittest.mock.patch("cases.program.MOST_LINES", 10 ** 6):
             ended = run("show", self.drawing, "--program", program)
-        self.assertEqual(ended, (2, "", "case.py: %s: the program prints more than 1000000 bytes\n" % program))
+        self.assertEqual(ended, (2, "", "case.py: %s: the program prints more than 1,000,000 bytes\n" % program))
 
     def test_a_refused_puzzle_by_status(self):
         program = self.file("refuses", "#!/bin/sh\necho refused 9\necho why >&2\nexit 1\n")

@@ -123,7 +123,7 @@ class Pages(unittest.TestCase):
         links = [[link for link in self.read(content).links if link[0] != "#"] for content in contents]
         self.assertEqual(links[0], ["c%23d-2.html", "c%23d-4.html"] * 2)
         self.assertEqual(links[1], ["c%23d.html", "c%23d.html", "c%23d-3.html", "c%23d-4.html"] * 2)
-        with self.assertRaisesRegex(Mistake, "^9000 steps make 474 pages, more than 400: choose some by --steps or --faults$"):
+        with self.assertRaisesRegex(Mistake, "^9,000 steps make 474 pages, more than 400: choose some by --steps or --faults$"):
             Book(Case(32, 32, [], [NO_CLUE], [(ASK, None)] * 9000), None, Choice())
 
     def test_names(self):

@@ -98,7 +98,7 @@ class Pictures(unittest.TestCase):
 
     def test_too_many_boards(self):
         made = Case(32, 32, [], [NO_CLUE], [(ASK, None)] * 3000)
-        with self.assertRaisesRegex(Mistake, "^3000 boards are too many for one picture: choose fewer, by --steps, --faults or --cap$"):
+        with self.assertRaisesRegex(Mistake, "^3,000 boards are too many for one picture: choose fewer, by --steps, --faults or --cap$"):
             svg.asks(made, None)
         self.assertEqual(len(boards(tree_of(svg.asks(made, None, Choice([(5, 6), (2999, 4000)]))))), 4)
         self.assertEqual(len(boards(tree_of(svg.asks(made, None, Choice(faults=True))))), 1)

@@ -14,7 +14,8 @@ import solve
 from cases.file import encode
 from cases.model import CONNECT, NO_CLUE, UNDO, WALL, Case
 from checker import sendai
-from solver.search import NoSolver, Solver
+from solver.report import effort, verdict
+from solver.search import Found, NoSolver, Solver
 from solver.trace import MAGIC
 
 from ..case.support import Terminal
@@ -72,6 +73,11 @@ class Command(unittest.TestCase):
             "+---+---+---+---+   +---+---+---+---+   +---+---+---+---+   +---+---+---+---+",
             "X and O: Walls and Connected borders in which these answers differ"]))
         self.assertRegex(out[2], r"^\d+ asks, \d+ faults, \d+\.\d seconds$")
+
+    def test_counts(self):
+        found = Found()
+        found.asks, found.faults, found.answers = 1, 1, [b""] * 1808
+        self.assertEqual((effort(found), verdict(found)), ("1 ask, 1 fault, 0.0 seconds", "1,808 answers: these are all"))
 
     def test_a_limit_is_told(self):
         for options, count in (((), 2), (("--limit", "2"), 2), (("--limit", "3"), 3)):
