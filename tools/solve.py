@@ -39,13 +39,19 @@ def duration(text):
     return seconds
 
 
+def at_least_one(word):
+    if natural(word) == 0:
+        raise argparse.ArgumentTypeError("it is at least 1")
+    return int(word)
+
+
 def arguments(words):
     parser = Parser(prog="solve.py", description=__doc__, formatter_class=argparse.RawDescriptionHelpFormatter)
     parser.add_argument("puzzle", metavar="PUZZLE", help="a case file, a drawing or a URL; '-': standard input")
     parser.add_argument("--limit", type=natural, default=2, metavar="N", help="stop at so many answers (2); 0: find all")
     parser.add_argument("--all", dest="limit", action="store_const", const=0, help="find all answers: --limit 0")
     parser.add_argument("--seconds", type=duration, metavar="S", help="stop after so many seconds")
-    parser.add_argument("--asks", type=natural, metavar="N", help="stop after so many asks")
+    parser.add_argument("--asks", type=at_least_one, metavar="N", help="stop after so many asks, at least 1")
     parser.add_argument("--trace", metavar="FILE", help="write every call to FILE, in the form that tools/solver/trace.py describes")
     parser.add_argument("--json", action="store_true", help="print answers (1 Connected, 2 Wall, by border) and counts as one JSON object")
     parser.add_argument("--draw", type=natural, default=100, metavar="N", help="draw at most so many answers (100)")

@@ -121,7 +121,7 @@ class Command(unittest.TestCase):
             status, out, err = self.told(case, *options)
             self.assertEqual((status, out, len(err)), (2, [], 1))
             self.assertRegex(err[0], "^solve.py: .*" + said)
-        for options in (["--limit", "x"], ["--seconds", "-1"], ["--seconds", "nan"], ["--asks", "1.5"], ["--no-such"]):
+        for options in (["--limit", "x"], ["--seconds", "-1"], ["--seconds", "nan"], ["--asks", "1.5"], ["--asks", "0"], ["--no-such"]):
             self.assertEqual(self.told(row, *options)[:2], (2, []))
 
     def test_missing_parts(self):
@@ -157,6 +157,12 @@ class Command(unittest.TestCase):
             for words in ([], ["--help"]):
                 done = subprocess.run(["sh", "-c", '"$@" ' + output, "sh"] + command + words, stderr=subprocess.PIPE)
                 self.assertEqual((done.returncode, done.stderr), (2, b"solve.py: standard output: %s\n" % said))
+
+    @unittest.skipUnless(os.path.exists("/dev/full"), "no /dev/full")
+    def test_a_trace_that_takes_nothing(self):
+        for case in (Case(1, 4, [], [NO_CLUE]), Case(6, 6, [], [NO_CLUE])):  # one whose trace is written at its end, and a long one
+            status, out, err = self.told(case, "--trace", "/dev/full", "--all", "--asks", "20000")
+            self.assertEqual((status, out, err), (2, [], ["solve.py: /dev/full: No space left on device"]))
 
     def test_interrupted(self):
         with open(self.path, "wb") as f:
