@@ -115,8 +115,12 @@ class Book:
 def steps_said(part, choice):
     if not part:
         return "no %s" % ("fault" if choice.faults else "step")
-    kind = "fault" if choice.faults else "step"
-    return "%s %d" % (kind, part[0][0]) if len(part) == 1 else "%ss %d to %d" % (kind, part[0][0], part[-1][0])
+    kind, first, last = "fault" if choice.faults else "step", part[0][0], part[-1][0]
+    if len(part) == 1:
+        return "%s %d" % (kind, first)
+    if len(part) == last - first + 1:
+        return "%ss %d to %d" % (kind, first, last)
+    return "%ss %d and %d" % (kind, first, last) if len(part) == 2 else "%s, the first %d, the last %d" % (counted(len(part), kind), first, last)
 
 
 def fault_links(part):

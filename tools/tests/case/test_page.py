@@ -73,7 +73,8 @@ class Pages(unittest.TestCase):
 
     def test_choices(self):
         for choice, said, wanted in ((Choice(faults=True), "fault 3", ["step-3"]), (Choice([(2, 3)]), "steps 2 to 3", ["step-2", "step-3"]),
-                                     (Choice([(1, 1), (4, 9)]), "steps 1 to 4", ["step-1", "step-4"]),
+                                     (Choice([(1, 1), (4, 9)]), "steps 1 and 4", ["step-1", "step-4"]),
+                                     (Choice([(1, 2), (4, 4)]), "3 steps, the first 1, the last 4", ["step-1", "step-2", "step-4"]),
                                      (Choice([(1, 2)], faults=True), "no fault", [])):
             found = self.only(PAPER_CASE, PAPER_LINES, choice)
             self.assertIn(said, found.words)
