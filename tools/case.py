@@ -208,7 +208,8 @@ def add_show(commands):
     it.add_argument("file", metavar="FILE", nargs="?", default="sendai.bin", help=SOURCE)
     lines = it.add_mutually_exclusive_group()
     lines.add_argument("--answers", metavar="LINES", help="a file with the lines that the program printed for it; '-' is standard input")
-    lines.add_argument("--program", metavar="PATH", help="or the program itself, which is run on the case")
+    lines.add_argument("--program", metavar="PATH", help="or the program itself, which is run on the case; a name without a slash is "
+                       "looked for in PATH, too")
     it.add_argument("--html", metavar="PAGE", help="write a page of HTML instead, with a step for each call and why a fault is one; "
                     "many steps make several, PAGE-2 and so on")
     it.add_argument("--svg", metavar="PICTURE", help="write an SVG picture instead, with the board of each ask and why a fault is one")

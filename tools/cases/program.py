@@ -1,5 +1,6 @@
 """The program, run on a case."""
 import os
+import shutil
 import subprocess
 import tempfile
 
@@ -8,13 +9,18 @@ from .model import Mistake, counted, refusal
 from .read import MOST_LINES, text_of, told
 
 
+def found(program):
+    """The path of a program: a name without a slash is looked for in PATH, too, as a shell does."""
+    return os.path.abspath(os.sep not in program and shutil.which(program) or program)
+
+
 def run(program, case):
     """The lines that the program prints for a case, in a folder of its own."""
     with tempfile.TemporaryDirectory() as folder, tempfile.TemporaryFile() as said:
         with open(os.path.join(folder, "sendai.bin"), "wb") as f:
             f.write(encode(case))
         try:
-            process = subprocess.Popen([os.path.abspath(program)], cwd=folder, stdin=subprocess.DEVNULL, stdout=subprocess.PIPE, stderr=said)
+            process = subprocess.Popen([found(program)], cwd=folder, stdin=subprocess.DEVNULL, stdout=subprocess.PIPE, stderr=said)
         except (OSError, ValueError) as e:
             raise Mistake(told(e)) from None
         with process:

@@ -168,6 +168,15 @@ class Refused(InFolder):
                 self.assertRegex(line, r"^case\.py: %s\n\Z" % said, words)
         self.assertFalse(os.path.exists(self.file("load")))
 
+    def test_a_program_by_its_name(self):
+        os.mkdir(self.file("bin"))
+        os.chmod(self.file("bin/sendai-of-path", "#!/bin/sh\nprintf 'decided\\ndecided\\nclear\\nundone\\n'\n"), 0o755)
+        self.assertEqual(run("show", self.drawing, "--program", "sendai-of-path")[0], 2)
+        with unittest.mock.patch.dict(os.environ, PATH=self.file("bin") + os.pathsep + os.environ["PATH"]):
+            status, out, said = run("show", self.drawing, "--program", "sendai-of-path")
+        self.assertEqual((status, said), (0, ""))
+        self.assertIn("ask  ->  clear", out)
+
     def test_a_program_that_never_ends(self):
         program = self.file("endless", "#!/bin/sh\nexec yes decided\n")
         os.chmod(program, 0o755)
