@@ -9,7 +9,8 @@ right boards.
     case.py url [FILE]                               print the URL of a case's puzzle
 
 `case.py COMMAND --help` says what each takes. FILE is sendai.bin where none is named; where one is read, it may be a case file, a drawing,
-a URL, or '-' for standard input. What is wrong is said in one line, and the exit status is 2 then.
+a URL, or '-' for standard input. What is wrong is said in one line, and the exit status is 2 then; so it is where what a command prints can't
+be written.
 
 A drawing has a row of cells and a row of borders in turn, three characters a cell:
 
@@ -207,7 +208,8 @@ def add_show(commands):
     it.add_argument("file", metavar="FILE", nargs="?", default="sendai.bin", help=SOURCE)
     lines = it.add_mutually_exclusive_group()
     lines.add_argument("--answers", metavar="LINES", help="a file with the lines that the program printed for it; '-' is standard input")
-    lines.add_argument("--program", metavar="PATH", help="or the program itself, which is run on the case")
+    lines.add_argument("--program", metavar="PATH", help="or the program itself, which is run on the case; a name without a slash is "
+                       "looked for in PATH, too")
     it.add_argument("--html", metavar="PAGE", help="write a page of HTML instead, with a step for each call and why a fault is one; "
                     "many steps make several, PAGE-2 and so on")
     it.add_argument("--svg", metavar="PICTURE", help="write an SVG picture instead, with the board of each ask and why a fault is one")
@@ -245,13 +247,25 @@ def command_line():
     commands = parser.add_subparsers(dest="command", metavar="COMMAND", help="what to do:", required=True)
     for add in (add_make, add_show, add_answers, add_load, add_url):
         add(commands)
-    return parser
+    return parser, commands.choices
+
+
+def arguments(words):
+    """What the words of a command say."""
+    parser, commands = command_line()
+    if not words or words[0] not in commands:
+        return parser.parse_args(words)
+    own, rest = commands[words[0]], words[1:]
+    # the command's own parser takes an option between two arguments, which the one above it does not; but it would lose a -- in front of them
+    return own.parse_args(rest) if "--" in rest else own.parse_intermixed_args(rest)
 
 
 def main(words):
     """Acts on the words of a command, and returns the exit status: 0, or 2 where something is wrong, which one line says."""
-    args = command_line().parse_args(words)
-    return finished("case.py", lambda: args.act(args) or 0)
+    def act():
+        args = arguments(words)
+        return args.act(args) or 0
+    return finished("case.py", act)
 
 
 if __name__ == "__main__":

@@ -16,11 +16,20 @@ class Parser(argparse.ArgumentParser):
         program, _, name = self.prog.partition(" ")
         self.exit(2, "%s: %s%s (`%s --help` says more)\n" % (program, name + ": " if name else "", message, self.prog))
 
+    def print_help(self, file=None):
+        """Fails where it can't be written, which argparse would pass over."""
+        print(self.format_help(), end="", file=file, flush=True)
+
 
 def natural(word):
     if not decimal(word):
         raise argparse.ArgumentTypeError("%r is no natural number" % word)
     return int(word)
+
+
+def closed():
+    """A standard output that takes nothing, for where the shell has closed it: a file that is open for reading alone."""
+    return open(os.open(os.devnull, os.O_RDONLY), "w")
 
 
 def let_go():
@@ -30,7 +39,7 @@ def let_go():
 
 def finished(name, act, failures=()):
     """Acts, and returns the exit status, that of the act or 2 where something is wrong, which one line says. `failures` end with 3."""
-    sys.stdout = sys.stdout or open(os.devnull, "w")  # there is none where the shell has closed it
+    sys.stdout = sys.stdout or closed()
     status = 2
     try:
         status_of_act = act()

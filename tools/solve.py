@@ -10,8 +10,8 @@ It says whether there is no answer, one, or several, and draws them, with X and 
 differ. By default it stops at two answers, since that tells whether there is just one. On a terminal it shows how far it is. Ctrl-C ends it
 with what was found until then.
 
-Status: 0 where the search ended or met its limit of answers; 1 where it was stopped before (--seconds, --asks); 2 for a wrong use or a
-puzzle that is refused; 3 where clingo or the checker's library is missing or failed; 130 after Ctrl-C.
+Status: 0 where the search ended or met its limit of answers; 1 where it was stopped before (--seconds, --asks); 2 for a wrong use, a puzzle
+that is refused, or an output that can't be written; 3 where clingo or the checker's library is missing or failed; 130 after Ctrl-C.
 
 Needed are clingo with Python inside (Debian's package gringo; tried with 5.4.1) and the checker's library, which bindings/python finds.
 """
@@ -39,13 +39,19 @@ def duration(text):
     return seconds
 
 
+def at_least_one(word):
+    if natural(word) == 0:
+        raise argparse.ArgumentTypeError("it is at least 1")
+    return int(word)
+
+
 def arguments(words):
     parser = Parser(prog="solve.py", description=__doc__, formatter_class=argparse.RawDescriptionHelpFormatter)
     parser.add_argument("puzzle", metavar="PUZZLE", help="a case file, a drawing or a URL; '-': standard input")
     parser.add_argument("--limit", type=natural, default=2, metavar="N", help="stop at so many answers (2); 0: find all")
     parser.add_argument("--all", dest="limit", action="store_const", const=0, help="find all answers: --limit 0")
     parser.add_argument("--seconds", type=duration, metavar="S", help="stop after so many seconds")
-    parser.add_argument("--asks", type=natural, metavar="N", help="stop after so many asks")
+    parser.add_argument("--asks", type=at_least_one, metavar="N", help="stop after so many asks, at least 1")
     parser.add_argument("--trace", metavar="FILE", help="write every call to FILE, in the form that tools/solver/trace.py describes")
     parser.add_argument("--json", action="store_true", help="print answers (1 Connected, 2 Wall, by border) and counts as one JSON object")
     parser.add_argument("--draw", type=natural, default=100, metavar="N", help="draw at most so many answers (100)")
@@ -56,7 +62,7 @@ def arguments(words):
 
 def shown(found):
     """The line of progress, which the next one is written over."""
-    sys.stderr.write("\r\x1b[K%s, %d found" % (effort(found), len(found.answers)))
+    sys.stderr.write("\r\x1b[K{}, {:,} found".format(effort(found), len(found.answers)))
     sys.stderr.flush()
 
 
@@ -88,8 +94,7 @@ def run(args):
 
 def main(words):
     """Acts on the words of a command, and returns the exit status; one line says what is wrong."""
-    args = arguments(words)
-    return finished("solve.py", lambda: run(args), (NoSolver, sendai.NoLibrary))
+    return finished("solve.py", lambda: run(arguments(words)), (NoSolver, sendai.NoLibrary))
 
 
 if __name__ == "__main__":

@@ -1,5 +1,5 @@
 """The case file that the program reads: docs/SPEC.md, 5.1 to 5.3."""
-from .model import ASK, CONNECT, WALL, Case, Mistake, Unsound
+from .model import ASK, CONNECT, WALL, Case, Mistake, Unsound, counted
 
 
 def word(n):
@@ -18,7 +18,7 @@ def encode(case):
     for kind, border in case.calls:
         rest += bytes([kind]) + (word(border) if kind in (CONNECT, WALL) else b"")
     if len(rest) > 60000:
-        raise Mistake("%d bytes are more than 60,000" % len(rest))
+        raise Mistake("%s are more than 60,000" % counted(len(rest), "byte"))
     return b"\x01" + word(len(rest)) + rest
 
 
@@ -44,9 +44,9 @@ def decode(data):
         raise Unsound("version %d" % version)
     length = r.word("the length")
     if length > 60000:
-        raise Unsound("length %d is above 60,000" % length)
+        raise Unsound("length {:,} is above 60,000".format(length))
     if length != len(data) - 3:
-        raise Unsound("length %d, but %d bytes follow" % (length, len(data) - 3))
+        raise Unsound("length {:,}, but {} behind it".format(length, counted(len(data) - 3, "byte")))
     height, width = r.byte("the height"), r.byte("the width")
     walls = [r.word("the given walls") for _ in range(r.word("the count of given walls"))]
     clues = [r.word("the clues") for _ in range(r.word("the count of clues"))]
@@ -57,5 +57,5 @@ def decode(data):
             raise Unsound("a call of kind %d" % kind)
         calls.append((kind, r.word("a border") if kind in (CONNECT, WALL) else None))
     if r.at != len(data):
-        raise Unsound("%d bytes behind the last call" % (len(data) - r.at))
+        raise Unsound("%s behind the last call" % counted(len(data) - r.at, "byte"))
     return Case(height, width, walls, clues, calls)

@@ -97,7 +97,8 @@ def rooms(case):
 
 
 def counted(number, what):
-    return "%d %s%s" % (number, what, "" if number == 1 else "s")
+    """So many of something. Counts have a comma before each three digits; numbers of borders, rooms, steps and lines have none."""
+    return "{:,} {}{}".format(number, what, "" if number == 1 else "s")
 
 
 def place(case, cell):

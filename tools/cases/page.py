@@ -44,7 +44,8 @@ class Book:
         self.each = max(1, min(STEPS_ON_A_PAGE, CELLS_ON_A_PAGE // (case.height * case.width)))
         self.count = max(1, -(-len(self.steps) // self.each))
         if self.count > MOST_PAGES:
-            raise Mistake("%d steps make %d pages, more than %d: choose some by --steps or --faults" % (len(self.steps), self.count, MOST_PAGES))
+            raise Mistake("%s make %s, more than %d: choose some by --steps or --faults" % (
+                counted(len(self.steps), "step"), counted(self.count, "page"), MOST_PAGES))
 
     def pages(self, path):
         """The text of each page, in turn; `path` is that of the first."""
@@ -114,8 +115,12 @@ class Book:
 def steps_said(part, choice):
     if not part:
         return "no %s" % ("fault" if choice.faults else "step")
-    kind = "fault" if choice.faults else "step"
-    return "%s %d" % (kind, part[0][0]) if len(part) == 1 else "%ss %d to %d" % (kind, part[0][0], part[-1][0])
+    kind, first, last = "fault" if choice.faults else "step", part[0][0], part[-1][0]
+    if len(part) == 1:
+        return "%s %d" % (kind, first)
+    if len(part) == last - first + 1:
+        return "%ss %d to %d" % (kind, first, last)
+    return "%ss %d and %d" % (kind, first, last) if len(part) == 2 else "%s, the first %d, the last %d" % (counted(len(part), kind), first, last)
 
 
 def fault_links(part):

@@ -5,7 +5,7 @@ import os
 import sys
 
 from . import drawing, file, url
-from .model import Mistake
+from .model import Mistake, counted
 
 MOST_BYTES = 1 << 24  # far more than a drawing or a case file has; a device may never end
 MOST_LINES = 1 << 28  # and this of the lines that the program prints
@@ -35,7 +35,7 @@ def read_bytes(path, most=MOST_BYTES):
     except (OSError, ValueError) as e:
         raise Mistake(told(e)) from None
     if len(data) > most:
-        raise Mistake("there are more than %d bytes in it" % most)
+        raise Mistake("there are more than %s in it" % counted(most, "byte"))
     return data
 
 

@@ -146,7 +146,7 @@ def lone_unit(board):
         for number in trial.near:
             listed.update((border, 1) for border, _, other in board.walls_of(board.cells[number]) if board.potential[other] != number)
         why = "there is no room for one that it can touch" if not bars else "a border is in the way " + (
-            "in the one place" if len(bars) == 1 else "in each of the %d places" % len(bars)) + " for one"
+            "in the one place" if len(bars) == 1 else "in each of the %s" % counted(len(bars), "place")) + " for one"
         words = "unit of %s at %s has no partner left: %s" % (counted(len(cells), "cell"), place(board.case, cells[0]), why)
         return Reason(words, cells, listed)
     return None
@@ -164,7 +164,7 @@ def wrong_room(board):
         most, fewest = len({board.unit[c] for c in cells}), len({board.potential[c] for c in cells})
         if most >= clue >= fewest:
             continue
-        value, bound = (0, "at most %d" % most) if most < clue else (1, "at least %d" % fewest)
+        value, bound = (0, "at most {:,}".format(most)) if most < clue else (1, "at least {:,}".format(fewest))
         words = "room %d wants %s and has %s" % (number, counted(clue, "unit"), bound)
         inside = [b for b, (a, c) in enumerate(board.sides) if room[a] == room[c] == number]
         given = set(board.case.walls)

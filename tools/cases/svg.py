@@ -8,6 +8,7 @@ from .text import heading, refusal_said, titled
 from .turns import FAULT, Choice, turns
 
 CELL, LINK = 36, 9       # the side of a cell; how far the sign for Connected reaches into the two cells
+NUMBERED_LINK = 14       # and how far where the border's number stands on its middle
 LEFT, TOP, GAP = 30, 22, 12  # room for the numbers of rows and of columns, and around all
 LETTER, LINE = 7.5, 17   # about how wide a letter is, and how high a line
 NARROWEST = 250          # a board with its title takes at least so much
@@ -60,9 +61,12 @@ class Drawer:
         return "M%d %d%s%d" % (x, y, "v" if upright else "h", CELL)
 
     def link(self, border):
-        """A short line across a border."""
+        """A short line across a border. One between two rows has the border's number on it, and shows above and below that."""
         x, y = self.middle(border)
-        return "M%d %dh%d" % (x - LINK, y, 2 * LINK) if self.spots[border][2] else "M%d %dv%d" % (x, y - LINK, 2 * LINK)
+        if self.spots[border][2]:
+            return "M%d %dh%d" % (x - LINK, y, 2 * LINK)
+        reach = NUMBERED_LINK if self.numbers else LINK
+        return "M%d %dv%d" % (x, y - reach, 2 * reach)
 
     def square(self, cell):
         y, x = divmod(cell, self.case.width)
@@ -144,7 +148,7 @@ def legend(signs, top, wide):
 
 def check_size(case, boards):
     if boards * case.height * case.width > MOST_CELLS:
-        raise Mistake("%d boards are too many for one picture: choose fewer, by --steps, --faults or --cap" % boards)
+        raise Mistake("%s are too many for one picture: choose fewer, by --steps, --faults or --cap" % counted(boards, "board"))
 
 
 def picture(case, panels, signs, numbers=False, widest=1000):

@@ -1,5 +1,5 @@
 """Boards as text, in the form that drawing.py reads."""
-from .model import ASK, NAMES, NO_CLUE, REFUSALS, below, clue_texts, drawable, refusal, right_of
+from .model import ASK, NAMES, NO_CLUE, REFUSALS, below, clue_texts, counted, drawable, refusal, right_of
 from .turns import FAULT, Choice, turns
 
 
@@ -37,7 +37,7 @@ def spoken(call):
 
 def heading(case):
     clues = " ".join("-" if c == NO_CLUE else str(c) for c in case.clues) or "none"
-    return "%d by %d, %d given walls, clues: %s" % (case.height, case.width, len(case.walls), clues)
+    return "%d by %d, %s, clues: %s" % (case.height, case.width, counted(len(case.walls), "given wall"), clues)
 
 
 def report(case, lines, choice=Choice(), explain=None):

@@ -94,4 +94,4 @@ class Choice:
             raise Mistake("--faults needs the answers: --program or --answers")
         for first, _ in self.spans or ():
             if first > len(case.calls):
-                raise Mistake("there is no step %d: the case has %d" % (first, len(case.calls)))
+                raise Mistake("there is no step {}: the case has {:,}".format(first, len(case.calls)))

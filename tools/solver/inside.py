@@ -3,7 +3,8 @@
 A job has `height`, `width`, `given`, `clues`; `start`, pairs of a border and whether it is a Wall, which all answers extend; `limit`, how
 many answers are enough (0: all); and perhaps `seconds`, `asks` and `trace`. Told is {"answer": ..} for each answer, a string with a digit a
 border (1 Connected, 2 Wall), {"asks": .., "faults": ..} now and then, and last {"stopped": .., "asks": .., "faults": ..}, where stopped is
-null if every answer was told, else "limit", "seconds", "asks" or "signal".
+null if every answer was told, else "limit", "seconds", "asks" or "signal"; or {"unwritten": ..}, the error's number and words, where the
+trace can't be written.
 """
 import json
 import signal
@@ -51,6 +52,8 @@ class Search:
         if Search.signalled or now >= self.end or propagator.asks >= self.job.get("asks", float("inf")):
             self.stopped = "signal" if Search.signalled else "seconds" if now >= self.end else "asks"
             self.control.interrupt()
+        if propagator.trace.failure:
+            self.control.interrupt()
         if now >= self.next:
             self.next = now + EVERY
             tell(asks=propagator.asks, faults=propagator.faults)
@@ -69,7 +72,10 @@ class Search:
             ended = self.control.solve(on_model=self.answer).exhausted
         finally:
             trace.close()
-        tell(stopped=None if ended else self.stopped or "limit", asks=propagator.asks, faults=propagator.faults)
+        if trace.failure:
+            tell(unwritten=[trace.failure.errno, trace.failure.strerror])
+        else:
+            tell(stopped=None if ended else self.stopped or "limit", asks=propagator.asks, faults=propagator.faults)
 
 
 def stop(_signal, _frame):

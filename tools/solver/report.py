@@ -10,13 +10,13 @@ def verdict(found):
     """How many answers there are, as far as it is known."""
     count = len(found.answers)
     if found.stopped is None:
-        return ("no answer", "1 answer: it is the only one")[count] if count < 2 else "%d answers: these are all" % count
+        return counted(count, "answer") + (": these are all" if count > 1 else ": it is the only one") if count else "no answer"
     known = "at least " + counted(count, "answer") if count else "no answer found yet"
     return "%s; %s" % (known, WHY[found.stopped])
 
 
 def effort(found):
-    return "{:,} asks, {:,} faults, {:.1f} seconds".format(found.asks, found.faults, found.seconds)
+    return "%s, %s, %.1f seconds" % (counted(found.asks, "ask"), counted(found.faults, "fault"), found.seconds)
 
 
 def differing(found):

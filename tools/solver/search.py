@@ -32,8 +32,10 @@ class Found:
     def __init__(self):
         self.answers, self.asks, self.faults, self.seconds, self.stopped = [], 0, 0, 0.0, None
 
-    def take(self, told):
-        """Takes a line in; whether it is the last one."""
+    def take(self, told, trace):
+        """Takes a line in; whether it is the last one. An error of the trace's file is raised."""
+        if "unwritten" in told:
+            raise OSError(*told["unwritten"], trace)
         if "answer" in told:
             self.answers.append(bytes(map(int, told["answer"])))
             return False
@@ -79,7 +81,7 @@ class Solver:
         self.put(json.dumps({**job, **bounds.job()}))
         while not ended:
             try:
-                ended = found.take(self.line())
+                ended = found.take(self.line(), bounds.trace)
                 found.seconds = time.monotonic() - began
                 progress(found)
             except KeyboardInterrupt:

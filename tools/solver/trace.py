@@ -23,40 +23,50 @@ def words(numbers):
 
 
 class Trace:
-    """A file that calls are written to."""
+    """A file that calls are written to. `failure` has the error where it can't be: one that is raised in a propagator clingo would not tell."""
 
     def __init__(self, path, puzzle):
-        self.file = open(path, "wb")
-        self.standing = 0
-        self.file.write(MAGIC + bytes([puzzle.height, puzzle.width]))
+        self.file, self.failure, self.standing = open(path, "wb"), None, 0
+        self.write(MAGIC + bytes([puzzle.height, puzzle.width]))
         for numbers in (puzzle.given, puzzle.clues):
-            self.file.write(words([len(numbers)] + numbers))
+            self.write(words([len(numbers)] + numbers))
+
+    def write(self, data):
+        self.attempt(lambda: self.file.write(data))
+
+    def attempt(self, act):
+        try:
+            act()
+        except OSError as e:
+            self.failure = self.failure or e
 
     def stroke(self, decided):
         entries = [2 * border + wall for border, wall in decided]
-        self.file.write(bytes([STROKE]) + words([len(entries)] + entries))
+        self.write(bytes([STROKE]) + words([len(entries)] + entries))
         self.standing += 1
 
     def undo(self):
-        self.file.write(bytes([UNDO]))
+        self.write(bytes([UNDO]))
         self.standing -= 1
 
     def ask(self, fault):
         if fault is None:
-            self.file.write(bytes([CLEAR]))
+            self.write(bytes([CLEAR]))
         elif fault.check == "shape":
-            self.file.write(bytes([SHAPE]) + words([len(fault.list)]))
+            self.write(bytes([SHAPE]) + words([len(fault.list)]))
         else:
-            self.file.write(bytes([ROOM]) + words([fault.check, len(fault.list)]))
+            self.write(bytes([ROOM]) + words([fault.check, len(fault.list)]))
 
     def close(self):
         """Takes back what stands."""
-        self.file.write(bytes([UNDO]) * self.standing)
-        self.file.close()
+        self.write(bytes([UNDO]) * self.standing)
+        self.attempt(self.file.close)
 
 
 class NoTrace:
     """Where no trace is wanted."""
+
+    failure = None
 
     def stroke(self, decided):
         pass

@@ -118,7 +118,7 @@ class Called(WithCalls):
             ""])
 
     def test_refusals(self):
-        self.assertRegex(self.answers(PAPER[:-1]), "^case.py: .*sendai.bin: unsound: length 18, but 17 bytes follow\n$")
+        self.assertRegex(self.answers(PAPER[:-1]), "^case.py: .*sendai.bin: unsound: length 18, but 17 bytes behind it\n$")
         for number, made in ((1, Case(0, 3)), (3, Case(1, 3, [2], [NO_CLUE] * 2)), (7, Case(1, 3, [1, 0])),
                              (8, Case(1, 3)), (9, Case(1, 3, [], [4])), (12, Case(4, 5, [], [NO_CLUE]))):
             self.assertRegex(self.answers(made), "^case.py: refused %d: [a-z]" % number)

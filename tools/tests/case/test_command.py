@@ -73,6 +73,15 @@ class Taken(InFolder):
         self.assertEqual(run("make", "--as-is", large, self.path)[::2], (2, "case.py: %s: 65536 does not fit 16 bits\n" % large))
         self.assertEqual(run("url", self.path), (2, "", "case.py: %s: the puzzle is refused 9: a clue is above its room's cells\n" % self.path))
 
+    def test_an_option_between_arguments(self):
+        drawing = self.file("drawing.txt", PAPER_DRAWING)
+        for words in ((drawing, "--as-is", self.path), (drawing, self.path, "--as-is"), ("--as-is", "--", drawing, self.path)):
+            self.assertEqual(run("make", *words), (0, "", ""), words)
+            self.assertEqual(read_bytes(self.path), PAPER)
+            os.remove(self.path)
+        none = self.file("none")
+        self.assertEqual(run("load", "5", "6", "6", "3", "--library", none, self.path), (2, "", "case.py: no library is at %s\n" % none))
+
     def test_help(self):
         for words in ((), ("make",), ("show",), ("answers",), ("load",), ("url",)):
             status, out, said = run(*words, "--help")
@@ -88,7 +97,7 @@ WRONG = [
     ("", "the following arguments are required: COMMAND (`case.py --help` says more)"),
     ("make", "make: the following arguments are required: DRAWING|URL (`case.py make --help` says more)"),
     ("shew", None),
-    ("show --sgv x", "unrecognized arguments: --sgv .*"),
+    ("show --sgv x", "show: unrecognized arguments: --sgv .*"),
     ("answers --cap x", "answers: argument --cap: 'x' is no natural number .*"),
     ("answers --cap -1", "answers: argument --cap: .*"),
     ("make FOLDER/none", "FOLDER/none: No such file or directory"),
@@ -97,7 +106,7 @@ WRONG = [
     ("show FOLDER/latin", "FOLDER/latin: byte 3 is no text in UTF-8"),
     ("show FOLDER/odd", "FOLDER/odd: byte 4 is no text in UTF-16"),
     ("show FOLDER/empty", "FOLDER/empty: there is nothing in it"),
-    ("show FOLDER/cut", "FOLDER/cut: unsound: length 18, but 17 bytes follow"),
+    ("show FOLDER/cut", "FOLDER/cut: unsound: length 18, but 17 bytes behind it"),
     ("show FOLDER/version", "FOLDER/version: unsound: version 2"),
     ("show -", "standard input: there is nothing in it"),
     ("show - --answers -", "standard input can't be both the case and its answers"),
@@ -110,7 +119,7 @@ WRONG = [
     ("show DRAWING --answers FOLDER/latin", "FOLDER/latin: byte 3 is no text in UTF-8"),
     ("show DRAWING --answers FOLDER/lines", "FOLDER/lines: line 3: 'shape: 1 two' is no line that the program prints"),
     ("show DRAWING --answers FOLDER/few", "FOLDER/few: 1 line for 4 calls"),
-    ("show /dev/zero", "/dev/zero: there are more than 16777216 bytes in it"),
+    ("show /dev/zero", "/dev/zero: there are more than 16,777,216 bytes in it"),
     ("make FOLDER/refused", "FOLDER/refused: the puzzle is refused 8: there are not as many clues as rooms"),
     ("show DRAWING --answers FOLDER/lines --program x", "show: argument --program: not allowed with argument --answers .*"),
     ("show DRAWING --program FOLDER/none", "FOLDER/none: No such file or directory"),
@@ -159,12 +168,21 @@ class Refused(InFolder):
                 self.assertRegex(line, r"^case\.py: %s\n\Z" % said, words)
         self.assertFalse(os.path.exists(self.file("load")))
 
+    def test_a_program_by_its_name(self):
+        os.mkdir(self.file("bin"))
+        os.chmod(self.file("bin/sendai-of-path", "#!/bin/sh\nprintf 'decided\\ndecided\\nclear\\nundone\\n'\n"), 0o755)
+        self.assertEqual(run("show", self.drawing, "--program", "sendai-of-path")[0], 2)
+        with unittest.mock.patch.dict(os.environ, PATH=self.file("bin") + os.pathsep + os.environ["PATH"]):
+            status, out, said = run("show", self.drawing, "--program", "sendai-of-path")
+        self.assertEqual((status, said), (0, ""))
+        self.assertIn("ask  ->  clear", out)
+
     def test_a_program_that_never_ends(self):
         program = self.file("endless", "#!/bin/sh\nexec yes decided\n")
         os.chmod(program, 0o755)
         with unittest.mock.patch("cases.program.MOST_LINES", 10 ** 6):
             ended = run("show", self.drawing, "--program", program)
-        self.assertEqual(ended, (2, "", "case.py: %s: the program prints more than 1000000 bytes\n" % program))
+        self.assertEqual(ended, (2, "", "case.py: %s: the program prints more than 1,000,000 bytes\n" % program))
 
     def test_a_refused_puzzle_by_status(self):
         program = self.file("refuses", "#!/bin/sh\necho refused 9\necho why >&2\nexit 1\n")
@@ -188,12 +206,16 @@ class Ended(InFolder):
 
     @unittest.skipUnless(os.path.exists("/dev/full"), "no /dev/full")
     def test_a_full_device(self):
-        with open("/dev/full", "wb") as full, self.started("show", self.file("one", PAPER), stdout=full) as process:
-            self.assertEqual((process.stderr.read(), process.wait(20)), (b"case.py: standard output: No space left on device\n", 2))
+        for words in (("show", self.file("one", PAPER)), ("--help",), ("show", "--help")):
+            with open("/dev/full", "wb") as full, self.started(*words, stdout=full) as process:
+                self.assertEqual((process.stderr.read(), process.wait(20)), (b"case.py: standard output: No space left on device\n", 2), words)
 
     def test_closed_streams(self):
-        one, command = self.file("one", PAPER), [sys.executable, os.path.abspath(case.__file__), "show"]
-        for words, closed, status, said in (([one], ">&-", 0, b""), (["-"], "<&-", 2, b"case.py: standard input: there is nothing in it\n")):
+        one, command = self.file("one", PAPER), [sys.executable, os.path.abspath(case.__file__)]
+        output = b"case.py: standard output: Bad file descriptor\n"
+        for words, closed, status, said in ((["show", one], ">&-", 2, output), (["make", PAPER_URL, "-"], ">&-", 2, output),
+                                            (["--help"], ">&-", 2, output), (["make", PAPER_URL, self.path], ">&-", 0, b""),
+                                            (["show", "-"], "<&-", 2, b"case.py: standard input: there is nothing in it\n")):
             done = subprocess.run(["sh", "-c", '"$@" ' + closed, "sh"] + command + words, stdout=subprocess.PIPE, stderr=subprocess.PIPE)
             self.assertEqual((done.returncode, done.stderr), (status, said))
 

@@ -73,7 +73,8 @@ class Pages(unittest.TestCase):
 
     def test_choices(self):
         for choice, said, wanted in ((Choice(faults=True), "fault 3", ["step-3"]), (Choice([(2, 3)]), "steps 2 to 3", ["step-2", "step-3"]),
-                                     (Choice([(1, 1), (4, 9)]), "steps 1 to 4", ["step-1", "step-4"]),
+                                     (Choice([(1, 1), (4, 9)]), "steps 1 and 4", ["step-1", "step-4"]),
+                                     (Choice([(1, 2), (4, 4)]), "3 steps, the first 1, the last 4", ["step-1", "step-2", "step-4"]),
                                      (Choice([(1, 2)], faults=True), "no fault", [])):
             found = self.only(PAPER_CASE, PAPER_LINES, choice)
             self.assertIn(said, found.words)
@@ -123,7 +124,7 @@ class Pages(unittest.TestCase):
         links = [[link for link in self.read(content).links if link[0] != "#"] for content in contents]
         self.assertEqual(links[0], ["c%23d-2.html", "c%23d-4.html"] * 2)
         self.assertEqual(links[1], ["c%23d.html", "c%23d.html", "c%23d-3.html", "c%23d-4.html"] * 2)
-        with self.assertRaisesRegex(Mistake, "^9000 steps make 474 pages, more than 400: choose some by --steps or --faults$"):
+        with self.assertRaisesRegex(Mistake, "^9,000 steps make 474 pages, more than 400: choose some by --steps or --faults$"):
             Book(Case(32, 32, [], [NO_CLUE], [(ASK, None)] * 9000), None, Choice())
 
     def test_names(self):

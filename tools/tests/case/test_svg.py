@@ -1,4 +1,5 @@
 import random
+import re
 import unittest
 import xml.etree.ElementTree as ElementTree
 
@@ -77,6 +78,14 @@ class Pictures(unittest.TestCase):
         numbers = [e.text for e in over if e.get("class") == "number"]
         self.assertEqual(numbers, [str(n) for n in range(border_count(made))])
 
+    def test_a_number_leaves_its_sign_to_be_seen(self):
+        tree = tree_of(svg.asks(Case(2, 1, [], [NO_CLUE], [(CONNECT, 0), (ASK, None)]), None, numbers=True))
+        (sign,) = [e.get("d") for e in boards(tree)[0] if e.get("class") == "connected"]
+        top, high = map(int, re.fullmatch(r"M18 (\d+)v(\d+)", sign).groups())
+        (foot,) = [int(e.get("y")) for e in tree.iter(SVG + "text") if e.get("class") == "number"]
+        # a digit is 7 high, and has a rim of 2: above and below that the sign shows
+        self.assertGreaterEqual(min(foot - 9 - top, top + high - (foot + 2)), 8)
+
     def test_a_long_list_is_broken(self):
         made = Case(32, 32, [], [1000], [(CONNECT, b) for b in range(25)] + [(ASK, None)])
         line = "room 0: " + " ".join(str(2 * b) for b in range(25))
@@ -89,7 +98,7 @@ class Pictures(unittest.TestCase):
 
     def test_too_many_boards(self):
         made = Case(32, 32, [], [NO_CLUE], [(ASK, None)] * 3000)
-        with self.assertRaisesRegex(Mistake, "^3000 boards are too many for one picture: choose fewer, by --steps, --faults or --cap$"):
+        with self.assertRaisesRegex(Mistake, "^3,000 boards are too many for one picture: choose fewer, by --steps, --faults or --cap$"):
             svg.asks(made, None)
         self.assertEqual(len(boards(tree_of(svg.asks(made, None, Choice([(5, 6), (2999, 4000)]))))), 4)
         self.assertEqual(len(boards(tree_of(svg.asks(made, None, Choice(faults=True))))), 1)

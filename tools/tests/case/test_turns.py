@@ -3,7 +3,7 @@ import unittest
 
 from cases import text
 from cases.model import ASK, CONNECT, NO_CLUE, UNDO, WALL, Case, Mistake, refusal
-from cases.turns import Turn, check_lines, turns
+from cases.turns import Choice, Turn, check_lines, turns
 
 from .support import PAPER_CASE, PAPER_LINES, random_case
 
@@ -27,6 +27,12 @@ class Answers(unittest.TestCase):
             "+---+---+---+",
             "4  undo  ->  undone",
         ])
+
+    def test_counts(self):
+        self.assertEqual(text.heading(Case(1, 2, [0], [1, NO_CLUE])), "1 by 2, 1 given wall, clues: 1 -")
+        self.assertIn(" 1,984 given walls,", text.heading(Case(32, 32, range(1984))))
+        with self.assertRaisesRegex(Mistake, "^there is no step 2000: the case has 1,000$"):
+            Choice([(2000, 2000)]).check(Case(1, 2, [], [NO_CLUE], [(ASK, None)] * 1000), None)
 
     def test_refused_calls_change_nothing(self):
         made = Case(1, 3, [0], [NO_CLUE, NO_CLUE], [(WALL, 0), (WALL, 1), (UNDO, None), (UNDO, None), (ASK, None)])

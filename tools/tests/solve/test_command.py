@@ -14,7 +14,8 @@ import solve
 from cases.file import encode
 from cases.model import CONNECT, NO_CLUE, UNDO, WALL, Case
 from checker import sendai
-from solver.search import NoSolver, Solver
+from solver.report import effort, verdict
+from solver.search import Found, NoSolver, Solver
 from solver.trace import MAGIC
 
 from ..case.support import Terminal
@@ -73,6 +74,11 @@ class Command(unittest.TestCase):
             "X and O: Walls and Connected borders in which these answers differ"]))
         self.assertRegex(out[2], r"^\d+ asks, \d+ faults, \d+\.\d seconds$")
 
+    def test_counts(self):
+        found = Found()
+        found.asks, found.faults, found.answers = 1, 1, [b""] * 1808
+        self.assertEqual((effort(found), verdict(found)), ("1 ask, 1 fault, 0.0 seconds", "1,808 answers: these are all"))
+
     def test_a_limit_is_told(self):
         for options, count in (((), 2), (("--limit", "2"), 2), (("--limit", "3"), 3)):
             status, out, _ = self.told(Case(2, 4, [], [NO_CLUE]), *options)
@@ -115,7 +121,7 @@ class Command(unittest.TestCase):
             status, out, err = self.told(case, *options)
             self.assertEqual((status, out, len(err)), (2, [], 1))
             self.assertRegex(err[0], "^solve.py: .*" + said)
-        for options in (["--limit", "x"], ["--seconds", "-1"], ["--seconds", "nan"], ["--asks", "1.5"], ["--no-such"]):
+        for options in (["--limit", "x"], ["--seconds", "-1"], ["--seconds", "nan"], ["--asks", "1.5"], ["--asks", "0"], ["--no-such"]):
             self.assertEqual(self.told(row, *options)[:2], (2, []))
 
     def test_missing_parts(self):
@@ -147,9 +153,16 @@ class Command(unittest.TestCase):
         with open(self.path, "wb") as f:
             f.write(encode(Case(1, 4, [], [NO_CLUE])))
         command = [sys.executable, os.path.abspath(solve.__file__), self.path]
-        for output, status, said in ((">&-", 0, b""), ("> /dev/full", 2, b"solve.py: standard output: No space left on device\n")):
-            done = subprocess.run(["sh", "-c", '"$@" ' + output, "sh"] + command, stderr=subprocess.PIPE)
-            self.assertEqual((done.returncode, done.stderr), (status, said))
+        for output, said in ((">&-", b"Bad file descriptor"), ("> /dev/full", b"No space left on device")):
+            for words in ([], ["--help"]):
+                done = subprocess.run(["sh", "-c", '"$@" ' + output, "sh"] + command + words, stderr=subprocess.PIPE)
+                self.assertEqual((done.returncode, done.stderr), (2, b"solve.py: standard output: %s\n" % said))
+
+    @unittest.skipUnless(os.path.exists("/dev/full"), "no /dev/full")
+    def test_a_trace_that_takes_nothing(self):
+        for case in (Case(1, 4, [], [NO_CLUE]), Case(6, 6, [], [NO_CLUE])):  # one whose trace is written at its end, and a long one
+            status, out, err = self.told(case, "--trace", "/dev/full", "--all", "--asks", "20000")
+            self.assertEqual((status, out, err), (2, [], ["solve.py: /dev/full: No space left on device"]))
 
     def test_interrupted(self):
         with open(self.path, "wb") as f:
