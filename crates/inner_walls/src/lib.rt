@@ -2,13 +2,12 @@
 #![tactic(auto)]
 
 ghost use Rattle.std.specs.Prelude.{◌≡◌, true, ◌+◌, ◌*◌, ◌<◌, ◌≤◌, length};
-ghost use Rattle.std.proofs.Math.Option.{none};
 ghost use Rattle.lists.specs.Lists.{first};
 ghost use Rattle.grid.specs.Orders.{forward};
 ghost use Rattle.grid.specs.Grid.{cells};
 ghost use Rattle.shape.specs.Shape.{inner_at, inner_wall};
 ghost use Rattle.answers.specs.Answers.{Finds};
-ghost use Rattle.inner_walls.specs.Asked.{Asked, NoneInside};
+ghost use Rattle.inner_walls.specs.Asked.{Asked, NoneInside, RowHasNone};
 
 use borders::Borders;
 use grid::{Direction, Grid, Neighbour};
@@ -38,17 +37,18 @@ impl Units<'_> {
         none
     }
 
-    // Whether no Wall lies inside a unit: all borders between rows at once, and then those of each row.
-    fn has_none(self) -> bool
-        ensures { result ≡ true → inner_wall self.entry.borders.grid self.entry.borders.states.now self.entry.ids.now ≡ none }
+    // Whether no Wall right of a row's cells or under them lies inside a unit.
+    fn row_has_none(self, row: usize) -> bool
+        requires { row < self.borders.grid.height }
+        ensures { result ≡ true → RowHasNone self.entry.borders.grid self.entry.borders.states.now self.entry.ids.now row }
     {
         let Grid { height, width } = self.borders.grid;
-        let below = height * (width - 1);
-        let mut none = self.none_inside(below, 0, width, (height - 1) * width);
-        for row in 0..height {
-            none &= self.none_inside(row * (width - 1), row * width, 1, width - 1);
+        let cell = row * width;
+        let right = self.none_inside(row * (width - 1), cell, 1, width - 1);
+        if row + 1 == height {
+            return right;
         }
-        none
+        right & self.none_inside(height * (width - 1) + cell, cell, width, width)
     }
 
     // The Wall that the cell of a row and column has in a direction, if it lies inside a unit: the path between its cells, and then that
@@ -93,16 +93,16 @@ impl Units<'_> {
     }
 }
 
-// All cells, row by row, whose rows and columns are counted: none is found by a division. On most boards no Wall lies inside a unit.
+// All cells, row by row, whose rows and columns are counted: none is found by a division. In most rows no Wall lies inside a unit.
 pub fn inner_wall(b: Borders<'_>, ids: &[u16], buffer: &mut [u16]) -> Option<usize>
     requires { Asked b.grid ids.now buffer.old }
     ensures { Finds (inner_wall b.entry.grid b.entry.states.now ids.now) buffer.old buffer.new result }
 {
     let units = Units { borders: b, ids };
-    if units.has_none() {
-        return None;
-    }
     for row in 0..b.grid.height {
+        if units.row_has_none(row) {
+            continue;
+        }
         for col in 0..b.grid.width {
             if let Some(n) = units.inner_cell(row, col, buffer) {
                 return Some(n);
