@@ -1,0 +1,5 @@
+pub mod Turns
+pub mod Pictures
+pub mod Beside
+pub mod Symmetries
+pub mod Isometries
