@@ -26,8 +26,8 @@
 extern "C" {
 #endif
 
-/* The version that this header is of, as one number: 10000 for 1.0.0. */
-#define SENDAI_VERSION_MAJOR 1
+/* The version that this header is of, as one number: 20000 for 2.0.0. */
+#define SENDAI_VERSION_MAJOR 2
 #define SENDAI_VERSION_MINOR 0
 #define SENDAI_VERSION_PATCH 0
 #define SENDAI_VERSION (SENDAI_VERSION_MAJOR * 10000 + SENDAI_VERSION_MINOR * 100 + SENDAI_VERSION_PATCH)
@@ -55,14 +55,15 @@ enum {
     SENDAI_TWICE = 14           /* stroke: does no border stand twice in it, whatever the values? */
 };
 
-/* The limits, the most undecided borders for all answers, a length that any list of a board or puzzle fits (9*h*w at 32 by 32), and the
- * bytes of the longest case file. */
+/* The limits, the most undecided borders for all answers, a length that any list of a board or of a puzzle of translates fits (9*h*w at
+ * 32 by 32), one that any list of a puzzle of images fits (16*h*w), and the bytes of the longest case file. */
 enum {
     SENDAI_MAX_SIDE = 32,
     SENDAI_MAX_CELLS = 1024,
     SENDAI_MAX_BORDERS = 1984,
     SENDAI_MAX_UNDECIDED = 24,
     SENDAI_MAX_LIST = 9216,
+    SENDAI_MAX_LIST_IMAGES = 16384,
     SENDAI_MAX_FILE = 60003
 };
 
@@ -71,6 +72,12 @@ enum { SENDAI_UNDECIDED = 0, SENDAI_CONNECTED = 1, SENDAI_WALL = 2 };
 
 /* No clue for a room. */
 enum { SENDAI_NO_CLUE = 65535 };
+
+/* Kinds of SendaiPuzzle: a unit's partner is its translate, or any of its eight images, turned and mirrored ones among them. */
+enum { SENDAI_TRANSLATES = 0, SENDAI_IMAGES = 1 };
+
+/* How many entries an ask of a puzzle of this kind and size wants: 16*h*w of images, 9*h*w of translates. */
+#define SENDAI_ASK_ENTRIES(kind, height, width) ((size_t)((kind) == SENDAI_IMAGES ? 16 : 9) * (height) * (width))
 
 /* Directions of sendai_neighbour; any other number is read as right. */
 enum { SENDAI_UP = 0, SENDAI_DOWN = 1, SENDAI_LEFT = 2, SENDAI_RIGHT = 3 };
@@ -113,18 +120,21 @@ SENDAI_LAYOUT(SendaiBoard, 5976, len, 5968);
 SENDAI_LAYOUT(SendaiBoard, 5976, states, 16);
 SENDAI_LAYOUT(SendaiBoard, 5976, ledger, 2000);
 
-/* A board, its given walls (Wall from the start, never undone) and a clue for each room. */
+/* A board, its given walls (Wall from the start, never undone), a clue for each room, and the puzzle's kind, SENDAI_TRANSLATES or
+ * SENDAI_IMAGES: a record with another number there does not hold together. The bytes behind it mean nothing. */
 typedef struct SendaiPuzzle {
     SendaiBoard board;
     uint16_t given[1984];
     size_t given_len;
     uint16_t clues[1024];
     size_t clues_len;
+    uint8_t kind;
 } SendaiPuzzle;
-SENDAI_LAYOUT(SendaiPuzzle, 12008, clues_len, 12000);
-SENDAI_LAYOUT(SendaiPuzzle, 12008, given, 5976);
-SENDAI_LAYOUT(SendaiPuzzle, 12008, given_len, 9944);
-SENDAI_LAYOUT(SendaiPuzzle, 12008, clues, 9952);
+SENDAI_LAYOUT(SendaiPuzzle, 12016, kind, 12008);
+SENDAI_LAYOUT(SendaiPuzzle, 12016, given, 5976);
+SENDAI_LAYOUT(SendaiPuzzle, 12016, given_len, 9944);
+SENDAI_LAYOUT(SendaiPuzzle, 12016, clues, 9952);
+SENDAI_LAYOUT(SendaiPuzzle, 12016, clues_len, 12000);
 
 /* An edge between two vertices. */
 typedef struct SendaiEdge {
@@ -186,7 +196,7 @@ typedef struct SendaiPuzzleAnswer {
     uint8_t code;
     SendaiPuzzle puzzle;
 } SendaiPuzzleAnswer;
-SENDAI_LAYOUT(SendaiPuzzleAnswer, 12016, puzzle, 8);
+SENDAI_LAYOUT(SendaiPuzzleAnswer, 12024, puzzle, 8);
 
 typedef struct SendaiRoomAnswer {
     uint8_t code;
@@ -270,9 +280,9 @@ typedef struct SendaiCase {
     size_t at;
     size_t count;
 } SendaiCase;
-SENDAI_LAYOUT(SendaiCase, 12032, count, 12024);
-SENDAI_LAYOUT(SendaiCase, 12032, puzzle, 8);
-SENDAI_LAYOUT(SendaiCase, 12032, at, 12016);
+SENDAI_LAYOUT(SendaiCase, 12040, count, 12032);
+SENDAI_LAYOUT(SendaiCase, 12040, puzzle, 8);
+SENDAI_LAYOUT(SendaiCase, 12040, at, 12024);
 
 /* What calls of a case file left: the puzzle, the byte behind the last call, how many were done, and how many bytes their lines have. */
 typedef struct SendaiRan {
@@ -282,10 +292,10 @@ typedef struct SendaiRan {
     size_t done;
     size_t length;
 } SendaiRan;
-SENDAI_LAYOUT(SendaiRan, 12040, length, 12032);
-SENDAI_LAYOUT(SendaiRan, 12040, puzzle, 8);
-SENDAI_LAYOUT(SendaiRan, 12040, at, 12016);
-SENDAI_LAYOUT(SendaiRan, 12040, done, 12024);
+SENDAI_LAYOUT(SendaiRan, 12048, length, 12040);
+SENDAI_LAYOUT(SendaiRan, 12048, puzzle, 8);
+SENDAI_LAYOUT(SendaiRan, 12048, at, 12024);
+SENDAI_LAYOUT(SendaiRan, 12048, done, 12032);
 
 /* Where a sound file's parts stand: of each list the first byte, behind its count, and how many items it has. */
 typedef struct SendaiFileParts {
@@ -344,7 +354,7 @@ uint8_t sendai_board_decide_in_place(SendaiBoard *board, size_t border, bool wal
 uint8_t sendai_board_stroke_in_place(SendaiBoard *board, const uint16_t *entries, size_t entries_length);
 uint8_t sendai_board_undo_in_place(SendaiBoard *board);
 
-/* The shape check: clear, or a fault whose listed borders can't all hold. Refused: 1, 2, 6 (9*h*w entries). */
+/* The shape check, for translates: clear, or a fault whose listed borders can't all hold. Refused: 1, 2, 6 (9*h*w entries). */
 SendaiAnswer sendai_board_ask(SendaiBoard board, uint16_t *buffer, size_t buffer_length);
 
 /* The same of a lent board, which is only read. Refused: 1, 2, 6 (9*h*w entries). */
@@ -370,10 +380,14 @@ SendaiAnswer sendai_potential_unit_boundary(SendaiBoard board, size_t unit, uint
 
 /* ---- Puzzles ---- */
 
-/* A fresh puzzle: the given walls' numbers, rising, and a clue for each room (SENDAI_NO_CLUE for none). Rooms are the parts into which
- * the given walls cut the board, numbered by first cell. Refused: 1, 3, 7, 8, 9. */
+/* A fresh puzzle of translates: the given walls' numbers, rising, and a clue for each room (SENDAI_NO_CLUE for none). Rooms are the parts
+ * into which the given walls cut the board, numbered by first cell. Refused: 1, 3, 7, 8, 9. */
 SendaiPuzzleAnswer sendai_puzzle_make(size_t height, size_t width, const uint16_t *given, size_t given_length, const uint16_t *clues,
                                       size_t clues_length);
+
+/* The same, of images. Refused: 1, 3, 7, 8, 9. */
+SendaiPuzzleAnswer sendai_puzzle_make_images(size_t height, size_t width, const uint16_t *given, size_t given_length, const uint16_t *clues,
+                                             size_t clues_length);
 
 /* 0 where the record holds together, else 1 or 2. */
 uint8_t sendai_puzzle_check(SendaiPuzzle puzzle);
@@ -390,20 +404,20 @@ SendaiPuzzleAnswer sendai_puzzle_stroke(SendaiPuzzle puzzle, const uint16_t *ent
 SendaiPuzzleAnswer sendai_puzzle_undo(SendaiPuzzle puzzle);
 
 /* As the three calls above, on a lent puzzle, which is changed where it is; returned is the code. Refused likewise: 1, 2, 3, 4; 1, 2, 3, 14, 4
- * (a given wall too); 1, 2, 5, with the puzzle as it was, every byte of it. */
+ * (a given wall too); 1, 2, 5, with the puzzle as it was, every number of it. */
 uint8_t sendai_puzzle_decide_in_place(SendaiPuzzle *puzzle, size_t border, bool wall);
 uint8_t sendai_puzzle_stroke_in_place(SendaiPuzzle *puzzle, const uint16_t *entries, size_t entries_length);
 uint8_t sendai_puzzle_undo_in_place(SendaiPuzzle *puzzle);
 
-/* The shape check, then the counts of the clued rooms: clear, or the first fault, whose listed borders can't all hold.
- * Refused (kind SENDAI_REFUSED): 1, 2, 6 (9*h*w entries). */
+/* The shape check, for the images of the puzzle's kind, then the counts of the clued rooms: clear, or the first fault, whose listed borders
+ * can't all hold. Refused (kind SENDAI_REFUSED): 1, 2, 6 (SENDAI_ASK_ENTRIES of kind, height and width). */
 SendaiOutcome sendai_puzzle_ask(SendaiPuzzle puzzle, uint16_t *buffer, size_t buffer_length);
 
-/* The same of a lent puzzle, which is only read. Refused (kind SENDAI_REFUSED): 1, 2, 6 (9*h*w entries). */
+/* The same of a lent puzzle, which is only read. Refused (kind SENDAI_REFUSED): 1, 2, 6 (SENDAI_ASK_ENTRIES of kind, height and width). */
 SendaiOutcome sendai_puzzle_ask_in_place(const SendaiPuzzle *puzzle, uint16_t *buffer, size_t buffer_length);
 
-/* All answers: the right full boards on which all that is decided stands, at most `cap` of them, each once, and whether more exist
- * beyond these: a cap of 0 tells whether there is one, a cap of 1 whether there is just one. A board has a byte a border
+/* All answers: the full boards, right for the puzzle's kind, on which all that is decided stands, at most `cap` of them, each once, and
+ * whether more exist beyond these: a cap of 0 tells whether there is one, a cap of 1 whether there is just one. A board has a byte a border
  * (SENDAI_CONNECTED or SENDAI_WALL); they stand one behind the other from the buffer's front, rising, border 0 compared first, and the
  * bytes behind them stay. Refused: 1, 2, 12, 6 (cap times borders bytes). */
 SendaiBoards sendai_puzzle_right_boards(SendaiPuzzle puzzle, size_t cap, uint8_t *buffer, size_t buffer_length);
@@ -459,11 +473,12 @@ SendaiAnswer sendai_hand_over(const uint16_t *entries, size_t entries_length, ui
  * in it exists. Refused: 1 (each side 1 to 32), 13, 6 (as many places as the file has bytes, and it may have at most SENDAI_MAX_FILE). */
 SendaiAnswer sendai_case_generate(uint32_t seed, size_t height, size_t width, size_t count, uint8_t *buffer, size_t buffer_length);
 
-/* A case file's puzzle and where its calls stand. Refused: 11, or as sendai_puzzle_make refuses the file's puzzle. */
+/* A case file's puzzle, of translates, and where its calls stand. Refused: 11, or as sendai_puzzle_make refuses the file's puzzle. */
 SendaiCase sendai_case_open(const uint8_t *file, size_t file_length);
 
 /* Does `count` calls that stand in the file from a byte on, up to the first that is unsound, and writes a line for each to the front of
- * `out`. Refused: 6 (SENDAI_MAX_LINE places for each call), with the puzzle and the byte as they came. */
+ * `out`. Each ask has places of its own, enough for the puzzle's kind. Refused: 6 (SENDAI_MAX_LINE places for each call), with the puzzle and the
+ * byte as they came. */
 SendaiRan sendai_case_run(const uint8_t *file, size_t file_length, size_t at, size_t count, SendaiPuzzle puzzle, uint8_t *out,
                           size_t out_length);
 

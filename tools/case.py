@@ -7,6 +7,7 @@ right boards.
     case.py answers [FILE]                           draw the right boards that extend what the calls of a case decide
     case.py load SEED HEIGHT WIDTH COUNT [FILE]      write a case file of COUNT calls, the same each time for a seed
     case.py url [FILE]                               print the URL of a case's puzzle
+    case.py images [PICTURE]                         draw the eight images of a unit
 
 `case.py COMMAND --help` says what each takes. FILE is sendai.bin where none is named; where one is read, it may be a case file, a drawing,
 a URL, or '-' for standard input. What is wrong is said in one line, and the exit status is 2 then; so it is where what a command prints can't
@@ -31,6 +32,11 @@ characters for its lines. `make` refuses what the program would refuse as a whol
 A URL is one as pzpr and the Rust's serialize_problem have it, whatever stands before its `sendai/WIDTH/HEIGHT/..`. A wall that parts no two
 rooms is a given wall like others. Messages count lines, columns, rows and characters from 1, rooms, borders and bytes from 0.
 
+The kind of a puzzle stands in no file, drawing or URL: they are of translates. With --images `show` and `answers` take one for a puzzle of
+images, where a unit's partner may be turned and mirrored. Images 0 to 3 are so many quarter turns clockwise, 4 to 7 the same of what a
+left-right mirror shows; `images` draws them. Where a board is right, its units have names then, and `a: image 5 is b` says that image 5 of
+unit a is meant, which is unit b: the first image that is a unit with a Wall in common, and the first such unit in row order.
+
 In a drawing that `show` makes, X and O stand for the borders that the fault lists: X for a listed Wall, O for a listed Connected.
 In one that `answers` makes, they stand for the borders in which the puzzle's answers differ, shown or not; what all answers share
 is drawn first, with ? for these borders.
@@ -47,6 +53,7 @@ import sys
 from cases import svg, text, url
 from cases.answers import found_answers, report
 from cases.file import encode
+from cases.images import IMAGES
 from cases.model import Mistake, drawable, refusal
 from cases.page import Book, page_path
 from cases.program import run
@@ -54,7 +61,7 @@ from cases.read import MOST_LINES, naming, read_bytes, read_case, text_of, told
 from cases.reasons import why
 from cases.text import refusal_said
 from cases.turns import Choice, check_lines
-from checker import puzzle_of, sendai
+from checker import lines_of, puzzle_of, sendai
 from command import Parser, finished, natural
 
 
@@ -82,7 +89,11 @@ def write(path, content):
 
 
 def answer_lines(args, case):
-    """The lines of the program for a case, each of which answers its call; None where there are none."""
+    """The lines for a case, of the program or, for images, of the library, each of which answers its call; None where there are none."""
+    if args.images:
+        lines = lines_of(case)
+        check_lines(case, lines)
+        return lines
     source = args.program or args.answers
     if source is None:
         return None
@@ -114,12 +125,22 @@ def load(args):
     write(args.file, sendai.generate_case(args.seed, args.height, args.width, args.count))
 
 
+def read_of_kind(args):
+    """The case that a command names, of the kind that it says."""
+    case = read_case(args.file)
+    if args.images:
+        case.images = IMAGES
+    return case
+
+
 def show(args):
     if args.file == "-" == args.answers:
         raise Mistake("standard input can't be both the case and its answers")
-    case = read_case(args.file)
+    case = read_of_kind(args)
+    if args.images:
+        opened(args.library)
     lines = answer_lines(args, case)
-    choice = Choice(args.steps, args.faults)
+    choice = Choice(args.steps, args.faults, args.partners or args.images)
     choice.check(case, lines)
     if args.html:
         write_pages(args.html, Book(pictured(case), lines, choice, args.numbers))
@@ -149,19 +170,22 @@ def write_pages(path, book):
 
 
 def answers(args):
-    case = read_case(args.file)
+    case = read_of_kind(args)
     opened(args.library)
     try:
         found = found_answers(puzzle_of(case), args.cap)
     except sendai.Refused as e:
-        raise Mistake("%s%s" % (e, "; solve.py takes more" if e.name == "MANY_UNDECIDED" else "")) from None
+        raise Mistake("%s%s" % (e, "; solve.py takes more" if e.name == "MANY_UNDECIDED" and not args.images else "")) from None
     except MemoryError:
         raise Mistake("no memory for so many boards: a smaller --cap") from None
-    print(report(found))
+    partners = found.partners() if args.partners or args.images else ()
+    print(report(found, partners))
     if args.svg:
-        drawings = found.drawings()
-        drawings[0] = ("started: " + found.told(),) + drawings[0][1:]
-        write(args.svg, svg.picture(found.case, [svg.Panel(*drawing) for drawing in drawings], svg.OF_ANSWERS))
+        write(args.svg, svg.answers(found, partners))
+
+
+def images(args):
+    write(args.picture, svg.eight_images())
 
 
 # The command line.
@@ -186,6 +210,15 @@ TARGET = "where to write the case file; '-' is standard output (default: sendai.
 LIBRARY = "the archive with the checker's calls, or a shared library of it (default: target/staticlib/libexports.a of this repository)"
 
 
+def kind_option(it, words=""):
+    it.add_argument("--images", action="store_true", help="take it for a puzzle of images: a unit's partner may be turned and mirrored" + words)
+
+
+def partners_option(it):
+    it.add_argument("--partners", action="store_true", help="name the units of a right board, and say which image of which unit is meant as the "
+                    "partner of each: `a: image 5 is b` (with --images, always)")
+
+
 def add_make(commands):
     it = commands.add_parser("make", help="write the case file of a drawing or a puzzle's URL", description="Writes the case file of a drawing or "
                              "a puzzle's URL. What is wrong with it is said by line and column, or by character.")
@@ -204,12 +237,14 @@ def add_url(commands):
 
 def add_show(commands):
     it = commands.add_parser("show", help="draw a case with its answers", description="Draws a case: its board, each call, and the board of each "
-                             "ask. What the program answers is drawn, too, where --program or --answers is given.")
+                             "ask. What the program answers is drawn, too, where --program or --answers is given; with --images it is what the "
+                             "checker's calls answer.")
     it.add_argument("file", metavar="FILE", nargs="?", default="sendai.bin", help=SOURCE)
     lines = it.add_mutually_exclusive_group()
     lines.add_argument("--answers", metavar="LINES", help="a file with the lines that the program printed for it; '-' is standard input")
     lines.add_argument("--program", metavar="PATH", help="or the program itself, which is run on the case; a name without a slash is "
                        "looked for in PATH, too")
+    kind_option(lines, "; the checker's calls answer in place of the program, which knows translates alone")
     it.add_argument("--html", metavar="PAGE", help="write a page of HTML instead, with a step for each call and why a fault is one; "
                     "many steps make several, PAGE-2 and so on")
     it.add_argument("--svg", metavar="PICTURE", help="write an SVG picture instead, with the board of each ask and why a fault is one")
@@ -217,15 +252,19 @@ def add_show(commands):
     it.add_argument("--faults", action="store_true", help="those calls alone whose answer is a fault")
     it.add_argument("--numbers", action="store_true", help="write each border's number into pages and pictures")
     it.add_argument("--why", action="store_true", help="say in the text, too, why a fault is one")
+    partners_option(it)
+    it.add_argument("--library", metavar="PATH", help="for --images: " + LIBRARY)
     it.set_defaults(act=show)
 
 
 def add_answers(commands):
     it = commands.add_parser("answers", help="draw the right boards of a case's puzzle", description="Draws what the calls of a case decide, and "
-                             "all right boards that extend it. At most 24 borders may be undecided: solve.py takes more.")
+                             "all right boards that extend it. At most 24 borders may be undecided: solve.py takes more, of translates.")
     it.add_argument("file", metavar="FILE", nargs="?", default="sendai.bin", help=SOURCE)
     it.add_argument("--cap", metavar="N", type=natural, default=10, help="at most so many of them (default: 10); 0: only whether there is one")
     it.add_argument("--svg", metavar="PICTURE", help="draw them as an SVG picture too")
+    kind_option(it)
+    partners_option(it)
     it.add_argument("--library", metavar="PATH", help=LIBRARY)
     it.set_defaults(act=answers)
 
@@ -242,10 +281,16 @@ def add_load(commands):
     it.set_defaults(act=load)
 
 
+def add_images(commands):
+    it = commands.add_parser("images", help="draw the eight images of a unit", description="Draws the eight images of a unit, with their numbers.")
+    it.add_argument("picture", metavar="PICTURE", nargs="?", default="-", help="where to write the SVG picture; '-' is standard output (default)")
+    it.set_defaults(act=images)
+
+
 def command_line():
     parser = Parser(prog="case.py", description=__doc__, formatter_class=argparse.RawDescriptionHelpFormatter)
     commands = parser.add_subparsers(dest="command", metavar="COMMAND", help="what to do:", required=True)
-    for add in (add_make, add_show, add_answers, add_load, add_url):
+    for add in (add_make, add_show, add_answers, add_load, add_url, add_images):
         add(commands)
     return parser, commands.choices
 

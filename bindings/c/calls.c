@@ -14,7 +14,7 @@ static int failed = 0;
         } \
     } while (0)
 
-static uint16_t list[SENDAI_MAX_LIST];
+static uint16_t list[SENDAI_MAX_LIST_IMAGES];
 
 /* Whether the list's front is these entries. */
 static bool is(size_t length, const uint16_t *entries, size_t count) {
@@ -73,16 +73,21 @@ static void lists(void) {
     CHECK(sendai_group(units.info, list, 3, 1, out + 2, 1) == 0 && out[2] == 9);
 }
 
+/* A puzzle has bytes behind its kind that mean nothing. */
+static bool same_puzzle(SendaiPuzzle a, SendaiPuzzle b) {
+    return memcmp(&a, &b, offsetof(SendaiPuzzle, kind)) == 0 && a.kind == b.kind;
+}
+
 static void puzzles(void) {
     const uint16_t given[] = {1}, clues[] = {1, SENDAI_NO_CLUE}, fault[] = {1};
     SendaiPuzzleAnswer made = sendai_puzzle_make(1, 4, given, 1, clues, 2);
-    CHECK(made.code == SENDAI_ACCEPTED && made.puzzle.given_len == 1 && made.puzzle.clues[0] == 1);
+    CHECK(made.code == SENDAI_ACCEPTED && made.puzzle.given_len == 1 && made.puzzle.clues[0] == 1 && made.puzzle.kind == SENDAI_TRANSLATES);
     CHECK(sendai_puzzle_make(1, 4, given, 1, clues, 1).code == SENDAI_CLUE_COUNT);
     SendaiPuzzle puzzle = sendai_puzzle_decide(made.puzzle, 0, true).puzzle;
     SendaiOutcome outcome = sendai_puzzle_ask(puzzle, list, 36);
     CHECK(outcome.kind == SENDAI_ROOM_FAULT && outcome.room == 0 && is(outcome.length, fault, 1));
     SendaiPuzzleAnswer undone = sendai_puzzle_undo(puzzle);
-    CHECK(undone.code == SENDAI_ACCEPTED && memcmp(&made.puzzle, &undone.puzzle, sizeof puzzle) == 0);
+    CHECK(undone.code == SENDAI_ACCEPTED && same_puzzle(made.puzzle, undone.puzzle));
     outcome = sendai_puzzle_ask(puzzle, list, 35);
     CHECK(outcome.kind == SENDAI_REFUSED && outcome.code == SENDAI_SHORT_BUFFER);
     puzzle.given[0] = 3;
@@ -132,6 +137,12 @@ static SendaiPuzzle plain(size_t height, size_t width) {
     return sendai_puzzle_make(height, width, nothing, 0, clues, 1).puzzle;
 }
 
+/* The same, of images. */
+static SendaiPuzzle plain_images(size_t height, size_t width) {
+    const uint16_t nothing[] = {0}, clues[] = {SENDAI_NO_CLUE};
+    return sendai_puzzle_make_images(height, width, nothing, 0, clues, 1).puzzle;
+}
+
 static void all_answers(void) {
     const uint16_t given[] = {1}, clues[] = {1, SENDAI_NO_CLUE};
     const size_t huge = (size_t)1 << 63;
@@ -177,10 +188,6 @@ static Stroke drawn(const char *digits) {
 }
 
 static bool same_board(SendaiBoard a, SendaiBoard b) {
-    return memcmp(&a, &b, sizeof a) == 0;
-}
-
-static bool same_puzzle(SendaiPuzzle a, SendaiPuzzle b) {
     return memcmp(&a, &b, sizeof a) == 0;
 }
 
@@ -309,7 +316,7 @@ static bool undoes(SendaiPuzzle puzzle, int code) {
 }
 
 /* What an ask by value writes, beside the list of one on a lent record. */
-static uint16_t by_value[SENDAI_MAX_LIST];
+static uint16_t by_value[SENDAI_MAX_LIST_IMAGES];
 
 static void mark_lists(void) {
     memset(list, UNTOUCHED, sizeof list);
@@ -318,7 +325,7 @@ static void mark_lists(void) {
 
 /* Whether both lists are these entries, with all other places untouched. */
 static bool both_are(size_t length, const uint16_t *entries, size_t count) {
-    for (size_t i = count; i < SENDAI_MAX_LIST; i++)
+    for (size_t i = count; i < SENDAI_MAX_LIST_IMAGES; i++)
         if (list[i] != UNTOUCHED * 257) return false;
     return is(length, entries, count) && memcmp(list, by_value, sizeof list) == 0;
 }
@@ -342,7 +349,7 @@ static bool asks_no_board(SendaiBoard board, size_t length, int code) {
 
 /* The same two of a puzzle: which check found this list, and which number refuses it. */
 static bool asks_puzzle(SendaiPuzzle puzzle, int kind, size_t room, const uint16_t *entries, size_t count) {
-    const size_t length = 9 * puzzle.board.width;
+    const size_t length = SENDAI_ASK_ENTRIES(puzzle.kind, puzzle.board.height, puzzle.board.width);
     SendaiPuzzle lent = puzzle;
     mark_lists();
     SendaiOutcome told = sendai_puzzle_ask(puzzle, by_value, length), same = sendai_puzzle_ask_in_place(&lent, list, length);
@@ -393,6 +400,85 @@ static void lent_records(void) {
     CHECK(sendai_puzzle_stroke_in_place(&row, two.entries, two.length) == SENDAI_ACCEPTED && row.board.len == 2);
     CHECK(asks_puzzle(row, SENDAI_SHAPE_FAULT, 0, shape, 5));
     CHECK(sendai_puzzle_undo_in_place(&row) == SENDAI_ACCEPTED && same_puzzle(row, plain(1, 3)));
+}
+
+/* Whether a puzzle is refused by this number whatever its call, with the puzzle and each buffer as they were. */
+static bool refuses_all(SendaiPuzzle puzzle, int code) {
+    return sendai_puzzle_check(puzzle) == code && decides(puzzle, 0, true, code) && undoes(puzzle, code) && on_puzzle(puzzle, "", code) &&
+           on_puzzle(puzzle, "02", code) && asks_no_puzzle(puzzle, SENDAI_MAX_LIST_IMAGES, code) && asks_no_puzzle(puzzle, 0, code) &&
+           refuses(puzzle, 1, sizeof bytes, code) && refuses(puzzle, 1, 0, code);
+}
+
+/* A refused making, of either kind, returns a record of zeros: its kind is that of translates. */
+static bool makes_none(size_t height, size_t width, const uint16_t *given, size_t walls, const uint16_t *clues, size_t counts, int code) {
+    static SendaiPuzzle zeros;
+    SendaiPuzzleAnswer made = sendai_puzzle_make(height, width, given, walls, clues, counts);
+    SendaiPuzzleAnswer images = sendai_puzzle_make_images(height, width, given, walls, clues, counts);
+    return made.code == code && images.code == code && same_puzzle(made.puzzle, zeros) && same_puzzle(images.puzzle, zeros);
+}
+
+/* Whether an ask that a case file has prints this line for a puzzle, which stays of its kind. */
+static bool prints(SendaiPuzzle puzzle, const char *line) {
+    const uint8_t ask[] = {SENDAI_CALL_ASK};
+    SendaiRan ran = sendai_case_run(ask, 1, 0, 1, puzzle, bytes, SENDAI_MAX_LINE);
+    return ran.code == SENDAI_ACCEPTED && ran.done == 1 && same_puzzle(ran.puzzle, puzzle) && ran.length == strlen(line) &&
+           memcmp(bytes, line, ran.length) == 0;
+}
+
+/* Puzzles of images. */
+static void images(void) {
+    const uint16_t given[] = {1, 1, 9}, clues[] = {1, SENDAI_NO_CLUE, SENDAI_NO_CLUE}, nothing[] = {0};
+    SendaiPuzzle puzzle = sendai_puzzle_make_images(1, 4, given, 1, clues, 2).puzzle, same = sendai_puzzle_make(1, 4, given, 1, clues, 2).puzzle;
+    CHECK(puzzle.board.height == 1 && puzzle.board.width == 4 && puzzle.given_len == 1 && puzzle.clues[0] == 1);
+    CHECK(puzzle.kind == SENDAI_IMAGES && !same_puzzle(puzzle, same));
+    same.kind = SENDAI_IMAGES;
+    CHECK(same_puzzle(puzzle, same));
+    CHECK(makes_none(1, 33, nothing, 0, clues + 1, 1, SENDAI_SIZES) && makes_none(1, 4, given + 2, 1, clues, 2, SENDAI_MISSING));
+    CHECK(makes_none(1, 4, given, 2, clues, 3, SENDAI_GIVEN_ORDER) && makes_none(1, 4, given, 1, clues, 1, SENDAI_CLUE_COUNT));
+    CHECK(makes_none(1, 2, given, 0, given + 2, 1, SENDAI_CLUE_VALUE));
+
+    /* the unit of one cell has no partner: of its eight images on each of the two other cells border 1 would have to be a Wall */
+    const uint16_t listed[] = {2, 2, 2, 2, 2, 2, 2, 2, 2, 2, 2, 2, 2, 2, 2, 2, 1, 1, 1}, of_translates[] = {2, 2, 1, 1, 1};
+    Stroke two = drawn("12");
+    SendaiPuzzle row = plain_images(1, 3), translates = plain(1, 3);
+    CHECK(asks_puzzle(row, SENDAI_CLEAR, 0, listed, 0) && on_puzzle(row, "12", SENDAI_ACCEPTED) && undoes(row, SENDAI_EMPTY_LEDGER));
+    CHECK(sendai_puzzle_stroke_in_place(&row, two.entries, two.length) == SENDAI_ACCEPTED && row.kind == SENDAI_IMAGES);
+    CHECK(sendai_puzzle_stroke_in_place(&translates, two.entries, two.length) == SENDAI_ACCEPTED && translates.kind == SENDAI_TRANSLATES);
+    CHECK(asks_puzzle(row, SENDAI_SHAPE_FAULT, 0, listed, 19) && asks_puzzle(translates, SENDAI_SHAPE_FAULT, 0, of_translates, 5));
+    CHECK(asks_no_puzzle(row, 47, SENDAI_SHORT_BUFFER) && asks_no_puzzle(row, 27, SENDAI_SHORT_BUFFER));
+    CHECK(sendai_puzzle_ask(row, list, 48).kind == SENDAI_SHAPE_FAULT && prints(row, "shape: 1 2\n"));
+    CHECK(same_puzzle(sendai_puzzle_undo(row).puzzle, plain_images(1, 3)));
+    CHECK(sendai_puzzle_undo_in_place(&row) == SENDAI_ACCEPTED && same_puzzle(row, plain_images(1, 3)));
+    CHECK(sendai_puzzle_decide(row, 0, true).puzzle.kind == SENDAI_IMAGES);
+
+    /* two units of three cells, of which one is the other turned by half a turn */
+    const uint16_t full[] = {0, 3, 5, 6, 8, 11, 12};
+    puzzle = sendai_puzzle_stroke(plain_images(2, 3), full, 7).puzzle;
+    CHECK(asks_puzzle(puzzle, SENDAI_CLEAR, 0, listed, 0) && answers(puzzle, 1, 7, 1, "1221121", false) && prints(puzzle, "clear\n"));
+    translates = sendai_puzzle_stroke(plain(2, 3), full, 7).puzzle;
+    CHECK(sendai_puzzle_ask(translates, list, 54).kind == SENDAI_SHAPE_FAULT && answers(translates, 1, 7, 0, "", false));
+    puzzle = sendai_puzzle_decide(plain_images(2, 3), 0, false).puzzle;
+    CHECK(answers(puzzle, 9, 7, 5, "11112221212221121222212211211222221", false));
+    CHECK(answers(puzzle, 2, 7, 2, "11112221212221", true));
+    CHECK(answers(sendai_puzzle_decide(plain(2, 3), 0, false).puzzle, 9, 7, 2, "11112221212222", false));
+
+    /* a unit falls on the same two cells as two of its images, and is good there by the later one alone */
+    puzzle = sendai_puzzle_stroke(plain_images(2, 3), drawn("1248").entries, 4).puzzle;
+    CHECK(asks_puzzle(puzzle, SENDAI_CLEAR, 0, listed, 0));
+
+    /* the largest board; and a clue, which is asked about after the shapes */
+    CHECK(asks_puzzle(plain_images(32, 32), SENDAI_CLEAR, 0, listed, 0) && prints(plain_images(32, 32), "clear\n"));
+    CHECK(asks_no_puzzle(plain_images(32, 32), SENDAI_MAX_LIST_IMAGES - 1, SENDAI_SHORT_BUFFER));
+    CHECK(SENDAI_ASK_ENTRIES(SENDAI_IMAGES, 32, 32) == SENDAI_MAX_LIST_IMAGES && SENDAI_ASK_ENTRIES(SENDAI_TRANSLATES, 32, 32) == SENDAI_MAX_LIST);
+    CHECK(asks_puzzle(sendai_puzzle_decide(same, 0, true).puzzle, SENDAI_ROOM_FAULT, 0, given, 1));
+
+    /* no other number is a kind */
+    for (int kind = 2; kind <= UINT8_MAX; kind = 2 * kind + 1) {
+        same.kind = (uint8_t)kind;
+        CHECK(refuses_all(same, SENDAI_RECORD) && prints(same, "refused 2\n"));
+    }
+    same.board.width = 33;
+    CHECK(refuses_all(same, SENDAI_SIZES));
 }
 
 static void rooms(void) {
@@ -531,6 +617,7 @@ int main(void) {
     stroke_questions();
     long_strokes();
     lent_records();
+    images();
     rooms();
     unions();
     files();

@@ -17,11 +17,12 @@ import tempfile
 import threading
 import unittest
 import unittest.mock
+from array import array
 
 HERE = os.path.dirname(os.path.abspath(__file__))
 sys.path.insert(0, HERE)
 import sendai  # noqa: E402
-from sendai import _library, _records  # noqa: E402
+from sendai import _library, _numbers, _records, puzzle as puzzles  # noqa: E402
 from sendai import (  # noqa: E402
     MAX_FILE, NO_CLUE, Board, Case, Direction, Fault, NoLibrary, Puzzle, Refusal, Refused, RoomGraph, State, Union, entries, generate_case,
     hand_over, neighbour)
@@ -197,13 +198,14 @@ class Refusals(Test):
                      lambda: hand_over([-1]), lambda: generate_case(2 ** 32, 1, 1, 1), lambda: RoomGraph(1, [], 2 ** 32),
                      lambda: Puzzle(1, 3).right_boards(-1), lambda: Case(PAPER).run(-1), lambda: row.state(-1)):
             self.assertRaises(ValueError, call)
-        for call in (lambda: Board(1.0, 3), lambda: Board("1", 3), lambda: hand_over(["1"]), lambda: Case("a text"), lambda: Case(3.5)):
+        for call in (lambda: Board(1.0, 3), lambda: Board("1", 3), lambda: hand_over(["1"]), lambda: Case("a text"), lambda: Case(3.5),
+                     lambda: Puzzle(1, 3, images=1), lambda: Puzzle(1, 3, images="images"), lambda: Puzzle(1, 3, images=None)):
             self.assertRaises(TypeError, call)
 
 
 class Strokes(Test):
     def records(self):
-        return Board(1, 4), Puzzle(1, 4), RoomGraph(4, [(0, 1), (1, 2), (2, 3)], 2)
+        return Board(1, 4), Puzzle(1, 4), Puzzle(1, 4, images=True), RoomGraph(4, [(0, 1), (1, 2), (2, 3)], 2)
 
     def test_a_stroke_is_taken_back_whole(self):
         for record in self.records():
@@ -239,6 +241,7 @@ class Strokes(Test):
     def test_shown(self):
         shown = [repr(record) for record in self.records()]
         self.assertEqual(shown, ["<Board 1 by 4, decided []>", "<Puzzle 1 by 4, given [], clues [65535], decided []>",
+                                 "<Puzzle of images, 1 by 4, given [], clues [65535], decided []>",
                                  "<RoomGraph of 4 vertices, edges [(0, 1), (1, 2), (2, 3)], count 2, decided []>"])
 
     def test_nothing_is_handed_out_that_changes_a_record(self):
@@ -354,6 +357,93 @@ class Puzzles(Test):
             self.assertEqual(Puzzle(4, 4).right_boards(cap), (whole.boards[:cap], cap < 1808))
 
 
+class Images(Test):
+    """Puzzles of images, beside those of translates."""
+
+    def row(self, images):
+        puzzle = Puzzle(1, 3, images=images)
+        puzzle.stroke([(0, True), (1, False)])
+        return puzzle
+
+    def test_a_list(self):
+        # the unit of one cell has eight images, all alike: each is tried on both other cells
+        self.assertEqual(self.row(True).ask(), Fault("shape", [2] * 16 + [1] * 3))
+        self.assertEqual(self.row(False).ask(), Fault("shape", [2] * 2 + [1] * 3))
+        self.assertIsNone(Puzzle(1, 3, images=True).ask())
+        clued = Puzzle(1, 4, [1], [1, None], True)
+        clued.decide(0, True)
+        self.assertEqual(clued.ask(), Fault(0, [1]))
+
+    def test_the_buffer(self):
+        for images, enough in ((True, 48), (False, 27)):
+            puzzle = self.row(images)
+            self.assertEqual(len(puzzle._list), enough)
+            # a shorter one, as no caller can have it
+            short = array("H", [9] * (enough - 1))
+            puzzle._list = short
+            with self.refused(Refusal.SHORT_BUFFER, puzzle):
+                puzzle.ask()
+            self.assertEqual(short, array("H", [9] * (enough - 1)))
+        self.assertEqual(len(Puzzle(32, 32, images=True)._list), 16384)
+        self.assertIsNone(Puzzle(32, 32, images=True).ask())
+
+    def test_two_units_of_which_one_is_turned(self):
+        for states, of_images, of_translates in (("1221121", True, False), ("1112222", False, False), ("1212222", True, True)):
+            for images, right in ((True, of_images), (False, of_translates)):
+                puzzle = Puzzle(2, 3, images=images)
+                puzzle.stroke((border, state == "2") for border, state in enumerate(states))
+                self.assertEqual(puzzle.ask() is None, right, (states, images))
+
+    def test_one_that_is_good_by_the_later_image_alone(self):
+        puzzle = Puzzle(2, 3, images=True)
+        puzzle.stroke([(0, True), (1, False), (2, False), (4, False)])
+        self.assertIsNone(puzzle.ask())
+
+    def test_right_boards(self):
+        def boards(images):
+            puzzle = Puzzle(2, 3, images=images)
+            puzzle.decide(0, False)
+            return ["".join(str(int(state)) for state in board) for board in puzzle.right_boards().boards]
+
+        self.assertEqual(boards(False), ["1111222", "1212222"])
+        self.assertEqual(boards(True), ["1111222", "1212221", "1212222", "1221121", "1222221"])
+        self.assertEqual([len(Puzzle(3, 3, images=images).right_boards().boards) for images in (False, True)], [19, 59])
+
+    def test_a_kind_is_kept(self):
+        puzzle = Puzzle(1, 4, [1], [1, None], images=True)
+        self.assertEqual((puzzle.images, puzzle.given, puzzle.clues), (True, [1], [1, NO_CLUE]))
+        self.assertEqual((Puzzle(2, 4, [1, 4], images=True).clues, Puzzle(1, 4).images), ([NO_CLUE] * 2, False))
+        self.assertNotEqual(puzzle, Puzzle(1, 4, [1], [1, None]))
+        puzzle.decide(0, True)
+        for other in (puzzle, puzzle.copy(), pickle.loads(pickle.dumps(puzzle))):
+            self.assertEqual((other, other.images, other.ask()), (puzzle, True, Fault(0, [1])))
+        puzzle.undo()
+        self.assertEqual(puzzle, Puzzle(1, 4, [1], [1, None], images=True))
+        self.assertFalse(Case(PAPER).puzzle().images)
+
+    def test_a_number_that_is_no_kind(self):
+        for kind in (2, 255):
+            damaged = self.row(True)
+            damaged._record.kind = kind  # what no caller can reach
+            before = damaged.copy()
+            for call in (damaged.ask, damaged.undo, damaged.check, damaged.right_boards, lambda: damaged.decide(0, True),
+                         lambda: damaged.stroke([]), lambda: damaged.stroke([(0, True), (0, True)])):
+                with self.refused(Refusal.RECORD):
+                    call()
+                self.assertEqual(damaged, before)
+
+    def test_refused_makings(self):
+        for images in (False, True):
+            for refusal, making in ((Refusal.SIZES, (0, 4)), (Refusal.MISSING, (1, 4, [3])), (Refusal.GIVEN_ORDER, (1, 4, [1, 1])),
+                                    (Refusal.CLUE_COUNT, (1, 4, [1], [1])), (Refusal.CLUE_VALUE, (1, 4, [1], [3, None]))):
+                with self.refused(refusal):
+                    Puzzle(*making, images=images)
+        # the record of a refused making is one of translates, as all its numbers are 0
+        clues = array("H", [NO_CLUE])
+        made = _library.calls().locked.sendai_puzzle_make_images(1, 33, *_numbers.lent(array("H")), *_numbers.lent(clues))
+        self.assertEqual((made.code, bytes(made.puzzle)[:_records.Puzzle.kind.offset + 1].strip(b"\0")), (1, b""))
+
+
 class Cases(Test):
     def test_calls_one_by_one(self):
         case = Case(PAPER)
@@ -449,6 +539,7 @@ class Libraries(Test):
         numbers = dict(re.findall(r"(SENDAI_[A-Z_]+) = (\d+)", header))
         for name in ("MAX_SIDE", "MAX_CELLS", "MAX_BORDERS", "MAX_UNDECIDED", "MAX_FILE", "MAX_LINE", "NO_CLUE"):
             self.assertEqual(getattr(sendai, name), int(numbers["SENDAI_" + name]))
+        self.assertEqual(puzzles.IMAGES, int(numbers["SENDAI_IMAGES"]))
 
     def test_an_archive_and_a_shared_library_that_are_named(self):
         if not os.path.exists(_library.ARCHIVE):

@@ -1,6 +1,7 @@
 // Any bytes as a case file, through sendai_case_open and sendai_case_run as the program uses them. It aborts where what comes out is
 // not one of the lines of SPEC 5.4, where a file is taken or refused against SPEC 5.3, or where a byte behind a line was
 // written. The file and the buffer end at a page that can be neither read nor written.
+#include <stddef.h>
 #include <stdint.h>
 #include <stdio.h>
 #include <stdlib.h>
@@ -22,6 +23,7 @@ typedef struct {
     size_t given_len;
     uint16_t clues[1024];
     size_t clues_len;
+    uint8_t kind;
 } Puzzle;
 
 typedef struct {
@@ -172,7 +174,7 @@ int LLVMFuzzerTestOneInput(const uint8_t *data, size_t size) {
     notice(1u << 28 | (uint32_t)opened.code);
     if (opened.code != 0) {
         must(strchr("\1\3\7\10\11\13", opened.code) != NULL, "no making is refused by this number");
-        must(!memcmp(&opened.puzzle, &zero, sizeof zero) && !opened.at && !opened.count, "a refused puzzle is not zero");
+        must(!memcmp(&opened.puzzle, &zero, offsetof(Puzzle, kind) + 1) && !opened.at && !opened.count, "a refused puzzle is not zero");
         return 0;
     }
     must(opened.count == (size_t)calls, "the count of calls");

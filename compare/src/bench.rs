@@ -4,6 +4,7 @@ pub mod before;
 mod calls;
 mod clock;
 mod goals;
+pub mod kinds;
 mod loads;
 mod paper;
 pub mod recorded;
@@ -16,6 +17,7 @@ mod turns;
 use crate::boards::Standing;
 use asked::{boards, later, puzzles, unfit, SIDES};
 use calls::{Asked, Way};
+use kinds::Kinds;
 use loads::Run;
 use paper::{micros, number, Pair, Row};
 use searches::Searched;
@@ -114,7 +116,7 @@ fn stacks() -> Vec<(String, usize)> {
     let standing: Vec<(&str, Standing)> = boards(32).into_iter().chain(later(32)).chain(unfit(32)).collect();
     let mut stacks = calls::stacks(&standing, &puzzles(32));
     stacks.extend(strokes::stacks());
-    stacks.push(("right boards, 24 borders undecided".into(), searches::stack()));
+    stacks.extend(searches::stacks());
     stacks.push(("a case file drawn from a seed".into(), loads::stack()));
     stacks
 }
@@ -125,6 +127,7 @@ const PAPER: &str = concat!(env!("CARGO_MANIFEST_DIR"), "/../docs/PERFORMANCE.md
 struct Measured {
     asks: Grid,
     otherwise: Grid,
+    kinds: Kinds,
     on_boards: (Vec<String>, Grid),
     turned: Vec<Turned>,
     puzzle_turns: Grid,
@@ -145,6 +148,7 @@ impl Measured {
         Measured {
             asks,
             otherwise: asks_otherwise(),
+            kinds: kinds::all(),
             on_boards: calls::on_boards(&boards(32)),
             turned,
             puzzle_turns: turns::on_puzzles(),
@@ -195,6 +199,7 @@ fn sections(m: &Measured) -> Vec<(&'static str, Vec<String>)> {
             "How an ask grows",
             vec![told(GROWS), paper::grid("ask", &sides, &m.asks), told(OTHERWISE), paper::grid("ask", &sides, &m.otherwise)],
         ),
+        ("Both kinds of puzzle, 32 by 32", vec![told(BOTH_KINDS), m.kinds.table()]),
         ("The other calls on the eight boards, 32 by 32", vec![told(OTHER_CALLS), paper::grid("board", columns, on_boards)]),
         (
             "Decide and undo",
@@ -243,6 +248,11 @@ const GROWS: &str = "The port's µs, and the ratio in brackets. Boards go by val
 ";
 
 const OTHERWISE: &str = "The other way: boards without a Wall that are lent, and puzzles by value.
+";
+
+const BOTH_KINDS: &str = "The same boards on two puzzles, lent, in one room without a clue: the one made of translates, the other of images. Their asks take turns in
+one run; times tells how many times as long one of images takes. The Rust has no images. Behind the sum of the eight are boards on which units
+fit later, or one fits nowhere; and two on which each unit's partner is turned or mirrored, where translates end at the first unit.
 ";
 
 const OTHER_CALLS: &str = "The port's µs, and the ratio in brackets. A path leads from the first to the last cell of the largest unit; a boundary is that of

@@ -227,6 +227,11 @@ fn drawn(random: &mut Random, h: usize, w: usize) -> Standing {
 /// A random board with sides from `low` to `high`: drawn border by border, grown in parts, or structured and stirred.
 pub fn random(random: &mut Random, low: usize, high: usize) -> Standing {
     let (h, w) = (random.within(low, high), random.within(low, high));
+    sized(random, h, w)
+}
+
+/// The same of a size.
+pub fn sized(random: &mut Random, h: usize, w: usize) -> Standing {
     match random.below(3) {
         0 => drawn(random, h, w),
         1 => grown(random, h, w),

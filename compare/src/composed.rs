@@ -77,5 +77,5 @@ pub fn four_rooms(seed: u64, side: usize) -> (Making, Standing) {
     let given: Vec<usize> = (0..board.states.len()).filter(parts).collect();
     let clues = units_in(&board, &rooms(side, side, &given)).into_iter().map(|held| held as u16).collect();
     let given = given.iter().map(|&border| border as u16).collect();
-    (Making { height: side, width: side, given, clues }, board)
+    (Making { given, clues, ..Making::empty(side, side) }, board)
 }

@@ -228,7 +228,7 @@ fn worn(random: &mut Random, mut board: Standing) -> Standing {
 }
 
 /// With no Wall inside a unit, at which the check would end: it is Connected.
-fn mended(mut board: Standing) -> Standing {
+pub fn mended(mut board: Standing) -> Standing {
     let units = board.units();
     for border in 0..board.states.len() {
         let (a, b) = board.beside(border);

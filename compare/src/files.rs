@@ -1,11 +1,10 @@
 //! Case files by SPEC 5: what a file says, what is printed for it, and files to compare on, sound and damaged.
-use crate::answers::Answer;
 use crate::boards::Standing;
-use crate::ledger;
+use crate::kinds::Puzzle;
+use crate::ledger::{self, Reference};
 use crate::port::PuzzleRecord;
 use crate::puzzles::{self, Making};
 use crate::random::Random;
-use crate::reference::Puzzle;
 use crate::runs;
 
 /// The most bytes behind a file's length (SPEC 5.1).
@@ -79,7 +78,8 @@ pub fn decode(bytes: &[u8]) -> Option<Case> {
     let given = file.list(Reader::word)?;
     let clues = file.list(Reader::word)?;
     let calls = file.list(Reader::call)?;
-    file.0.is_empty().then_some(Case { making: Making { height, width, given, clues }, calls })
+    let making = Making { given, clues, ..Making::empty(height, width) };
+    file.0.is_empty().then_some(Case { making, calls })
 }
 
 /// A file that says this.
@@ -153,33 +153,33 @@ fn handed_over(mut list: Vec<u16>) -> Vec<u16> {
 }
 
 /// What is printed for a call on a puzzle.
-pub fn line(rust: &mut Puzzle, call: Call) -> Line {
+pub fn line(rust: &mut impl Reference, call: Call) -> Line {
     let (done, well) = match call {
         Call::Undo => (rust.undo(), Line::Undone),
         Call::Decide { border, wall } => (rust.decide(border as usize, wall), Line::Decided),
         Call::Ask => {
-            return match rust.ask() {
-                Answer::Clear => Line::Clear,
-                Answer::Shape(list) => Line::Shape(handed_over(list)),
-                Answer::Room(room, list) => Line::Room(room, handed_over(list)),
+            return match rust.fault() {
+                None => Line::Clear,
+                Some((0, list)) => Line::Shape(handed_over(list)),
+                Some((room, list)) => Line::Room(room - 1, handed_over(list)),
             };
         }
     };
     done.map_or_else(Line::Refused, |()| well)
 }
 
-/// What the Rust's side prints for a file: the number that refuses it, or a line a call and the record that the calls leave.
+/// What the Rust's side prints for a file: the number that refuses it, or a line a call and the record that the calls leave. A file says nothing of a
+/// kind; its calls may be run on a puzzle of images that the caller has.
 pub fn printed(case: Option<&Case>) -> Result<(Vec<Line>, PuzzleRecord), u8> {
     let Case { making, calls } = case.ok_or(11)?;
-    let size @ (height, width) = (making.height, making.width);
     match making.refusal() {
         0 => {}
         number => return Err(number),
     }
-    let mut rust = Puzzle::new(height, width, &making.walls(), &making.clues, true)?;
+    let mut rust = Puzzle::new(making, true)?;
     let lines = calls.iter().map(|&call| line(&mut rust, call)).collect();
     let names = ledger::singles(&rust.ledger());
-    Ok((lines, PuzzleRecord::of(size, &rust.states(), &names, &making.given, &making.clues)))
+    Ok((lines, PuzzleRecord::of(making, &rust.states(), &names)))
 }
 
 /// The same as text.
@@ -332,7 +332,7 @@ pub fn scrap(random: &mut Random) -> Vec<u8> {
 
 /// A file of just so many bytes behind its length, with undos and asks.
 pub fn of_length(rest: usize) -> Vec<u8> {
-    let making = Making { height: 1, width: 2, given: vec![], clues: vec![1] };
+    let making = Making { clues: vec![1], ..Making::empty(1, 2) };
     let mut calls = vec![Call::Undo; rest - 10];
     calls.iter_mut().step_by(7).for_each(|call| *call = Call::Ask);
     encode(&Case { making, calls })

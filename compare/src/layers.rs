@@ -7,6 +7,7 @@ pub mod files;
 pub mod generator;
 pub mod groups;
 pub mod hand_over;
+pub mod images;
 pub mod numbering;
 pub mod path;
 pub mod puzzle;
@@ -39,7 +40,7 @@ pub struct Layer {
     pub run: fn(&Limits) -> Tally,
 }
 
-pub const LAYERS: [Layer; 15] = [
+pub const LAYERS: [Layer; 16] = [
     Layer { name: "numbering", run: numbering::run },
     Layer { name: "board", run: board::run },
     Layer { name: "groups", run: groups::run },
@@ -52,6 +53,7 @@ pub const LAYERS: [Layer; 15] = [
     Layer { name: "edges", run: edges::run },
     Layer { name: "strokes", run: strokes::run },
     Layer { name: "right_boards", run: right_boards::run },
+    Layer { name: "images", run: images::run },
     Layer { name: "hand_over", run: hand_over::run },
     Layer { name: "files", run: files::run },
     Layer { name: "generator", run: generator::run },

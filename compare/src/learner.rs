@@ -89,7 +89,7 @@ pub fn trace(making: &Making, seed: u64, habit: Habit, first: usize, asks: usize
 
 impl Learner {
     fn new(making: &Making, seed: u64, habit: Habit) -> Learner {
-        let puzzle = Puzzle::make(making.height, making.width, &making.given, &making.clues).expect("made");
+        let puzzle = Puzzle::make(making).expect("made");
         let borders = border_count(making.height, making.width);
         let mut random = Random::new(seed);
         // each below 1, as much as one fault adds

@@ -2,8 +2,9 @@
 //! back so.
 use crate::answers::Answer;
 use crate::boards::{CONNECTED, UNDECIDED, WALL};
+use crate::kinds;
 use crate::random::Random;
-use crate::reference::{Board, City, Puzzle};
+use crate::reference::{self, Board, City};
 use crate::runs::{Call, Turn};
 use std::collections::BTreeSet;
 
@@ -170,7 +171,7 @@ pub fn fault_of(answer: Answer) -> Fault {
 }
 
 macro_rules! references {
-    ($($record:ident, $fault:expr;)*) => {$(
+    ($($record:ty, $fault:expr;)*) => {$(
         impl Reference for $record {
             fn decide(&mut self, border: usize, wall: bool) -> Result<(), u8> {
                 self.decide(border, wall)
@@ -179,7 +180,7 @@ macro_rules! references {
                 self.undo()
             }
             fn states(&self) -> Vec<u8> {
-                $record::states(self)
+                <$record>::states(self)
             }
             fn fault(&mut self) -> Fault {
                 $fault(self.ask())
@@ -191,7 +192,8 @@ macro_rules! references {
 references! {
     Board, |list: Option<Vec<u16>>| list.map(|list| (0, list));
     City, |list: Option<Vec<u16>>| list.map(|list| (0, list));
-    Puzzle, fault_of;
+    reference::Puzzle, fault_of;
+    kinds::Puzzle, fault_of;
 }
 
 /// The Rust, and the strokes that were put to it.

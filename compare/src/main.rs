@@ -10,9 +10,13 @@ mod files;
 mod findings;
 mod fits;
 mod generator;
+mod images;
+mod kinds;
+mod laws;
 mod layers;
 mod learner;
 mod ledger;
+mod pairs;
 mod port;
 mod puzzles;
 mod random;
@@ -40,7 +44,8 @@ const SAMPLE: &str = concat!(env!("CARGO_MANIFEST_DIR"), "/../crates/vectors");
 
 fn usage(word: &str) -> ! {
     let layers: Vec<&str> = LAYERS.iter().map(|layer| layer.name).collect();
-    eprintln!("compare: `{word}` is none of vectors, bench, trace, replay, before, findings, seed=N, seconds=N, borders=N, {}", layers.join(", "));
+    let layers = layers.join(", ");
+    eprintln!("compare: `{word}` is none of vectors, bench, trace, kinds, replay, before, findings, seed=N, seconds=N, borders=N, {layers}");
     std::process::exit(2);
 }
 
@@ -77,6 +82,7 @@ fn main() -> ExitCode {
         Some("vectors") => sample::write(Path::new(SAMPLE)),
         Some("bench") => bench::run(),
         Some("trace") => bench::traces::run(),
+        Some("kinds") => bench::kinds::run(),
         Some("replay") => {
             if !bench::recorded::run() {
                 return ExitCode::from(3);

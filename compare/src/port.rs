@@ -13,7 +13,7 @@ use crate::ledger::singles;
 pub use in_place::{LentBoard, LentPuzzle};
 pub use lent::{generate_in, hand_over_in, run_in};
 pub use loaded::{Archive, Told};
-pub use puzzle::{Puzzle, PuzzleRecord};
+pub use puzzle::{Puzzle, PuzzleRecord, PLACES};
 pub use record::{Played, Record};
 
 /// The exported functions and records, as crates/exports declares them.
@@ -116,21 +116,27 @@ mod c {
         pub room: CityCountConstraint,
     }
 
+    /// An archive from before images has nothing in the place of the kind.
     #[repr(C)]
     #[derive(Clone, Copy, PartialEq, Eq)]
-    pub struct Puzzle {
+    pub struct PuzzleOf<K> {
         pub board: Board,
         pub given: [u16; 1984],
         pub given_len: usize,
         pub clues: [u16; 1024],
         pub clues_len: usize,
+        pub kind: K,
     }
 
+    pub type Puzzle = PuzzleOf<u8>;
+
     #[repr(C)]
-    pub struct PuzzleMade {
+    pub struct PuzzleMadeOf<K> {
         pub code: u8,
-        pub puzzle: Puzzle,
+        pub puzzle: PuzzleOf<K>,
     }
+
+    pub type PuzzleMade = PuzzleMadeOf<u8>;
 
     #[repr(C)]
     pub struct Outcome {
@@ -222,6 +228,14 @@ mod c {
         pub fn sendai_puzzle_stroke_in_place(puzzle: &mut Puzzle, entries: *const u16, length: usize) -> u8;
         pub fn sendai_puzzle_ask_in_place(puzzle: *const Puzzle, buffer: *mut u16, room: usize) -> Outcome;
         pub fn sendai_puzzle_make(
+            height: usize,
+            width: usize,
+            given: *const u16,
+            given_length: usize,
+            clues: *const u16,
+            clues_length: usize,
+        ) -> PuzzleMade;
+        pub fn sendai_puzzle_make_images(
             height: usize,
             width: usize,
             given: *const u16,

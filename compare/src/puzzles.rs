@@ -1,5 +1,6 @@
 //! Puzzles to compare on, damaged records, and SPEC's questions about both.
 use crate::boards::{self, border_count, Standing, UNDECIDED, WALL};
+use crate::kinds::Kind;
 use crate::ledger::{self, Ledger};
 use crate::port::PuzzleRecord;
 use crate::random::Random;
@@ -9,6 +10,7 @@ use crate::runs::{self, Call, Turn};
 /// What a making gets.
 #[derive(Clone, Debug)]
 pub struct Making {
+    pub kind: Kind,
     pub height: usize,
     pub width: usize,
     pub given: Vec<u16>,
@@ -20,9 +22,22 @@ pub fn within_limits(height: usize, width: usize) -> bool {
 }
 
 impl Making {
-    /// No given walls, and one room without a clue.
+    /// Of translates, with no given walls, and one room without a clue.
     pub fn empty(height: usize, width: usize) -> Making {
-        Making { height, width, given: vec![], clues: vec![NO_CLUE] }
+        Making { kind: Kind::Translates, height, width, given: vec![], clues: vec![NO_CLUE] }
+    }
+
+    pub fn of_kind(self, kind: Kind) -> Making {
+        Making { kind, ..self }
+    }
+
+    pub fn cells(&self) -> usize {
+        self.height * self.width
+    }
+
+    /// The places that an ask needs.
+    pub fn places(&self) -> usize {
+        self.kind.places(self.cells())
     }
 
     pub fn walls(&self) -> Vec<usize> {
@@ -57,11 +72,11 @@ pub fn refusal(record: &PuzzleRecord) -> u8 {
     if !within_limits(height, width) {
         return 1;
     }
-    if record.given_len > 1984 || record.clues_len > 1024 {
+    if record.given_len > 1984 || record.clues_len > 1024 || Kind::of(record.kind).is_none() {
         return 2;
     }
     let (given, clues) = (record.given[..record.given_len].to_vec(), record.clues[..record.clues_len].to_vec());
-    if (Making { height, width, given: given.clone(), clues }).refusal() != 0 {
+    if (Making { given: given.clone(), clues, ..Making::empty(height, width) }).refusal() != 0 {
         return 2;
     }
     let states = &board.states[..border_count(height, width)];
@@ -80,7 +95,7 @@ pub fn every(height: usize, width: usize) -> Vec<Making> {
             lists = clues.flat_map(|clue| lists.iter().map(move |list| [&list[..], &[clue]].concat())).collect();
         }
         let given: Vec<u16> = walls.iter().map(|&border| border as u16).collect();
-        all.extend(lists.into_iter().map(|clues| Making { height, width, given: given.clone(), clues }));
+        all.extend(lists.into_iter().map(|clues| Making { given: given.clone(), clues, ..Making::empty(height, width) }));
     }
     all
 }
@@ -129,7 +144,7 @@ pub fn on(random: &mut Random, board: &mut Standing) -> Making {
     });
     let clues = clues.collect();
     let given = given.iter().map(|&border| border as u16).collect();
-    Making { height: board.height, width: board.width, given, clues }
+    Making { given, clues, ..Making::empty(board.height, board.width) }
 }
 
 /// Calls that decide a board's borders, with others among them.
@@ -198,7 +213,7 @@ pub fn damaged(random: &mut Random, mut record: PuzzleRecord) -> PuzzleRecord {
     let borders = border_count(board.height, board.width);
     for _ in 0..random.within(1, 2) {
         let (some, last) = (random.below(borders + 1), board.len.min(1983));
-        match random.below(13) {
+        match random.below(14) {
             0 => board.states[some] = random.below(256) as u8,
             1 => board.states[some] = random.below(3) as u8,
             2 => board.ledger[random.below(last + 1)] = random.below(2 * borders + 4) as u16,
@@ -212,6 +227,7 @@ pub fn damaged(random: &mut Random, mut record: PuzzleRecord) -> PuzzleRecord {
             10 => board.width = *random.pick(&[0, 33, board.height, board.width.saturating_sub(1), usize::MAX]),
             // a stroke begins or ends elsewhere; at the first name none would begin
             11 => board.ledger[random.below(last + 1)] ^= 1,
+            12 => record.kind = *random.pick(&[0, 1, 1, 2, 128, 255]),
             _ => {
                 board.states[borders..].fill(random.below(256) as u8);
                 board.ledger[board.len.min(1984)..].fill(random.below(65536) as u16);
@@ -243,5 +259,5 @@ pub fn record(random: &mut Random, board: &Standing, making: &Making) -> PuzzleR
     for stroke in ledger::cut(random, entries(board, making)) {
         ledger.stroke(&stroke).expect("drawn");
     }
-    PuzzleRecord::of((making.height, making.width), &board.states, &ledger.names(), &making.given, &making.clues)
+    PuzzleRecord::of(making, &board.states, &ledger.names())
 }

@@ -64,7 +64,7 @@ impl Recorded {
         assert!(bytes.starts_with(MAGIC), "{} is no trace", path.display());
         let mut reader = Reader { bytes: &bytes, at: MAGIC.len() };
         let (height, width) = (usize::from(reader.byte()), usize::from(reader.byte()));
-        let making = Making { height, width, given: reader.words(), clues: reader.words() };
+        let making = Making { given: reader.words(), clues: reader.words(), ..Making::empty(height, width) };
         let first = reader.at;
         Some(Recorded { making, bytes, first })
     }

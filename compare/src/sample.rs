@@ -2,7 +2,7 @@
 use crate::boards::{self, Standing, UNDECIDED};
 use crate::edges::{self, KINDS};
 use crate::layers::{
-    board, boundary, city_count, generator, groups, hand_over, numbering, path, puzzle, right_boards, shape, strokes, union_find,
+    board, boundary, city_count, generator, groups, hand_over, images, numbering, path, puzzle, right_boards, shape, strokes, union_find,
 };
 use crate::ledger::singles;
 use crate::random::Random;
@@ -111,6 +111,7 @@ pub fn write(folder: &Path) {
     right_boards::sample(sample);
     generator::sample(sample);
     strokes::sample(sample);
+    images::sample(sample);
     sample.script += ".  00000 00000\n";
     sample.answers += "end\n";
     println!("{} calls", sample.script.lines().count() - 1);

@@ -1,6 +1,10 @@
 """The right boards of a case, as they are told and drawn."""
+from itertools import zip_longest
+
+from .images import IMAGES, TRANSLATES
 from .model import CONNECT, WALL, Case, counted
-from .text import beside, draw, heading
+from .partners import Partners, images_on, said
+from .text import beside, heading, with_partners
 
 
 class Answers:
@@ -26,6 +30,10 @@ class Answers:
             drawn.append(("in all answers", shared, dict.fromkeys(self.differing)))
         return drawn + [("%d" % k, board, {b: board[b] for b in self.differing}) for k, board in enumerate(self.boards, 1)]
 
+    def partners(self):
+        """For each of the drawings the partners of the units on it; None where it is no answer."""
+        return [None] * (len(self.drawings()) - len(self.boards)) + [Partners(self.case, board) for board in self.boards]
+
 
 def values(states):
     """The decided borders, each with 1 for Wall and 0 for Connected."""
@@ -34,7 +42,7 @@ def values(states):
 
 def found_answers(puzzle, cap):
     """The right boards of a puzzle up to a cap."""
-    case = Case(puzzle.height, puzzle.width, puzzle.given, puzzle.clues)
+    case = Case(puzzle.height, puzzle.width, puzzle.given, puzzle.clues, images=IMAGES if puzzle.images else TRANSLATES)
     standing = values(puzzle.states())
     boards, more = puzzle.right_boards(cap)
     boards = [values(board) for board in boards]
@@ -54,7 +62,8 @@ def differs(puzzle, boards, border, others):
     return otherwise.right_boards(0).more
 
 
-def report(found):
-    """The answers as text."""
-    blocks = [[title] + draw(found.case, standing, marked).split("\n") for title, standing, marked in found.drawings()]
-    return "\n".join([heading(found.case), found.told()] + beside(blocks))
+def report(found, partners=()):
+    """The answers as text, with `found.partners()` where they are to be drawn."""
+    blocks = ["\n".join([title] + with_partners(found.case, standing, marked, meant)).split("\n")
+              for (title, standing, marked), meant in zip_longest(found.drawings(), partners)]
+    return "\n".join([heading(found.case), found.told()] + beside(blocks) + said(images_on(partners)))

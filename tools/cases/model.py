@@ -1,4 +1,5 @@
 """What a case is: a board's size, its given walls, its clues and the calls on it. docs/SPEC.md, 1.1 to 1.7, says what they mean."""
+from .images import IMAGES, TRANSLATES
 
 NO_CLUE = 65535
 LONGEST_SIDE = 32
@@ -35,8 +36,10 @@ class Unsound(Mistake):
 
 
 class Case:
-    def __init__(self, height, width, walls=(), clues=(), calls=()):
-        self.height, self.width = height, width
+    """`images` are those that a unit's partner may be: the puzzle's kind, which files, drawings and URLs don't have."""
+
+    def __init__(self, height, width, walls=(), clues=(), calls=(), images=TRANSLATES):
+        self.height, self.width, self.images = height, width, images
         self.walls, self.clues, self.calls = list(walls), list(clues), list(calls)
 
     def __eq__(self, other):
@@ -90,6 +93,14 @@ def groups(case, joins):
     return group
 
 
+def members(group):
+    """The cells of each group, in row order."""
+    cells = [[] for _ in range(max(group) + 1)]
+    for cell, number in enumerate(group):
+        cells[number].append(cell)
+    return cells
+
+
 def rooms(case):
     """Each cell's room: cells joined when only given walls part them."""
     given = set(case.walls)
@@ -99,6 +110,11 @@ def rooms(case):
 def counted(number, what):
     """So many of something. Counts have a comma before each three digits; numbers of borders, rooms, steps and lines have none."""
     return "{:,} {}{}".format(number, what, "" if number == 1 else "s")
+
+
+def sized(case):
+    """A case's size, and its kind where it is not the usual one."""
+    return "%d by %d%s" % (case.height, case.width, ", of images" if case.images == IMAGES else "")
 
 
 def place(case, cell):

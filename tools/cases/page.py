@@ -3,9 +3,10 @@ import os
 from html import escape
 from urllib.parse import quote
 
-from .model import NO_CLUE, Mistake, counted, refusal
+from .model import NO_CLUE, Mistake, counted, refusal, sized
+from .partners import images_on, meant
 from .reasons import why
-from .svg import DARK, GAP, LEFT, LIGHT, NARROWEST, OF_STEPS, STYLE, TOP, Drawer, Panel, sign
+from .svg import DARK, GAP, LEFT, LIGHT, NARROWEST, OF_STEPS, STYLE, TOP, Drawer, Panel, labels_of, of_images, sign
 from .text import refusal_said, spoken
 from .turns import FAULT, REFUSED, turns
 
@@ -39,6 +40,7 @@ class Book:
 
     def __init__(self, case, lines, choice, numbers=False):
         self.case, self.lines, self.choice, self.drawer = case, lines, choice, Drawer(case, numbers)
+        self.images = set()  # those that are meant so far
         self.refused = refusal(case)
         self.steps = [] if self.refused else [(t.number, t.kind) for t in turns(case, lines) if choice.takes(t)]
         self.each = max(1, min(STEPS_ON_A_PAGE, CELLS_ON_A_PAGE // (case.height * case.width)))
@@ -69,16 +71,17 @@ class Book:
             made = ['<li class="step">%s</li>' % self.board(Panel(said, {}, {}))]
         return "\n".join([
             '<!doctype html>', '<html lang="en">', "<head>", '<meta charset="utf-8">', '<meta name="viewport" content="width=device-width">',
-            "<title>%d by %d: %s</title>" % (self.case.height, self.case.width, escape(said)), "<style>%s</style>" % style, "</head>", "<body>",
+            "<title>%s: %s</title>" % (sized(self.case), escape(said)), "<style>%s</style>" % style, "</head>", "<body>",
             "<header>", "<h1>%s</h1>" % self.heading(), "<p>%s</p>" % escape(said), self.links(path, number),
-            fault_links(part), legend(), "</header>", '<svg class="parts" width="0" height="0" aria-hidden="true">%s</svg>' % self.drawer.shared(),
+            fault_links(part), legend(self.images), "</header>",
+            '<svg class="parts" width="0" height="0" aria-hidden="true">%s</svg>' % self.drawer.shared(),
             '<main><ol class="steps">', *made, "</ol></main>", self.links(path, number), "</body>", "</html>", ""])
 
     def heading(self):
         case = self.case
         clued = sum(clue != NO_CLUE for clue in case.clues)
-        return "%d by %d, %s, %s, %d with a clue" % (
-            case.height, case.width, counted(len(case.walls), "given wall"), counted(len(case.clues), "room"), clued)
+        return "%s, %s, %s, %d with a clue" % (
+            sized(case), counted(len(case.walls), "given wall"), counted(len(case.clues), "room"), clued)
 
     def links(self, path, number):
         """The way to the other pages."""
@@ -97,7 +100,7 @@ class Book:
 
     def step(self, turn):
         """One call: what it is, its answer, why, and the board behind it."""
-        reason = why(self.case, turn) if turn.kind == FAULT else None
+        reason, partners = why(self.case, turn) if turn.kind == FAULT else None, meant(self.case, turn, self.choice)
         out = ["<h2>%d&ensp;%s</h2>" % (turn.number, spoken(turn.call))]
         if turn.kind == REFUSED:
             number = int(turn.line.split()[1])
@@ -107,8 +110,11 @@ class Book:
                     '<p class="why">%s.</p>' % escape(reason.words[0].upper() + reason.words[1:]), listed_said(turn)]
         elif turn.line is not None:
             out.append("<p>%s</p>" % turn.line)
+        if partners:
+            out.append("<p>%s</p>" % "; ".join(partners.lines()))
+            self.images |= images_on([partners])
         title = "the board behind step %d, %s%s" % (turn.number, spoken(turn.call), ": " + reason.words if reason else "")
-        out.append(self.board(Panel(title, turn.standing, turn.listed, reason.cells if reason else (), turn.touched)))
+        out.append(self.board(Panel(title, turn.standing, turn.listed, reason.cells if reason else (), turn.touched, labels_of(partners))))
         return '<li class="step%s" id="step-%d">%s</li>' % (" fault" if reason else "", turn.number, "\n".join(out))
 
 
@@ -140,6 +146,7 @@ def listed_said(turn):
     return '<p class="quiet">listed: %s (%s)</p>' % (words or "none", turn.line)
 
 
-def legend():
-    items = ('<li><svg width="36" height="24" aria-hidden="true">%s</svg>%s</li>' % (sign(kind), words) for kind, words in OF_STEPS.items())
+def legend(images):
+    signs = {**OF_STEPS, **of_images(images)}
+    items = ('<li><svg width="36" height="24" aria-hidden="true">%s</svg>%s</li>' % (sign(kind), words) for kind, words in signs.items())
     return '<ul class="legend">%s</ul>' % "".join(items)

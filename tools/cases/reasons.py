@@ -1,7 +1,6 @@
-"""Why a fault is one, in words: the checks of docs/SPEC.md, 4.3 to 4.15, made once more on the standing borders."""
-from .model import NO_CLUE, below, counted, groups, place, right_of, rooms, sides
-
-UP, DOWN, LEFT, RIGHT = range(4)
+"""Why a fault is one, in words: the checks of docs/SPEC.md, 4.3 to 4.15 and 14.2, made once more on the standing borders."""
+from .images import DOWN, RIGHT, image, ways
+from .model import NO_CLUE, below, counted, groups, members, place, right_of, rooms, sides
 
 
 class Reason:
@@ -40,18 +39,12 @@ class Board:
         return [(border, cell, self.behind(cell, border)) for cell in cells for border in self.around[cell] if self.state(border) == 1]
 
     def near(self, number):
-        """The potential units that are adjacent to one, which is among them."""
+        """The potential units that are adjacent to one, which is among them, and their cells, rows and columns."""
         if number not in self.known:
-            self.known[number] = {number} | {self.potential[other] for _, _, other in self.walls_of(self.cells[number])}
+            units = {number} | {self.potential[other] for _, _, other in self.walls_of(self.cells[number])}
+            cells = {cell for unit in units for cell in self.cells[unit]}
+            self.known[number] = (units, cells) + spans(divmod(cell, self.case.width) for cell in cells)
         return self.known[number]
-
-
-def members(group):
-    """The cells of each group, in row order."""
-    cells = [[] for _ in range(max(group) + 1)]
-    for cell, number in enumerate(group):
-        cells[number].append(cell)
-    return cells
 
 
 # A Wall inside a unit.
@@ -88,49 +81,56 @@ def inner_wall(board):
 
 # A unit without a partner.
 
+def spans(places):
+    """The first and the last row of some places, and the first and the last column."""
+    rows, columns = zip(*places)
+    return (min(rows), max(rows)), (min(columns), max(columns))
+
+
+def shifts(own, near, side):
+    """By how much a span on a line of so many places may be moved and still be on it, in reach of a near one."""
+    return range(max(-own[0], near[0] - own[1]), min(side - 1 - own[1], near[1] - own[0]) + 1)
+
+
 class Trial:
-    """A unit, and the places that a translate of it may take."""
+    """A unit, and the places that an image of it may take."""
 
     def __init__(self, board, cells):
         self.board, self.cells, self.own = board, cells, set(cells)
-        self.near = board.near(board.potential[cells[0]])
+        self.near, self.reach, *self.spans = board.near(board.potential[cells[0]])
         self.inner = [(c, d) for c in cells for d in (DOWN, RIGHT)
                       if board.around[c][d] is not None and board.behind(c, board.around[c][d]) in self.own]
         self.edges = [(c, d) for c in cells for d in range(4) if board.around[c][d] is None or board.state(board.around[c][d]) == 1]
 
-    def moves(self):
-        """By how many rows and columns a translate may be away: on the board, off the unit, with a cell in a potential unit that is near."""
-        height, width = self.board.case.height, self.board.case.width
-        places = [divmod(c, width) for c in self.cells]
-        top, left = min(y for y, _ in places), min(x for _, x in places)
-        low, right = max(y for y, _ in places), max(x for _, x in places)
-        tried = set()
-        for cell in (c for number in self.near for c in self.board.cells[number]):
-            for y, x in places:
-                move = (cell // width - y, cell % width - x)
-                if move in tried:
-                    continue
-                tried.add(move)
-                on_board = 0 <= top + move[0] and low + move[0] < height and 0 <= left + move[1] and right + move[1] < width
-                if on_board and self.own.isdisjoint(c + move[0] * width + move[1] for c in self.cells):
-                    yield move[0] * width + move[1]
+    def offsets(self):
+        """How an image may lie: on the board, off the unit, with a cell in a potential unit that is near. Each cell's place, and each direction's."""
+        case = self.board.case
+        for number in case.images:
+            turned = image(number, [divmod(cell, case.width) for cell in self.cells])
+            downs, rights = map(shifts, spans(turned), self.spans, (case.height, case.width))
+            for down in downs:
+                for right in rights:
+                    landed = [(y + down) * case.width + x + right for y, x in turned]
+                    if self.own.isdisjoint(landed) and not self.reach.isdisjoint(landed):
+                        yield dict(zip(self.cells, landed)), ways(number)
 
-    def barred(self, move):
-        """The border that is in the way of a translate, or None."""
+    def barred(self, landed, turned):
+        """The border that is in the way of an image, or None."""
         for kind, places in ((1, self.inner), (0, self.edges)):
             for cell, direction in places:
-                landed = self.board.around[cell + move][direction]
-                if self.board.state(landed) == kind:
-                    return landed
+                border = self.board.around[landed[cell]][turned[direction]]
+                if self.board.state(border) == kind:
+                    return border
         return None
 
     def bars(self):
-        """For each place that a translate may take the border in the way; None where there is a place without one."""
+        """For each offset the image's cells and the border in its way; None where there is an offset without one."""
         found = []
-        for move in self.moves():
-            found.append(self.barred(move))
-            if found[-1] is None:
+        for landed, turned in self.offsets():
+            border = self.barred(landed, turned)
+            if border is None:
                 return None
+            found.append((frozenset(landed.values()), border))
         return found
 
 
@@ -141,12 +141,13 @@ def lone_unit(board):
         bars = trial.bars()
         if bars is None:
             continue
-        listed = {border: board.state(border) for border in bars}
+        listed = {border: board.state(border) for _, border in bars}
         listed.update((b, board.state(b)) for c in cells for b in board.around[c] if board.state(b) is not None)
         for number in trial.near:
             listed.update((border, 1) for border, _, other in board.walls_of(board.cells[number]) if board.potential[other] != number)
+        count = len({landed for landed, _ in bars})
         why = "there is no room for one that it can touch" if not bars else "a border is in the way " + (
-            "in the one place" if len(bars) == 1 else "in each of the %s" % counted(len(bars), "place")) + " for one"
+            "in the one place" if count == 1 else "in each of the %s" % counted(count, "place")) + " for one"
         words = "unit of %s at %s has no partner left: %s" % (counted(len(cells), "cell"), place(board.case, cells[0]), why)
         return Reason(words, cells, listed)
     return None

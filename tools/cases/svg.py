@@ -1,8 +1,11 @@
 """Boards as SVG pictures."""
 import textwrap
+from itertools import zip_longest
 from xml.sax.saxutils import escape
 
-from .model import ASK, Mistake, clue_texts, counted, refusal, sides
+from .images import IMAGES, image, told
+from .model import ASK, Case, Mistake, clue_texts, counted, refusal, sides, sized
+from .partners import images_on, meant
 from .reasons import why
 from .text import heading, refusal_said, titled
 from .turns import FAULT, Choice, turns
@@ -11,6 +14,7 @@ CELL, LINK = 36, 9       # the side of a cell; how far the sign for Connected re
 NUMBERED_LINK = 14       # and how far where the border's number stands on its middle
 LEFT, TOP, GAP = 30, 22, 12  # room for the numbers of rows and of columns, and around all
 LETTER, LINE = 7.5, 17   # about how wide a letter is, and how high a line
+SIGN, SIGN_LETTER = 220, 6.6  # how wide a sign is with its words, at least, and a letter of these
 NARROWEST = 250          # a board with its title takes at least so much
 MOST_CELLS = 100000      # a picture of more would be too large for a browser
 
@@ -19,14 +23,14 @@ DARK = dict(paper="#16181c", board="#202329", ink="#f2f2f2", quiet="#b4b8bf", op
 RULES = """.paper { fill: %(paper)s } .board { fill: %(board)s } .about { fill: %(about)s }
 .edge, .given { stroke: %(ink)s } .open { stroke: %(open)s } .gone { stroke: %(board)s } .shaded { stroke: %(about)s }
 .wall, .connected { stroke: %(wall)s } .listed, .differs { stroke: %(listed)s } .now { stroke: %(ink)s }
-text { fill: %(ink)s } .label { fill: %(quiet)s } .clue, .number { stroke: %(board)s }"""
+text { fill: %(ink)s } .label { fill: %(quiet)s } .clue, .number, .unit { stroke: %(board)s } .cell { fill: %(wall)s }"""
 STYLE = """.edge, .given, .open, .gone, .wall, .connected, .listed, .differs, .now { fill: none }
 .edge { stroke-width: 3 } .given { stroke-width: 5; stroke-linecap: square } .open { stroke-width: 1; stroke-dasharray: 3 3 }
 .gone { stroke-width: 3 } .wall { stroke-width: 4; stroke-linecap: round } .connected { stroke-width: 4; stroke-linecap: round }
 .listed { stroke-width: 11; stroke-linecap: round } .differs { stroke-width: 4; stroke-dasharray: 6 4 } .now { stroke-width: 1.5 }
 text { font: 13px sans-serif } .label { font-size: 11px; text-anchor: middle }
-.clue { font-size: 13px; font-weight: bold } .number { font-size: 10px; text-anchor: middle }
-.clue, .number { paint-order: stroke; stroke-width: 3px; stroke-linejoin: round }
+.clue { font-size: 13px; font-weight: bold } .number { font-size: 10px; text-anchor: middle } .unit { font-size: 11px; text-anchor: end }
+.clue, .number, .unit { paint-order: stroke; stroke-width: 3px; stroke-linejoin: round }
 %s
 @media (prefers-color-scheme: dark) {
 %s
@@ -39,11 +43,15 @@ OF_STEPS = {**OF_FAULTS, "now": "the border of the call"}
 OF_ANSWERS = {**SIGNS, "listed": "answers differ here", "differs": "not alike in all answers"}
 
 
-class Panel:
-    """A board with its title: the borders that stand, those that are marked, and the cells that are shaded."""
+# A unit whose eight images all look otherwise: its cells in row order, as seen from the middle one.
+UNLIKE = [(-1, 0), (-1, 1), (0, -1), (0, 0), (1, 0)]
 
-    def __init__(self, title, standing, listed, cells=(), touched=None):
-        self.title, self.standing, self.listed, self.cells, self.touched = title, standing, listed, cells, touched
+
+class Panel:
+    """A board with its title: the borders that stand, those that are marked, the cells that are shaded, and for some cells words in it."""
+
+    def __init__(self, title, standing, listed, cells=(), touched=None, labels=None):
+        self.title, self.standing, self.listed, self.cells, self.touched, self.labels = title, standing, listed, cells, touched, labels or {}
 
 
 class Drawer:
@@ -107,7 +115,18 @@ class Drawer:
                path("differs", (self.side(b) for b, value in listed.items() if value is None))]
         if panel.touched is not None and panel.touched < len(self.spots):
             out.append('<circle class="now" cx="%d" cy="%d" r="8"/>' % self.middle(panel.touched))
+        for (y, x), words in panel.labels.items():
+            # beside a clue, and off the signs for Connected
+            out += [unit_text(word, x * CELL + 32 - 7 * k, y * CELL + 13 + 12 * k) for k, word in enumerate(words)]
         return "".join(out) + '<use href="#over"/>'
+
+
+def labels_of(partners):
+    return partners.labels() if partners else None
+
+
+def unit_text(word, x, y):
+    return '<text class="unit" x="%d" y="%d">%s</text>' % (x, y, escape(word))
 
 
 def path(kind, pieces):
@@ -118,7 +137,11 @@ def path(kind, pieces):
 
 def sign(kind):
     """A sample of a sign, 36 wide and 24 high: two cells with a border between them."""
+    if kind in IMAGES:
+        return path("cell", ("M%d %dh5v5h-5z" % (15 + 5 * x, 9 + 5 * y) for y, x in image(kind, UNLIKE)))
     cells = '<path class="open" d="M3 4h30v16h-30z"/>'
+    if kind == "unit":
+        return cells + unit_text("b 5", 27, 16)
     if kind == "about":
         return path("about", ["M3 4h30v16h-30z"]) + cells
     if kind == "now":
@@ -137,11 +160,21 @@ def text_lines(lines, x, y):
     return "".join('<text class="title" x="%d" y="%d">%s</text>' % (x, y + LINE * (k + 1) - 4, escape(line)) for k, line in enumerate(lines))
 
 
+def sign_width(signs):
+    return max(SIGN, int(44 + SIGN_LETTER * max(map(len, signs.values()))))
+
+
+def of_images(images):
+    """The signs of partners, where some images are meant."""
+    return {"unit": "the unit's image 5 is unit b", **{k: told(k) for k in sorted(images)}} if images else {}
+
+
 def legend(signs, top, wide):
     """What the signs mean, in as many columns as fit, and how high that is."""
-    columns, out = max(1, (wide - 2 * GAP) // 220), []
+    each = sign_width(signs)
+    columns, out = max(1, (wide - 2 * GAP) // each), []
     for k, (kind, words) in enumerate(signs.items()):
-        x, y = GAP + k % columns * 220, top + k // columns * 24
+        x, y = GAP + k % columns * each, top + k // columns * 24
         out.append('<g transform="translate(%d %d)">%s<text x="44" y="16">%s</text></g>' % (x, y, sign(kind), escape(words)))
     return "".join(out), -(-len(signs) // columns) * 24
 
@@ -165,10 +198,10 @@ def picture(case, panels, signs, numbers=False, widest=1000):
             out.append('<g role="img" aria-label="%s" transform="translate(%d %d)">%s</g></g>' % (
                 escape(lines[0]), k * wide + LEFT + GAP, under, drawer.board(panel)))
         top = under + drawer.high + GAP + 4
-    total = max(1, columns) * wide
+    total = max(columns * wide, sign_width(signs) + 2 * GAP)
     drawn, high = legend(signs, top, total)
     head = '<svg xmlns="http://www.w3.org/2000/svg" width="%d" height="%d" viewBox="0 0 %d %d"><title>%s</title>' % (
-        (total, top + high + GAP) * 2 + ("%d by %d, %s" % (case.height, case.width, counted(len(panels), "board")),))
+        (total, top + high + GAP) * 2 + ("%s, %s" % (sized(case), counted(len(panels), "board")),))
     paper = '<rect class="paper" width="%d" height="%d"/>' % (total, top + high + GAP)
     return "\n".join([head, "<style>%s</style>" % STYLE, paper, drawer.shared()] + out + [drawn, "</svg>", ""])
 
@@ -178,10 +211,30 @@ def asks(case, lines, choice=Choice(), numbers=False):
     if refusal(case):
         return picture(case, [Panel(refusal_said(case), {}, {})], SIGNS, numbers)
     check_size(case, sum(turn.call[0] == ASK and choice.takes(turn) for turn in turns(case, lines)))
-    panels = []
+    panels, images = [], set()
     for turn in turns(case, lines):
         if turn.call[0] == ASK and choice.takes(turn):
-            reason = why(case, turn) if turn.kind == FAULT else None
+            reason, partners = why(case, turn) if turn.kind == FAULT else None, meant(case, turn, choice)
             title = titled(turn) + ("\n" + reason.words if reason else "")
-            panels.append(Panel(title, dict(turn.standing), turn.listed, reason.cells if reason else ()))
-    return picture(case, panels or [Panel(heading(case), {}, {})], OF_FAULTS, numbers)
+            panels.append(Panel(title, dict(turn.standing), turn.listed, reason.cells if reason else (), labels=labels_of(partners)))
+            images |= images_on([partners])
+    return picture(case, panels or [Panel(heading(case), {}, {})], {**OF_FAULTS, **of_images(images)}, numbers)
+
+
+def answers(found, partners=()):
+    """A picture of right boards, with `found.partners()` where they are to be drawn."""
+    panels = [Panel(*drawing, labels=labels_of(on_it)) for drawing, on_it in zip_longest(found.drawings(), partners)]
+    panels[0].title += ": " + found.told()
+    return picture(found.case, panels, {**OF_ANSWERS, **of_images(images_on(partners))})
+
+
+def eight_images():
+    """A picture of the eight images of a unit; its cells are numbered, the first one 1."""
+    case, panels = Case(3, 3), []
+    for number in IMAGES:
+        places = [(y + 1, x + 1) for y, x in image(number, UNLIKE)]
+        cells = {y * 3 + x for y, x in places}
+        standing = {border: 1 for border, (a, b) in enumerate(sides(case)) if (a in cells) != (b in cells)}
+        labels = {place: (str(k),) for k, place in enumerate(places, 1)}
+        panels.append(Panel(told(number), standing, {}, sorted(cells), labels=labels))
+    return picture(case, panels, {"about": "the unit, and 1 its first cell"})

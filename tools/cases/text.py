@@ -1,5 +1,8 @@
 """Boards as text, in the form that drawing.py reads."""
-from .model import ASK, NAMES, NO_CLUE, REFUSALS, below, clue_texts, counted, drawable, refusal, right_of
+from itertools import zip_longest
+
+from .model import ASK, NAMES, NO_CLUE, REFUSALS, below, clue_texts, counted, drawable, refusal, right_of, sized
+from .partners import images_on, meant, said
 from .turns import FAULT, Choice, turns
 
 
@@ -12,7 +15,7 @@ def letters(case, standing, listed):
 
 
 def draw(case, standing=None, listed=None, clues=None):
-    """A board; `clues` are clue_texts of the case, for who draws it often."""
+    """A board; `clues` are clue_texts of the case, for who draws it often, or other words for its cells."""
     drawn = letters(case, standing or {}, listed or {})
     clues = clue_texts(case) if clues is None else clues
     edge = "+" + "---+" * case.width
@@ -30,6 +33,13 @@ def draw(case, standing=None, listed=None, clues=None):
     return "\n".join(out + [edge])
 
 
+def with_partners(case, standing, listed, partners=None, clues=None):
+    """A board; where there are partners, each cell has its unit's name instead of clues, and a line for each unit is behind it."""
+    if partners is None:
+        return [draw(case, standing, listed, clues)]
+    return [draw(case, standing, listed, partners.names())] + partners.lines()
+
+
 def spoken(call):
     kind, border = call
     return NAMES[kind] if border is None else "%s %d" % (NAMES[kind], border)
@@ -37,7 +47,7 @@ def spoken(call):
 
 def heading(case):
     clues = " ".join("-" if c == NO_CLUE else str(c) for c in case.clues) or "none"
-    return "%d by %d, %s, clues: %s" % (case.height, case.width, counted(len(case.walls), "given wall"), clues)
+    return "%s, %s, clues: %s" % (sized(case), counted(len(case.walls), "given wall"), clues)
 
 
 def report(case, lines, choice=Choice(), explain=None):
@@ -49,7 +59,7 @@ def report(case, lines, choice=Choice(), explain=None):
     if not drawable(case):
         yield "no such board is drawn: " + refusal_said(case)
         return
-    clues = clue_texts(case)
+    clues, images = clue_texts(case), set()
     yield draw(case, clues=clues)
     if refusal(case):
         yield refusal_said(case)
@@ -60,7 +70,10 @@ def report(case, lines, choice=Choice(), explain=None):
             if explain and turn.kind == FAULT:
                 yield explain(case, turn).words
             if turn.call[0] == ASK:
-                yield draw(case, turn.standing, turn.listed, clues)
+                partners = meant(case, turn, choice)
+                yield from with_partners(case, turn.standing, turn.listed, partners, clues)
+                images |= images_on([partners])
+    yield from said(images)
 
 
 def refusal_said(case):
@@ -75,5 +88,5 @@ def beside(blocks, widest=100):
     """Blocks of lines, side by side as far as they fit a width, at least one in a row."""
     wide = max(len(line) for block in blocks for line in block)
     columns = max(1, (widest + 3) // (wide + 3))
-    rows = [zip(*blocks[i:i + columns]) for i in range(0, len(blocks), columns)]
+    rows = [zip_longest(*blocks[i:i + columns], fillvalue="") for i in range(0, len(blocks), columns)]
     return [(" " * 3).join(line.ljust(wide) for line in lines).rstrip() for row in rows for lines in row]

@@ -78,10 +78,10 @@ def check_lines(case, lines):
 
 
 class Choice:
-    """Which turns are shown: all, or those in some spans of numbers, or those with a fault."""
+    """What is shown: all turns, or those in some spans of numbers, or those with a fault; and whether each unit's partner is, too."""
 
-    def __init__(self, spans=None, faults=False):
-        self.spans, self.faults = spans, faults
+    def __init__(self, spans=None, faults=False, partners=False):
+        self.spans, self.faults, self.partners = spans, faults, partners
 
     def takes(self, turn):
         if self.faults and turn.kind != FAULT:
@@ -90,8 +90,8 @@ class Choice:
 
     def check(self, case, lines):
         """Refuses a choice that can't take anything."""
-        if self.faults and lines is None:
-            raise Mistake("--faults needs the answers: --program or --answers")
+        if lines is None and (self.faults or self.partners):
+            raise Mistake("--%s needs the answers: --program, --answers or --images" % ("faults" if self.faults else "partners"))
         for first, _ in self.spans or ():
             if first > len(case.calls):
                 raise Mistake("there is no step {}: the case has {:,}".format(first, len(case.calls)))

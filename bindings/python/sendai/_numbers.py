@@ -38,11 +38,11 @@ def word(number: int) -> int:
     return index(number)
 
 
-def truth(wall: bool) -> bool:
-    """True for Wall, False for Connected, and nothing else: a State, which is a number, would always be true."""
-    if wall is not True and wall is not False:
-        raise TypeError("True for Wall or False for Connected, not %r" % (wall,))
-    return wall
+def truth(said: bool, meaning: str = "True for Wall or False for Connected") -> bool:
+    """True, False, and nothing else: a State, which is a number, would always be true."""
+    if said is not True and said is not False:
+        raise TypeError("%s, not %r" % (meaning, said))
+    return said
 
 
 def entry(border: int, wall: bool) -> int:

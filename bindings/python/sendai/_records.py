@@ -8,7 +8,7 @@ class Board(Structure):
 
 class Puzzle(Structure):
     _fields_ = [("board", Board), ("given", c_uint16 * 1984), ("given_len", c_size_t),
-                ("clues", c_uint16 * 1024), ("clues_len", c_size_t)]
+                ("clues", c_uint16 * 1024), ("clues_len", c_size_t), ("kind", c_uint8)]
 
 
 class Book(Structure):
@@ -97,6 +97,7 @@ CALLS = {
     "sendai_unit_boundary": (Answer, [Board, c_size_t] + SLICE),
     "sendai_potential_unit_boundary": (Answer, [Board, c_size_t] + SLICE),
     "sendai_puzzle_make": (PuzzleAnswer, [c_size_t, c_size_t] + SLICE + SLICE),
+    "sendai_puzzle_make_images": (PuzzleAnswer, [c_size_t, c_size_t] + SLICE + SLICE),
     "sendai_puzzle_check": (c_uint8, [Puzzle]),
     "sendai_puzzle_decide_in_place": (c_uint8, LENT + [c_size_t, c_bool]),
     "sendai_puzzle_stroke_in_place": (c_uint8, LENT + SLICE),

@@ -40,11 +40,11 @@ class Standing:
 
     _kind: str  # of the calls' names
 
-    def _hold(self, found: Calls, record: ctypes.Structure, board: _records.Board) -> None:
+    def _hold(self, found: Calls, record: ctypes.Structure, board: _records.Board, images: bool = False) -> None:
         """Keeps a record that a call made, of which the board is a part, and makes the buffer that every list of it fits."""
         self._calls, self._record, self._board = found, record, board
         self._at = ctypes.addressof(record)
-        self._list = array("H", bytes(2 * 9 * board.height * board.width))
+        self._list = array("H", bytes(2 * (16 if images else 9) * board.height * board.width))
 
     def _call(self, name: str):
         return getattr(self._calls.locked, "sendai_%s_%s" % (self._kind, name))
@@ -127,7 +127,12 @@ class Standing:
         """Whether the same is decided, by the same strokes in the same order, on the same board."""
         if type(other) is not type(self):
             return NotImplemented
-        return bytes(self._record) == bytes(other._record)
+        return self._numbers() == other._numbers()
+
+    def _numbers(self) -> bytes:
+        """The record's bytes up to its last number: those behind it mean nothing."""
+        last = getattr(type(self._record), type(self._record)._fields_[-1][0])
+        return bytes(self._record)[:last.offset + last.size]
 
     __hash__ = None
 
@@ -162,7 +167,7 @@ class Board(Standing):
         return self.height, self.width
 
     def ask(self) -> Fault | None:
-        """The shape check: None where it is clear."""
+        """The shape check, for translates: None where it is clear."""
         told = self._calls.locked.sendai_board_ask_in_place(self._at, *lent(self._list))
         accepted(told.code)
         return Fault("shape", self._list[:told.length].tolist()) if told.fault else None

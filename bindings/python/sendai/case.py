@@ -26,7 +26,7 @@ class Case:
     __slots__ = ("_calls", "_file", "_puzzle", "_at", "_left")
 
     def __init__(self, file: bytes) -> None:
-        """The fresh puzzle of a file's bytes. Refused: FILE, or as a Puzzle is refused that is made of what the file says."""
+        """The fresh puzzle of a file's bytes, of translates. Refused: FILE, or as a Puzzle is refused that is made of what the file says."""
         self._calls = calls()
         self._file = array("B", bytes(file))
         told = self._calls.locked.sendai_case_open(*lent(self._file))

@@ -6,11 +6,13 @@ from typing import Iterable, NamedTuple
 
 from . import _records
 from ._library import Calls, calls
-from ._numbers import MAX_ENTRY, MAX_UNDECIDED, NO_CLUE, lent, natural, shorts, size
+from ._numbers import MAX_ENTRY, MAX_UNDECIDED, NO_CLUE, lent, natural, shorts, size, truth
 from .board import Board, Standing
 from .lists import STATES, Fault, State, again
 from .refusal import Refusal, accepted
 
+IMAGES = 1  # the kind of a puzzle of images
+KINDS = "True for a puzzle of images or False for one of translates"
 SHAPE_FAULT, ROOM_FAULT = 1, 2  # kinds of what an ask answers
 FIRST_BOARDS, MORE_BOARDS = 1024, 16  # right boards that a first search has room for, and how many times more each next one has
 
@@ -31,8 +33,9 @@ class RightBoards(NamedTuple):
 
 
 class Puzzle(Standing):
-    """A puzzle: a board, its given walls and a clue for each room. Rooms are the parts into which the given walls cut the board, numbered
-    from 0 by first cell.
+    """A puzzle: a board, its given walls, a clue for each room, and its kind: a unit's partner is its translate, or any of its eight
+    images, turned and mirrored ones among them. Rooms are the parts into which the given walls cut the board, numbered from 0 by first
+    cell.
 
     One row of four cells with a given wall in the middle; the left room is to be one unit:
 
@@ -40,33 +43,46 @@ class Puzzle(Standing):
     >>> puzzle.decide(0, True)
     >>> puzzle.ask()
     Fault(check=0, list=[1])
+
+    Two rows of three cells and two units, of which one is the other turned by half a turn:
+
+    >>> turned = [(0, False), (1, True), (2, True), (3, False), (4, False), (5, True), (6, False)]
+    >>> translates, images = Puzzle(2, 3), Puzzle(2, 3, images=True)
+    >>> for puzzle in translates, images:
+    ...     puzzle.stroke(turned)
+    >>> translates.ask() is None, images.ask() is None
+    (False, True)
     """
 
     __slots__ = ()
     _kind = "puzzle"
 
-    def __init__(self, height: int, width: int, given: Iterable[int] = (), clues: Iterable[int | None] | None = None) -> None:
+    def __init__(self, height: int, width: int, given: Iterable[int] = (), clues: Iterable[int | None] | None = None,
+                 images: bool = False) -> None:
         """A fresh puzzle: the given walls' numbers, rising, and a clue for each room, NO_CLUE or None for none; without clues no room has
-        one. Refused: SIZES, MISSING, GIVEN_ORDER, CLUE_COUNT, CLUE_VALUE."""
+        one. `images` is True for a puzzle of images, False for one of translates. Refused: SIZES, MISSING, GIVEN_ORDER, CLUE_COUNT,
+        CLUE_VALUE."""
         found, sides = calls(), (size(height), size(width))
+        make = found.locked.sendai_puzzle_make_images if truth(images, KINDS) else found.locked.sendai_puzzle_make
         # a wall beyond all is one that no board has, a clue beyond all one that no room has, and NO_CLUE alone stands for none
         walls = shorts(natural(wall, MAX_ENTRY) for wall in given)
         told = shorts(clue_number(clue) for clue in ([None] if clues is None else clues))
-        made = found.locked.sendai_puzzle_make(*sides, *lent(walls), *lent(told))
+        made = make(*sides, *lent(walls), *lent(told))
         if clues is None and made.code == Refusal.CLUE_COUNT:
             told = shorts([NO_CLUE] * rooms(*sides, walls))
-            made = found.locked.sendai_puzzle_make(*sides, *lent(walls), *lent(told))
+            made = make(*sides, *lent(walls), *lent(told))
         accepted(made.code)
         self._keep(found, made.puzzle)
 
     def _keep(self, found: Calls, record: _records.Puzzle) -> None:
-        self._hold(found, record, record.board)
+        self._hold(found, record, record.board, record.kind == IMAGES)
 
     def _making(self) -> tuple:
-        return self.height, self.width, self.given, self.clues
+        return self.height, self.width, self.given, self.clues, self.images
 
     def ask(self) -> Fault | None:
-        """The shape check, then the counts of the clued rooms, up to the first fault: None where all is clear."""
+        """The shape check, for the images of the puzzle's kind, then the counts of the clued rooms, up to the first fault: None where all
+        is clear."""
         told = self._calls.locked.sendai_puzzle_ask_in_place(self._at, *lent(self._list))
         accepted(told.code)
         kind = told.kind
@@ -77,8 +93,8 @@ class Puzzle(Standing):
         return None
 
     def right_boards(self, cap: int | None = None) -> RightBoards:
-        """All answers: every right full board on which all that is decided stands, each once, rising, at most `cap` of them, and whether
-        more exist. Refused: MANY_UNDECIDED.
+        """All answers: every full board, right for the puzzle's kind, on which all that is decided stands, each once, rising, at most `cap`
+        of them, and whether more exist. Refused: MANY_UNDECIDED.
 
         >>> Puzzle(1, 4).right_boards(0)
         RightBoards(boards=[], more=True)
@@ -120,9 +136,15 @@ class Puzzle(Standing):
         """The clues, by room, NO_CLUE for none."""
         return self._record.clues[:self._record.clues_len]
 
+    @property
+    def images(self) -> bool:
+        """Whether it is a puzzle of images; else it is one of translates."""
+        return self._record.kind == IMAGES
+
     def __repr__(self) -> str:
-        size = (self.height, self.width, self.given, self.clues, self.ledger())
-        return "<Puzzle %d by %d, given %r, clues %r, decided %r>" % size
+        kind = " of images," if self.images else ""
+        size = (kind, self.height, self.width, self.given, self.clues, self.ledger())
+        return "<Puzzle%s %d by %d, given %r, clues %r, decided %r>" % size
 
 
 def clue_number(clue: int | None) -> int:

@@ -3,7 +3,7 @@
 //!
 //! The search has one puzzle, and two buffers that it makes once. Each stroke, ask and undo is lent the puzzle: it is changed or read where
 //! it is, and no record is copied from step to step.
-use sendai::{hand_over, Puzzle, Refusal, State, NO_CLUE};
+use sendai::{hand_over, Kind, Puzzle, Refusal, State, NO_CLUE};
 
 /// "One of these holds": borders, each with whether it is a Wall.
 type Clause = Vec<(usize, bool)>;
@@ -134,6 +134,7 @@ impl Learner {
 
 /// The laws of a full board, in this example's own words: a second opinion that calls nothing of the checker.
 mod laws {
+    use sendai::Kind;
     use std::collections::{BTreeMap, BTreeSet};
 
     type Cell = (usize, usize);
@@ -168,9 +169,24 @@ mod laws {
     }
 
     /// A unit moved to the top left corner: equal for translates alone.
-    fn shape(unit: &Unit) -> Unit {
+    fn corner(unit: &Unit) -> Unit {
         let (top, left) = (unit.iter().map(|c| c.0).min().unwrap(), unit.iter().map(|c| c.1).min().unwrap());
         unit.iter().map(|&(y, x)| (y - top, x - left)).collect()
+    }
+
+    /// A unit's shape, which its partner must have: of images the least of the eight, so that it is equal for them alone.
+    fn shape(kind: Kind, unit: &Unit) -> Unit {
+        let far = unit.iter().map(|c| c.0.max(c.1)).max().unwrap();
+        let (mut images, mut turned) = (vec![corner(unit)], unit.clone());
+        for _ in 0..4 {
+            turned = turned.iter().map(|&(y, x)| (x, far - y)).collect();
+            images.extend([corner(&turned), corner(&turned.iter().map(|&(y, x)| (y, far - x)).collect())]);
+        }
+        if kind == Kind::Images {
+            images.into_iter().min().unwrap()
+        } else {
+            images.swap_remove(0)
+        }
     }
 
     /// Whether a Wall has one unit on one side and the other on the other.
@@ -179,7 +195,7 @@ mod laws {
     }
 
     /// How many full boards obey the laws, by trying each: border n is a Wall where bit n of the board's number is set.
-    pub fn count(height: usize, width: usize, given: &[u16], clues: &[u16]) -> usize {
+    pub fn count(kind: Kind, height: usize, width: usize, given: &[u16], clues: &[u16]) -> usize {
         let borders = borders(height, width);
         let rooms = joined(height, width, &parted(&borders, |border| given.contains(&(border as u16))).1);
         let right = |board: usize| {
@@ -189,10 +205,10 @@ mod laws {
             }
             let (walls, connected) = parted(&borders, wall);
             let units = joined(height, width, &connected);
-            let translates = |a: &Unit, b: &Unit| a != b && shape(a) == shape(b) && share(&walls, a, b);
+            let partners = |a: &Unit, b: &Unit| a != b && shape(kind, a) == shape(kind, b) && share(&walls, a, b);
             let within = |room: &Unit| units.iter().filter(|unit| unit.is_subset(room)).count();
             units.iter().all(|unit| !share(&walls, unit, unit))
-                && units.iter().all(|a| units.iter().any(|b| translates(a, b)))
+                && units.iter().all(|a| units.iter().any(|b| partners(a, b)))
                 && rooms.iter().zip(clues).all(|(room, &clue)| clue == super::NO_CLUE || within(room) == clue.into())
         };
         (0..1 << borders.len()).filter(|&board| right(board)).count()
@@ -206,17 +222,18 @@ fn main() -> Result<(), Refusal> {
         (2, 4, &[], &[NO_CLUE]),
         (3, 4, &[2, 5, 8], &[NO_CLUE, 3]), // the last column is a room of three units
     ];
-    for (height, width, given, clues) in puzzles {
-        let puzzle = Puzzle::make(height, width, given, clues)?;
+    let kinds = [Kind::Translates, Kind::Images];
+    for ((height, width, given, clues), kind) in puzzles.into_iter().flat_map(|puzzle| kinds.map(|kind| (puzzle, kind))) {
+        let puzzle = Puzzle::of_kind(kind, height, width, given, clues)?;
         let free = puzzle.borders() - given.len();
         let mut learner = Learner::new(puzzle);
         let found = learner.count()?;
-        assert_eq!(found, laws::count(height, width, given, clues), "the learner lost a board, or took a wrong one");
+        assert_eq!(found, laws::count(kind, height, width, given, clues), "the learner lost a board, or took a wrong one");
         // every stroke is undone by now, and the checker's own search finds as many
         let mut boards = vec![0; learner.puzzle.boards_len(found)?];
         let right = learner.puzzle.right_boards(found, &mut boards)?;
         assert_eq!((right.len(), right.more()), (found, false), "all answers are others");
-        print!("{height} by {width}, given {given:?}, clues {clues:?}: {found} right boards of {}; ", 1 << free);
+        print!("{kind:?}, {height} by {width}, given {given:?}, clues {clues:?}: {found} right boards of {}; ", 1 << free);
         println!("{} asks, {} clauses", learner.asks, learner.clauses.len());
     }
     Ok(())

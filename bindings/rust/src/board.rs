@@ -1,5 +1,5 @@
 use crate::groups::Groups;
-use crate::{accepted, judged, lend, listed, sys, Check, Fault, Refusal, State};
+use crate::{accepted, judged, lend, listed, sys, Check, Fault, Kind, Refusal, State};
 use std::fmt;
 
 /// A board: each border undecided, Connected or a Wall, and the decided ones in order, stroke by stroke.
@@ -103,7 +103,7 @@ impl Board {
 
     /// The length of a buffer that every list of this board fits: 9 · h · w.
     pub fn list_len(&self) -> usize {
-        list_len(&self.0)
+        list_len(&self.0, Kind::Translates)
     }
 
     /// A border's state. `None` where it does not exist.
@@ -126,7 +126,7 @@ impl Board {
         strokes(&self.0.ledger[..self.0.len])
     }
 
-    /// The shape check: `None` where it is clear. Refused: `ShortBuffer` ([`list_len`](Board::list_len)).
+    /// The shape check, for translates: `None` where it is clear. Refused: `ShortBuffer` ([`list_len`](Board::list_len)).
     pub fn ask<'b>(&self, buffer: &'b mut [u16]) -> Result<Option<Fault<'b>>, Refusal> {
         // SAFETY: the buffer lives through the call.
         let told = unsafe { sys::sendai_board_ask_in_place(&self.0, buffer.as_mut_ptr(), buffer.len()) };
@@ -188,8 +188,9 @@ pub(crate) fn borders(board: &sys::Board) -> usize {
     board.height * (board.width - 1) + (board.height - 1) * board.width
 }
 
-pub(crate) fn list_len(board: &sys::Board) -> usize {
-    9 * board.height * board.width
+/// How long a buffer an ask for images of this kind wants. Every other list of the board fits it, too.
+pub(crate) fn list_len(board: &sys::Board, kind: Kind) -> usize {
+    kind.entries_a_cell() * board.height * board.width
 }
 
 pub(crate) fn states(board: &sys::Board) -> impl Iterator<Item = State> + '_ {

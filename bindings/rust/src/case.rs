@@ -22,7 +22,7 @@ pub struct Case<'f> {
 }
 
 impl<'f> Case<'f> {
-    /// A file's fresh puzzle. Refused: `File`, or as [`Puzzle::make`] refuses what the file says.
+    /// A file's fresh puzzle, of translates. Refused: `File`, or as [`Puzzle::make`] refuses what the file says.
     pub fn open(file: &'f [u8]) -> Result<Case<'f>, Refusal> {
         // SAFETY: the slice lives through the call.
         let case = unsafe { sys::sendai_case_open(file.as_ptr(), file.len()) };

@@ -2,8 +2,8 @@
 //!
 //! A solver decides the borders of a Sendai grid, one by one or several in one stroke, which one undo takes back. An ask says whether
 //! the borders decided so far can all hold, and where they can't it lists some of them that can't: a clause, once each is negated.
-//! [`Puzzle::right_boards`] finds every answer of a started grid, and whether it has just one. [`generate_case`] makes a case file from
-//! a seed, the same each time.
+//! [`Puzzle::right_boards`] finds every answer of a started grid, and whether it has just one. [`Puzzle::of_kind`] makes a puzzle of the
+//! other kind, in which a unit's partner may be turned and mirrored. [`generate_case`] makes a case file from a seed, the same each time.
 //!
 //! ```
 //! use sendai::{hand_over, Check, Puzzle, NO_CLUE};
@@ -43,6 +43,7 @@
 mod board;
 mod case;
 mod groups;
+mod kind;
 mod puzzle;
 mod refusal;
 mod right_boards;
@@ -56,6 +57,7 @@ mod tests;
 pub use board::Board;
 pub use case::{generate_case, Case};
 pub use groups::Groups;
+pub use kind::Kind;
 pub use puzzle::Puzzle;
 pub use refusal::Refusal;
 pub use right_boards::{RightBoard, RightBoards};
@@ -73,8 +75,10 @@ pub const MAX_CELLS: usize = 1024;
 pub const MAX_BORDERS: usize = 1984;
 /// The most undecided borders of a puzzle whose answers are all asked for.
 pub const MAX_UNDECIDED: usize = 24;
-/// A buffer of so many places is long enough for every list of every board and puzzle.
+/// A buffer of so many places is long enough for every list of every board, and of every puzzle of translates.
 pub const MAX_LIST: usize = 9216;
+/// A buffer of so many places is long enough for every list of every board and puzzle, those of images among them.
+pub const MAX_LIST_IMAGES: usize = 16384;
 /// The bytes that any line of a case's call fits.
 pub const MAX_LINE: usize = 55323;
 /// The bytes of the longest case file.

@@ -1,8 +1,8 @@
-use crate::{accepted, board, lend, sys, Board, Check, Fault, Refusal, RightBoards, State, MAX_UNDECIDED};
+use crate::{accepted, board, lend, sys, Board, Check, Fault, Kind, Refusal, RightBoards, State, MAX_UNDECIDED};
 use std::fmt;
 
-/// A puzzle: a board, its given walls and a clue for each room. Rooms are the parts into which the given walls cut the board, numbered
-/// from 0 by first cell.
+/// A puzzle: a board, its given walls, a clue for each room, and its [`Kind`]. Rooms are the parts into which the given walls cut the
+/// board, numbered from 0 by first cell.
 ///
 /// ```
 /// use sendai::{Check, Puzzle, NO_CLUE};
@@ -20,13 +20,26 @@ use std::fmt;
 pub struct Puzzle(pub(crate) sys::Puzzle);
 
 impl Puzzle {
-    /// A fresh puzzle: the given walls' numbers, rising, and a clue for each room, [`NO_CLUE`](crate::NO_CLUE) for none.
+    /// A fresh puzzle of translates: the given walls' numbers, rising, and a clue for each room, [`NO_CLUE`](crate::NO_CLUE) for none.
     /// Refused: `Sizes`, `Missing`, `GivenOrder`, `ClueCount`, `ClueValue`.
     pub fn make(height: usize, width: usize, given: &[u16], clues: &[u16]) -> Result<Puzzle, Refusal> {
-        let (walls, counts) = (given.as_ptr(), clues.as_ptr());
+        Puzzle::of_kind(Kind::Translates, height, width, given, clues)
+    }
+
+    /// [`make`](Puzzle::make) for any kind.
+    pub fn of_kind(kind: Kind, height: usize, width: usize, given: &[u16], clues: &[u16]) -> Result<Puzzle, Refusal> {
+        let make = match kind {
+            Kind::Translates => sys::sendai_puzzle_make,
+            Kind::Images => sys::sendai_puzzle_make_images,
+        };
         // SAFETY: both slices live through the call.
-        let made = unsafe { sys::sendai_puzzle_make(height, width, walls, given.len(), counts, clues.len()) };
+        let made = unsafe { make(height, width, given.as_ptr(), given.len(), clues.as_ptr(), clues.len()) };
         accepted(made.code).map(|()| Puzzle(made.puzzle))
+    }
+
+    /// Which images of a unit its partner may be.
+    pub fn kind(&self) -> Kind {
+        Kind::of(self.0.kind)
     }
 
     /// Decides a border as Wall or Connected: a stroke of one. Refused: `Missing`, `Decided` (a given wall, too); the puzzle is then as
@@ -47,7 +60,7 @@ impl Puzzle {
         accepted(sys::sendai_puzzle_undo_in_place(&mut self.0))
     }
 
-    /// The shape check, then the counts of the clued rooms, up to the first fault: `None` where all is clear.
+    /// The shape check, for the images of the puzzle's kind, then the counts of the clued rooms, up to the first fault: `None` where all is clear.
     /// Refused: `ShortBuffer` ([`list_len`](Puzzle::list_len)).
     pub fn ask<'b>(&self, buffer: &'b mut [u16]) -> Result<Option<Fault<'b>>, Refusal> {
         // SAFETY: the buffer lives through the call.
@@ -61,8 +74,8 @@ impl Puzzle {
         Ok(Some(Fault { check, list: &buffer[..told.length] }))
     }
 
-    /// All answers: every right full board on which all that is decided stands, each once, rising, at most `cap` of them, and whether
-    /// more exist. Refused: `ManyUndecided`, `ShortBuffer` ([`boards_len`](Puzzle::boards_len)).
+    /// All answers: every full board, right for the puzzle's kind, on which all that is decided stands, each once, rising, at most `cap` of
+    /// them, and whether more exist. Refused: `ManyUndecided`, `ShortBuffer` ([`boards_len`](Puzzle::boards_len)).
     ///
     /// ```
     /// # use sendai::{Puzzle, State::*, NO_CLUE};
@@ -123,9 +136,9 @@ impl Puzzle {
         self.states().filter(|&state| state == State::Undecided).count()
     }
 
-    /// The length of a buffer that every list of this puzzle fits: 9 · h · w.
+    /// The length of a buffer that every list of this puzzle fits: 9 · h · w for one of translates, 16 · h · w for one of images.
     pub fn list_len(&self) -> usize {
-        board::list_len(&self.0.board)
+        board::list_len(&self.0.board, self.kind())
     }
 
     /// A border's state. `None` where it does not exist.
@@ -161,6 +174,6 @@ impl Puzzle {
 
 impl fmt::Debug for Puzzle {
     fn fmt(&self, f: &mut fmt::Formatter) -> fmt::Result {
-        write!(f, "Puzzle of {:?}, given {:?}, clues {:?}", self.board(), self.given(), self.clues())
+        write!(f, "Puzzle of {:?}, given {:?}, clues {:?}, {:?}", self.board(), self.given(), self.clues(), self.kind())
     }
 }

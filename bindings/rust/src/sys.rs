@@ -23,12 +23,14 @@ records! {
         ledger: [u16; 1984] = 2000,
         len: usize = 5968,
     }
-    Puzzle, 12008 {
+    /// `kind` is the number of a [`Kind`](crate::Kind).
+    Puzzle, 12016 {
         board: Board = 0,
         given: [u16; 1984] = 5976,
         given_len: usize = 9944,
         clues: [u16; 1024] = 9952,
         clues_len: usize = 12000,
+        kind: u8 = 12008,
     }
     /// An edge of a room graph between two vertices.
     Edge, 4 {
@@ -64,7 +66,7 @@ records! {
         code: u8 = 0,
         board: Board = 8,
     }
-    PuzzleAnswer, 12016 {
+    PuzzleAnswer, 12024 {
         code: u8 = 0,
         puzzle: Puzzle = 8,
     }
@@ -112,18 +114,18 @@ records! {
         more: bool = 1,
         count: usize = 8,
     }
-    Case, 12032 {
+    Case, 12040 {
         code: u8 = 0,
         puzzle: Puzzle = 8,
-        at: usize = 12016,
-        count: usize = 12024,
+        at: usize = 12024,
+        count: usize = 12032,
     }
-    Ran, 12040 {
+    Ran, 12048 {
         code: u8 = 0,
         puzzle: Puzzle = 8,
-        at: usize = 12016,
-        done: usize = 12024,
-        length: usize = 12032,
+        at: usize = 12024,
+        done: usize = 12032,
+        length: usize = 12040,
     }
     FileParts, 72 {
         code: u8 = 0,
@@ -175,6 +177,14 @@ unsafe extern "C" {
     pub fn sendai_potential_unit_boundary(board: Board, unit: usize, buffer: *mut u16, length: usize) -> Answer;
 
     pub fn sendai_puzzle_make(
+        height: usize,
+        width: usize,
+        given: *const u16,
+        given_length: usize,
+        clues: *const u16,
+        clues_length: usize,
+    ) -> PuzzleAnswer;
+    pub fn sendai_puzzle_make_images(
         height: usize,
         width: usize,
         given: *const u16,

@@ -4,18 +4,21 @@ mod buffers;
 mod cases;
 mod forms;
 mod generated;
+mod images;
 mod paper;
 mod refusals;
 mod right_boards;
 mod strokes;
 
-use crate::{Board, Refusal};
+use crate::{Board, Kind, Refusal};
 
 /// What the places of a buffer hold before a call.
 const UNTOUCHED: u16 = 0xbeef;
 
 /// The same of a buffer of bytes.
 const UNTOUCHED_BYTE: u8 = 0x55;
+
+const KINDS: [Kind; 2] = [Kind::Translates, Kind::Images];
 
 fn marked(places: usize) -> Vec<u16> {
     vec![UNTOUCHED; places]

@@ -61,6 +61,21 @@ pub fn unfit(side: usize) -> Vec<(&'static str, Standing)> {
     vec![("dominoes, two of them joined, a fault", Standing::parted(side, side, CONNECTED, part))]
 }
 
+/// Blocks of 4 by 4 cells, whose two units are each the other's image; where a block has no letter each cell is a unit.
+const TURNED: [(&str, [&[u8; 4]; 4]); 2] = [
+    ("dominoes in turned pairs", [b"....", b".aa.", b".b..", b".b.."]),
+    ("pieces of 4 cells in mirrored pairs", [b".ab.", b".ab.", b"aabb", b"...."]),
+];
+
+/// Boards on which units fit on what is turned or mirrored, and on nothing else: clear for images alone.
+pub fn turned(side: usize) -> Vec<(&'static str, Standing)> {
+    let part = |block: &[&[u8; 4]; 4], y: usize, x: usize| match block[y % 4][x % 4] {
+        b'.' => 64 * y + x,
+        letter => (y / 4 * 64 + x / 4) * 256 + 65536 + usize::from(letter),
+    };
+    TURNED.map(|(name, block)| (name, Standing::parted(side, side, CONNECTED, |y, x| part(&block, y, x)))).to_vec()
+}
+
 /// Of how many units in 100 that is so, for each of these boards.
 pub fn about_later(side: usize) -> String {
     let told = |(name, board): &(&str, Standing)| {

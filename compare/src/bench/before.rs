@@ -30,7 +30,8 @@ fn asks(side: usize, old: &Archive, new: &Archive) -> Vec<(&'static str, Pair)> 
     let on_puzzle = |(name, laid): (&'static str, Laid)| {
         let puzzle = laid.port();
         let before = old.puzzle(puzzle);
-        (name, asked(places, |buffer| old.puzzle_ask(&before, buffer), |buffer| new.puzzle_ask(&puzzle, buffer)))
+        let now = new.puzzle(puzzle);
+        (name, asked(places, |buffer| old.puzzle_ask(&before, buffer), |buffer| new.puzzle_ask(&now, buffer)))
     };
     let shapes = boards(side).into_iter().chain(later(side)).chain(unfit(side)).map(on_board);
     shapes.chain(puzzles(side).into_iter().map(on_puzzle)).collect()

@@ -3,10 +3,11 @@ use super::paper::{Pair, Row};
 use super::turns::turn;
 use super::{both, row, stack};
 use crate::boards::{Standing, CONNECTED, UNDECIDED, WALL};
-use crate::ledger::singles;
-use crate::port::{self, LentBoard, LentPuzzle, Played, PuzzleRecord};
+use crate::kinds::Kind;
+use crate::port::{self, LentBoard, LentPuzzle, Played};
+use crate::puzzles::Making;
 use crate::random::Random;
-use crate::reference::{self, Board};
+use crate::reference::{self, Board, NO_CLUE};
 use std::hint::black_box;
 
 /// An ask's times, and what it answered.
@@ -89,12 +90,16 @@ impl Laid {
         rust
     }
 
+    /// Of translates.
     pub fn port(&self) -> port::Puzzle {
-        let given: Vec<u16> = self.given.iter().map(|&border| border as u16).collect();
-        let ledger = singles(&self.stands().map(|(border, _)| border as u16).collect::<Vec<_>>());
-        let size = (self.board.height, self.board.width);
-        let ours = port::Puzzle(PuzzleRecord::of(size, &self.board.states, &ledger, &given, &self.clues));
-        ours.check().expect("holds together");
+        self.port_of(Kind::Translates)
+    }
+
+    pub fn port_of(&self, kind: Kind) -> port::Puzzle {
+        let given = self.given.iter().map(|&border| border as u16).collect();
+        let making = Making { given, clues: self.clues.clone(), ..Making::empty(self.board.height, self.board.width) };
+        let mut ours = port::Puzzle::make(&making.of_kind(kind)).expect("made");
+        self.stands().for_each(|(border, state)| ours.decide(border, state == WALL).expect("decided"));
         ours
     }
 }
@@ -225,7 +230,11 @@ pub fn others() -> Vec<Row<Pair>> {
 pub fn stacks(boards: &[(&str, Standing)], puzzles: &[(&str, Laid)]) -> Vec<(String, usize)> {
     let buffer = &mut vec![0; 65536];
     let standing: Vec<port::Board> = boards.iter().map(|(_, b)| port::Board::standing(32, 32, &b.states)).collect();
-    let laid: Vec<port::Puzzle> = puzzles.iter().map(|(_, laid)| laid).chain([&Laid::snake(32)]).map(Laid::port).collect();
+    let in_one_room = boards.iter().map(|(_, board)| Laid { board: board.clone(), given: vec![], clues: vec![NO_CLUE] });
+    let in_one_room: Vec<Laid> = in_one_room.chain([Laid::snake(32)]).collect();
+    let all = || puzzles.iter().map(|(_, laid)| laid).chain(&in_one_room);
+    let laid: Vec<port::Puzzle> = all().map(Laid::port).collect();
+    let images: Vec<port::Puzzle> = all().map(|laid| laid.port_of(Kind::Images)).collect();
     let path: Vec<(usize, usize)> = (0..1023).map(|vertex| (vertex, vertex + 1)).collect();
     let deep = port::City::make(1024, &path, 500).expect("made");
     let cities: Vec<port::City> = ROOMS.iter().map(|&(_, state, count)| room(state, count).1).chain([deep]).collect();
@@ -233,8 +242,10 @@ pub fn stacks(boards: &[(&str, Standing)], puzzles: &[(&str, Laid)]) -> Vec<(Str
     let most = |list: Vec<usize>| list.into_iter().max().expect("inputs");
     let on = |name: &str, used: Vec<usize>| (name.to_string(), most(used));
     let whole: Vec<u16> = (0..=65535).collect();
+    let making = Making { clues: vec![9], ..Making::empty(32, 32) };
     let (mut board, mut puzzle) = (LentBoard(standing[5]), LentPuzzle(laid[0]));
     let (lent_boards, lent_puzzles) = (standing.iter().copied().map(LentBoard), laid.iter().copied().map(LentPuzzle));
+    let lent_images = images.iter().copied().map(LentPuzzle);
     vec![
         on("groups", standing.iter().map(|b| stack::used(|| b.groups_in(true, buffer))).collect()),
         on("path", standing.iter().map(|b| stack::used(|| b.path_in(0, 0, buffer))).collect()),
@@ -245,11 +256,13 @@ pub fn stacks(boards: &[(&str, Standing)], puzzles: &[(&str, Laid)]) -> Vec<(Str
         on("shape check of a lent board", lent_boards.map(|b| stack::used(|| b.ask_in(buffer))).collect()),
         on("room check", cities.iter().map(|c| stack::used(|| c.ask_in(buffer))).collect()),
         on("find", vec![stack::used(|| union.find(0))]),
-        on("puzzle's making", vec![stack::used(|| port::Puzzle::make(32, 32, &[], &[9]).is_ok())]),
+        on("puzzle's making", vec![stack::used(|| port::Puzzle::make(&making).is_ok())]),
         on("puzzle's decide and undo", vec![stack::used(|| turn(&mut laid[0].clone(), 0))]),
         on("puzzle's decide and undo in place", vec![stack::used(|| turn(&mut puzzle, 0))]),
         on("puzzle's ask", laid.iter().map(|p| stack::used(|| p.ask_in(buffer))).collect()),
         on("ask of a lent puzzle", lent_puzzles.map(|p| stack::used(|| p.kind_in(buffer))).collect()),
+        on("puzzle's ask, images", images.iter().map(|p| stack::used(|| p.ask_in(buffer))).collect()),
+        on("ask of a lent puzzle, images", lent_images.map(|p| stack::used(|| p.kind_in(buffer))).collect()),
         on("hand-over", vec![stack::used(|| port::hand_over_in(&whole, buffer))]),
     ]
 }

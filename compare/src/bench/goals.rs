@@ -111,6 +111,7 @@ fn of_memory(stacks: &[(String, usize)]) -> Vec<Goal> {
 
 pub fn all(measured: &Measured) -> Vec<Goal> {
     let mut goals = of_asks(measured);
+    goals.push(measured.kinds.goal());
     goals.extend(traces::goals(&measured.traced));
     goals.push(of_turns(&measured.turned));
     goals.push(of_searches(&measured.searched));

@@ -137,7 +137,7 @@ each from the fresh puzzle, on which what stood there is drawn first, to the fre
 /// to what the solver was told.
 fn check_all(recorded: &Recorded) -> Counts {
     let (making, fresh) = (&recorded.making, LentPuzzle(fresh(&recorded.making)));
-    let (mut rust, mut lent, places) = (rust(making), Both { ones: fresh, strokes: fresh }, 9 * making.height * making.width);
+    let (mut rust, mut lent, places) = (rust(making), Both { ones: fresh, strokes: fresh }, making.places());
     let (mut counts, mut lengths) = (Counts::default(), vec![]);
     for (at, call) in recorded.calls().enumerate() {
         match call {
@@ -177,7 +177,7 @@ fn short(answer: &Answer) -> Told {
 fn time_all(recorded: &Recorded) -> [f64; 3] {
     let (making, fresh) = (&recorded.making, fresh(&recorded.making));
     let (mut theirs, mut ones, mut strokes) = (rust(making), LentPuzzle(fresh), LentPuzzle(fresh));
-    let buffer = &mut vec![0; 9 * making.height * making.width];
+    let buffer = &mut vec![0; making.places()];
     let moves = recorded.calls().map(|call| match call {
         Call::Undo => Move::Back,
         Call::Stroke(entries) => Move::Stroke(entries),

@@ -5,6 +5,7 @@ use super::paper::{micros, number, Pair};
 use super::{both, stack};
 use crate::answers::Answer;
 use crate::boards::{Standing, CONNECTED, UNDECIDED, WALL};
+use crate::kinds::Kind;
 use crate::port;
 use crate::random::Random;
 use crate::reference::{self, NO_CLUE};
@@ -144,14 +145,18 @@ pub fn all() -> Vec<Searched> {
     grids().iter().map(|(name, laid)| timed(name, laid)).collect()
 }
 
-/// The most stack of the call over the started grids.
-pub fn stack() -> usize {
+/// The most stack of the call over the started grids, of each kind.
+pub fn stacks() -> [(String, usize); 2] {
     let buffer = &mut vec![0; CAP * 480];
-    let used = grids().map(|(_, laid)| {
-        let ours = laid.port();
-        stack::used(|| ours.right_boards_in(CAP, buffer))
-    });
-    used.into_iter().max().expect("grids")
+    let mut most = |kind| {
+        let used = grids().map(|(_, laid)| {
+            let ours = laid.port_of(kind);
+            stack::used(|| ours.right_boards_in(CAP, buffer))
+        });
+        used.into_iter().max().expect("grids")
+    };
+    let name = "right boards, 24 borders undecided";
+    [(name.into(), most(Kind::Translates)), (format!("{name}, images"), most(Kind::Images))]
 }
 
 pub fn table(rows: &[Searched]) -> String {

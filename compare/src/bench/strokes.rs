@@ -4,6 +4,7 @@ use super::{both, stack};
 use crate::boards::{Standing, CONNECTED, UNDECIDED, WALL};
 use crate::ledger::{border, is_wall};
 use crate::port::{self, LentBoard, LentPuzzle, Record};
+use crate::puzzles::Making;
 use crate::random::Random;
 use crate::reference::NO_CLUE;
 use std::hint::black_box;
@@ -83,7 +84,7 @@ fn used<R: Record + Send>(mut record: R) -> usize {
 
 pub fn stacks() -> [(String, usize); 4] {
     let board = port::Board::make(32, 32).expect("made");
-    let puzzle = port::Puzzle::make(32, 32, &[], &[NO_CLUE]).expect("made");
+    let puzzle = port::Puzzle::make(&Making::empty(32, 32)).expect("made");
     let named = |name: &str, used| (name.to_string(), used);
     [
         named("board's stroke of all borders, and its undo", used(board)),

@@ -132,7 +132,7 @@ impl<P: Played> Both<P> {
 /// The trace on both sides: each answer and each list is held to the Rust's, and each lent record to that by value.
 pub fn checked(trace: &Trace, fresh: port::Puzzle) -> Counts {
     let making = &trace.making;
-    let (places, mut rust) = (9 * making.height * making.width, rust(making));
+    let (places, mut rust) = (making.places(), rust(making));
     let (mut by_value, mut lent) =
         (Both { ones: fresh, strokes: fresh }, Both { ones: LentPuzzle(fresh), strokes: LentPuzzle(fresh) });
     let (mut counts, mut lengths) = (Counts::default(), vec![]);
@@ -166,7 +166,7 @@ pub fn checked(trace: &Trace, fresh: port::Puzzle) -> Counts {
 }
 
 pub fn fresh(making: &Making) -> port::Puzzle {
-    port::Puzzle::make(making.height, making.width, &making.given, &making.clues).expect("made")
+    port::Puzzle::make(making).expect("made")
 }
 
 pub fn rust(making: &Making) -> Puzzle {
@@ -218,7 +218,7 @@ pub fn timed(trace: &Trace, fresh: port::Puzzle) -> Times {
     let (mut theirs, mut unverified) = (rust(making), rust(making).unverified());
     let (mut ones, mut strokes) = (fresh, fresh);
     let (mut lent_ones, mut lent_strokes) = (LentPuzzle(fresh), LentPuzzle(fresh));
-    let buffer = &mut vec![0; 9 * making.height * making.width];
+    let buffer = &mut vec![0; making.places()];
     let mut best = vec![[f64::MAX; 6]; parts.len()];
     let (mut rounds, began) = (0, clock::now());
     while rounds < ROUNDS.0 || rounds < ROUNDS.1 && clock::now() - began < LONG {

@@ -2,6 +2,7 @@
 //! answers.
 use super::{until, Limits};
 use crate::files::{self, Case, Line};
+use crate::kinds::Kind;
 use crate::port::file::{self as port, Lent, Parts, LINE_ROOM};
 use crate::port::PuzzleRecord;
 use crate::random::Random;
@@ -24,6 +25,8 @@ struct Counts {
     /// Files that were damaged, and those of them that are sound all the same.
     damaged: u64,
     still_sound: u64,
+    /// Those whose calls were run on puzzles of images.
+    images: u64,
     /// Files that were run through the program.
     programs: u64,
     /// Lines by kind.
@@ -199,6 +202,20 @@ impl Compared {
         }
     }
 
+    /// The calls of a sound file on a puzzle of images, which the caller hands in.
+    fn on_images(&mut self, low: usize, high: usize, length: usize) {
+        let mut case = files::sound(&mut self.random, low, high, length);
+        case.making = case.making.of_kind(Kind::Images);
+        let Ok((lines, left)) = files::printed(Some(&case)) else { return };
+        self.tally.case();
+        self.counts.images += 1;
+        let bytes = files::encode(&case);
+        let mut opened = port::open(&bytes);
+        opened.puzzle.kind = Kind::Images.number();
+        self.one_by_one(&bytes, &opened, &lines, &left);
+        self.at_once(&bytes, &opened, &lines, &left);
+    }
+
     /// A file through the functions and through the program, which finds it, or none, in a folder of its own: what refuses it, and its lines.
     /// The program's status and standard error are held to SPEC 5.8 and 5.9.
     pub(super) fn program(&mut self, folder: &Path, bytes: Option<&[u8]>) -> (u8, String) {
@@ -312,6 +329,8 @@ pub fn run(limits: &Limits) -> Tally {
         let bytes = files::scrap(&mut compared.random);
         compared.damaged(&bytes);
     });
-    let Counts { damaged, still_sound, .. } = compared.counts;
-    compared.told(&format!("{damaged} damaged ({still_sound} of them sound)"))
+    until(limits.time / 4, || compared.on_images(1, 8, 60));
+    until(limits.time / 4, || compared.on_images(25, 32, 60));
+    let Counts { damaged, still_sound, images, .. } = compared.counts;
+    compared.told(&format!("{damaged} damaged ({still_sound} of them sound), {images} on puzzles of images"))
 }

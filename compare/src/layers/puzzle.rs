@@ -1,13 +1,13 @@
 //! The puzzle: making, decide, undo and ask beside the checks that `solve_sendai` lays out; strokes by the model, damaged records by SPEC's
-//! questions. Each turn and each ask is also put to the puzzle as it is lent.
+//! questions. Each turn and each ask is also put to the puzzle as it is lent. Layer `images` puts puzzles of that kind to the same.
 use super::{stroke_of_one, until, Limits};
 use crate::answers::Answer;
 use crate::boards::{self, border_count, Standing, WALL};
 use crate::ledger::{Ledger, Told};
-use crate::port::{self, LentPuzzle, Played, PuzzleRecord, Record};
+use crate::kinds::{self, Kind};
+use crate::port::{self, LentPuzzle, Played, PuzzleRecord, Record, PLACES};
 use crate::puzzles::{self, Making};
 use crate::random::Random;
-use crate::reference::Puzzle;
 use crate::runs::{self, Call, Turn};
 use crate::sample::{code, numbers, record, Sample, LARGEST};
 use crate::tally::Tally;
@@ -21,40 +21,43 @@ pub(super) struct Compared {
 /// A puzzle on both sides.
 struct Both<'a> {
     making: &'a Making,
-    rust: Told<Puzzle>,
+    rust: Told<kinds::Puzzle>,
     ours: port::Puzzle,
 }
 
 impl Both<'_> {
-    fn places(&self) -> usize {
-        9 * self.making.height * self.making.width
-    }
-
     /// The record that stands for the Rust's states and the strokes.
     fn expected(&self) -> PuzzleRecord {
-        let size = (self.making.height, self.making.width);
         let (states, names) = self.rust.record();
-        PuzzleRecord::of(size, &states, &names, &self.making.given, &self.making.clues)
+        PuzzleRecord::of(self.making, &states, &names)
     }
 }
 
 impl Compared {
     pub(super) fn new(layer: &'static str) -> Compared {
-        Compared { tally: Tally::new(layer), answers: [0; 3] }
+        Compared::of(Tally::new(layer))
+    }
+
+    pub(super) fn of(tally: Tally) -> Compared {
+        Compared { tally, answers: [0; 3] }
+    }
+
+    pub(super) fn told(&self) {
+        let [clear, shape, room] = self.answers;
+        println!("{}: accepted asks: {clear} clear, {shape} of the shape check, {room} of a room", self.tally.layer);
     }
 
     /// Makes a puzzle on both sides; where SPEC 3 refuses it and the Rust has a word on it, that is the same one.
     fn made<'a>(&mut self, making: &'a Making, absent: bool) -> Option<Both<'a>> {
         self.tally.case();
         let on = || format!("{making:?}");
-        let (height, width) = (making.height, making.width);
         let code = making.refusal();
-        let ours = port::Puzzle::make(height, width, &making.given, &making.clues);
+        let ours = port::Puzzle::make(making);
         self.tally.same(&code, &ours.as_ref().err().copied().unwrap_or(0), on);
         if code != 0 && code != 9 {
             return None;
         }
-        let rust = Puzzle::new(height, width, &making.walls(), &making.clues, absent);
+        let rust = kinds::Puzzle::new(making, absent);
         self.tally.same(&code, &rust.as_ref().err().copied().unwrap_or(0), on);
         let both = Both { making, rust: Told::new(rust.ok()?, &making.given), ours: ours.ok()? };
         self.tally.same(&both.expected(), &both.ours.0, on);
@@ -99,7 +102,7 @@ impl Compared {
 
     /// Asks with a buffer that is just long enough, one that is longer, one that is a place short, and none; and the record's check.
     fn ask_all(&mut self, both: &mut Both, on: impl Fn() -> String) {
-        let places = both.places();
+        let places = both.making.places();
         self.ask(both, places, &on);
         self.ask(both, places + 7, &on);
         for short in [places - 1, 0] {
@@ -111,7 +114,7 @@ impl Compared {
 
     /// Every set of standing borders that holds what stands, with borders from `free` on: an ask on each.
     fn walk(&mut self, both: &mut Both, free: &[usize]) {
-        let (places, record) = (both.places(), both.ours.0);
+        let (places, record) = (both.making.places(), both.ours.0);
         self.ask(both, places, || format!("{record:?}"));
         for (at, &border) in free.iter().enumerate() {
             for wall in [false, true] {
@@ -130,7 +133,7 @@ impl Compared {
         for (at, turn) in turns.iter().enumerate() {
             let on = || format!("{making:?}, turn {at} of {turns:?}");
             self.turn(&mut both, turn, on);
-            let places = both.places();
+            let places = making.places();
             self.ask(&mut both, places, on);
         }
         self.ask_all(&mut both, || format!("{making:?}, {turns:?}"));
@@ -164,7 +167,7 @@ impl Compared {
             self.tally.same(&record, &after.0, on);
             self.lent_turn(ours, turn, (answer, after), on);
         }
-        for places in [0, 9216] {
+        for places in [0, PLACES] {
             let on = || format!("{record:?}");
             let answer = self.asked(ours, places, on);
             self.tally.same(&Err(code), &answer, on);
@@ -175,8 +178,10 @@ impl Compared {
     fn sound(&mut self, random: &mut Random, record: PuzzleRecord) {
         let board = &record.board;
         let (given, clues) = (&record.given[..record.given_len], &record.clues[..record.clues_len]);
-        let making = Making { height: board.height, width: board.width, given: given.to_vec(), clues: clues.to_vec() };
-        let rust = Puzzle::new(making.height, making.width, &making.walls(), &making.clues, true).expect("made");
+        let kind = Kind::of(record.kind).expect("it holds together");
+        let making = Making { given: given.to_vec(), clues: clues.to_vec(), ..Making::empty(board.height, board.width) };
+        let making = making.of_kind(kind);
+        let rust = kinds::Puzzle::new(&making, true).expect("made");
         let mut both = Both { making: &making, rust: Told::new(rust, &making.given), ours: port::Puzzle(record) };
         let borders = border_count(board.height, board.width);
         let ledger = Ledger::of(&board.states[..borders], &board.ledger[..board.len]);
@@ -207,19 +212,30 @@ pub(super) fn after(mut record: PuzzleRecord, ledger: &Ledger) -> PuzzleRecord {
     record
 }
 
+/// Every puzzle of a size: all standing sets.
+pub(super) fn every_set(compared: &mut Compared, random: &mut Random, kind: Kind, (height, width): (usize, usize)) {
+    for making in puzzles::every(height, width) {
+        let making = making.of_kind(kind);
+        let Some(mut both) = compared.made(&making, random.chance(1, 2)) else { continue };
+        let free = (0..border_count(height, width)).filter(|&border| !making.given.contains(&(border as u16)));
+        compared.walk(&mut both, &free.collect::<Vec<_>>());
+    }
+}
+
 /// Structured boards of a size, each with some makings, as they are and stirred.
-fn structured(compared: &mut Compared, random: &mut Random, height: usize, width: usize) {
+pub(super) fn structured(compared: &mut Compared, random: &mut Random, kind: Kind, (height, width): (usize, usize)) {
     for (_, board) in boards::structured(height, width) {
         for times in [0, 0, 1, 3] {
             let mut board = board.clone().stirred(random, times);
-            let making = puzzles::on(random, &mut board);
+            let making = puzzles::on(random, &mut board).of_kind(kind);
             compared.standing(&making, &board);
         }
     }
 }
 
-fn random_run(compared: &mut Compared, random: &mut Random, low: usize, high: usize) {
+pub(super) fn random_run(compared: &mut Compared, random: &mut Random, kind: Kind, low: usize, high: usize) {
     let (board, making) = puzzles::drawn(random, low, high);
+    let making = making.of_kind(kind);
     let making = if random.chance(1, 8) { puzzles::spoilt(random, making) } else { making };
     let length = random.below(40);
     let turns = if random.chance(1, 2) {
@@ -231,9 +247,10 @@ fn random_run(compared: &mut Compared, random: &mut Random, low: usize, high: us
     compared.run(&making, random.chance(1, 2), &turns);
 }
 
-fn random_record(compared: &mut Compared, random: &mut Random) {
+/// Damaged or not, a record may become one of the other kind.
+pub(super) fn random_record(compared: &mut Compared, random: &mut Random, kind: Kind) {
     let (board, making) = puzzles::drawn(random, 1, 8);
-    let record = puzzles::record(random, &board, &making);
+    let record = puzzles::record(random, &board, &making.of_kind(kind));
     let record = puzzles::damaged(random, record);
     compared.record(random, record);
 }
@@ -243,34 +260,38 @@ pub fn run(limits: &Limits) -> Tally {
     let random = &mut Random::new(limits.seed);
     // to 6 borders, and to 7 where there are two rows and columns
     let small = |&(height, width): &(usize, usize)| border_count(height, width) < 7 || (height > 1 && width > 1);
-    for (height, width) in boards::sizes(limits.borders.min(7)).into_iter().filter(small) {
-        for making in puzzles::every(height, width) {
-            let Some(mut both) = compared.made(&making, random.chance(1, 2)) else { continue };
-            let free = (0..border_count(height, width)).filter(|&border| !making.given.contains(&(border as u16)));
-            compared.walk(&mut both, &free.collect::<Vec<_>>());
-        }
+    let kind = Kind::Translates;
+    for size in boards::sizes(limits.borders.min(7)).into_iter().filter(small) {
+        every_set(&mut compared, random, kind, size);
     }
-    for (height, width) in super::SIZES {
-        structured(&mut compared, random, height, width);
+    for size in super::SIZES {
+        structured(&mut compared, random, kind, size);
     }
-    until(limits.time, || random_run(&mut compared, random, 1, 8));
+    until(limits.time, || random_run(&mut compared, random, kind, 1, 8));
     until(limits.time, || {
         let (board, making) = puzzles::drawn(random, 1, 8);
         compared.standing(&making, &board);
     });
-    until(limits.time / 2, || random_record(&mut compared, random));
+    until(limits.time / 2, || random_record(&mut compared, random, kind));
     until(limits.time / 2, || {
         let (board, making) = puzzles::drawn(random, 25, 32);
         compared.standing(&making, &board);
-        random_run(&mut compared, random, 32, 32);
+        random_run(&mut compared, random, kind, 32, 32);
     });
-    let [clear, shape, room] = compared.answers;
-    println!("puzzle: accepted asks: {clear} clear, {shape} of the shape check, {room} of a room");
+    compared.told();
     compared.tally.done()
 }
 
+/// The call that makes a puzzle of a kind.
+pub(super) fn making_call(kind: Kind) -> &'static str {
+    match kind {
+        Kind::Translates => "pm",
+        Kind::Images => "pi",
+    }
+}
+
 /// An ask with so many places.
-fn store_ask(sample: &mut Sample, rust: &mut Puzzle, places: usize, needed: usize) {
+fn store_ask(sample: &mut Sample, rust: &mut kinds::Puzzle, places: usize, needed: usize) {
     let answer = match rust.ask() {
         _ if places < needed => "6".into(),
         Answer::Clear => "0".into(),
@@ -281,15 +302,15 @@ fn store_ask(sample: &mut Sample, rust: &mut Puzzle, places: usize, needed: usiz
 }
 
 /// A making, calls with an ask after each, and the record that they left.
-fn store(sample: &mut Sample, random: &mut Random, making: &Making, calls: &[Call]) {
+pub(super) fn store(sample: &mut Sample, random: &mut Random, making: &Making, calls: &[Call]) {
     sample.lists(&making.given, &making.clues);
-    sample.call("pm", making.height, making.width, making.refusal());
+    sample.call(making_call(making.kind), making.height, making.width, making.refusal());
     if making.refusal() != 0 {
         // a record of zeros
         return sample.call("pr", 0, 0, record(&[], &[]));
     }
-    let mut rust = Puzzle::new(making.height, making.width, &making.walls(), &making.clues, true).expect("made");
-    let needed = 9 * making.height * making.width;
+    let mut rust = kinds::Puzzle::new(making, true).expect("made");
+    let needed = making.places();
     store_ask(sample, &mut rust, needed, needed);
     for &call in calls {
         match call {
@@ -315,14 +336,14 @@ pub fn sample(sample: &mut Sample) {
         store(sample, random, &making, &calls);
     }
     for given in [vec![0, 0], vec![1, 0]] {
-        store(sample, random, &Making { height: 1, width: 3, given, clues: vec![1] }, &[]);
+        store(sample, random, &Making { given, clues: vec![1], ..Making::empty(1, 3) }, &[]);
     }
     // the largest size: squares of 4 by 4, walled off, of which the last is to hold 15 units
     let board = Standing::parted(32, 32, boards::CONNECTED, |y, x| y / 4 * 8 + x / 4);
     let walls = (0..board.states.len()).filter(|&border| board.states[border] == WALL);
     let given: Vec<u16> = walls.map(|border| border as u16).collect();
     let clues = (0..64).map(|room| if room < 63 { 1 } else { 15 }).collect();
-    let making = Making { height: 32, width: 32, given, clues };
+    let making = Making { given, clues, ..Making::empty(32, 32) };
     let last = [(3, 0), (3, 1), (3, 2)].map(|(y, x)| (28 + y) * 31 + 28 + x);
     let calls = last.map(|border| Call::Decide { border, wall: false });
     store(sample, random, &making, &calls);

@@ -7,14 +7,14 @@
 //! - Refusals: 24 and 25 undecided borders, products beyond 64 bits, damaged records; and a byte short in each case above.
 //!
 //! The Rust has judged every full board of these sizes by itself, 4 by 4 included (2 to the 24; left out below borders=12).
-use super::{until, Limits};
+use super::{puzzle, until, Limits};
 use crate::answers::{Answer, Boards};
 use crate::boards::{self, border_count, Standing, CONNECTED, UNDECIDED, WALL};
 use crate::ledger;
 use crate::port::{self, PuzzleRecord};
 use crate::puzzles::{self, Making};
 use crate::random::Random;
-use crate::reference::{Board, Puzzle, NO_CLUE};
+use crate::reference::{Board, Puzzle};
 use crate::sample::{code, numbers, Sample, LARGEST};
 use crate::tally::Tally;
 use std::collections::BTreeSet;
@@ -23,7 +23,7 @@ const DRAWN: usize = 24;
 const SETS: usize = 8;
 
 /// Full boards by their states, in rising order: border 0 first, Connected before Wall.
-type Full = Vec<Vec<u8>>;
+pub(super) type Full = Vec<Vec<u8>>;
 
 /// The full boards of a size on which the Rust's shape check finds nothing: each one is asked. That check knows nothing of a
 /// puzzle but its Walls, so its verdicts hold for all puzzles of the size.
@@ -50,7 +50,7 @@ fn fill(rust: &mut Board, borders: usize, states: &mut Vec<u8>, clear: &mut Full
 }
 
 /// Every full board over what stands.
-fn extensions(states: &[u8]) -> Full {
+pub(super) fn extensions(states: &[u8]) -> Full {
     let mut list = vec![states.to_vec()];
     for border in (0..states.len()).filter(|&border| states[border] == UNDECIDED) {
         let with = |mut board: Vec<u8>, state| {
@@ -114,22 +114,26 @@ fn refusal(record: &PuzzleRecord, cap: usize, room: usize) -> u8 {
 }
 
 /// The tally; and how many standing sets a part of the layer had, and how many right boards over them.
-struct Compared {
-    tally: Tally,
+pub(super) struct Compared {
+    pub(super) tally: Tally,
     sets: usize,
     boards: usize,
 }
 
 impl Compared {
+    pub(super) fn new(tally: Tally) -> Compared {
+        Compared { tally, sets: 0, boards: 0 }
+    }
+
     /// Says what a part of the layer had.
-    fn told(&mut self, part: &str) {
-        println!("right_boards: {part}: {} standing sets, {} right boards over them", self.sets, self.boards);
+    pub(super) fn told(&mut self, part: &str) {
+        println!("{}: {part}: {} standing sets, {} right boards over them", self.tally.layer, self.sets, self.boards);
         (self.sets, self.boards) = (0, 0);
     }
 
     /// What stands on a puzzle, with caps of 0, 1, any, just all and one more, each into just the bytes that it needs, and
     /// once into a byte less.
-    fn standing(&mut self, random: &mut Random, making: &Making, right: &Full, board: &Standing) {
+    pub(super) fn standing(&mut self, random: &mut Random, making: &Making, right: &Full, board: &Standing) {
         self.tally.case();
         let over = over(right, board);
         self.sets += 1;
@@ -191,14 +195,14 @@ impl Compared {
 }
 
 /// A full board that passes the shape check, and a puzzle on it.
-fn laid(random: &mut Random, height: usize, width: usize, shapes: &Full) -> (Standing, Making) {
+pub(super) fn laid(random: &mut Random, height: usize, width: usize, shapes: &Full) -> (Standing, Making) {
     let mut full = Standing { height, width, states: random.pick(shapes).clone() };
     let making = puzzles::on(random, &mut full);
     (full, making)
 }
 
 /// A full board with so many borders taken back that are not given, and now and then another one changed.
-fn started(random: &mut Random, making: &Making, full: &Standing, open: usize) -> Standing {
+pub(super) fn started(random: &mut Random, making: &Making, full: &Standing, open: usize) -> Standing {
     let mut board = full.clone();
     let mut free = free(making);
     random.shuffle(&mut free);
@@ -242,7 +246,7 @@ fn sampled(compared: &mut Compared, random: &mut Random, limits: &Limits) {
 /// A record without given walls and clues whose first borders are Walls.
 fn walled(height: usize, width: usize, walls: usize) -> PuzzleRecord {
     let names = ledger::singles(&Vec::from_iter(0..walls as u16));
-    PuzzleRecord::of((height, width), &vec![WALL; walls], &names, &[], &[NO_CLUE])
+    PuzzleRecord::of(&Making::empty(height, width), &vec![WALL; walls], &names)
 }
 
 /// Each refusal and what stands just before it, and their order.
@@ -284,7 +288,7 @@ fn damaged(compared: &mut Compared, random: &mut Random) {
 }
 
 pub fn run(limits: &Limits) -> Tally {
-    let mut compared = Compared { tally: Tally::new("right_boards"), sets: 0, boards: 0 };
+    let mut compared = Compared::new(Tally::new("right_boards"));
     let random = &mut Random::new(limits.seed);
     let mut puzzles = 0;
     for (height, width) in boards::sizes(limits.borders.min(9)) {
@@ -309,7 +313,7 @@ pub fn run(limits: &Limits) -> Tally {
 /// Makes a puzzle and decides what stands on it.
 fn store(sample: &mut Sample, making: &Making, board: &Standing) {
     sample.lists(&making.given, &making.clues);
-    sample.call("pm", making.height, making.width, making.refusal());
+    sample.call(puzzle::making_call(making.kind), making.height, making.width, making.refusal());
     let mut rust = Puzzle::new(making.height, making.width, &making.walls(), &making.clues, true).expect("made");
     for border in free(making).into_iter().filter(|&border| board.states[border] != UNDECIDED) {
         let state = board.states[border];
@@ -319,7 +323,7 @@ fn store(sample: &mut Sample, making: &Making, board: &Standing) {
 
 /// The right boards over what stands, a word of digits a board, with caps of 0, 1, one less than all, all and one more, each into
 /// just the bytes that it needs; and once into a byte less.
-fn store_boards(sample: &mut Sample, making: &Making, right: &Full, board: &Standing) {
+pub(super) fn store_boards(sample: &mut Sample, making: &Making, right: &Full, board: &Standing) {
     store(sample, making, board);
     let over = over(right, board);
     let (borders, all) = (board.states.len(), over.len());

@@ -1,6 +1,8 @@
 //! Strokes on boards and puzzles, by value and in place, and on room graphs: the refusals that tell the order of the questions; every small
 //! record beside question 2; and that asks don't tell how the standing borders were cut into strokes, nor is a fault lost by it.
 use super::{until, Limits};
+use crate::boards::Standing;
+use crate::kinds::Puzzle;
 use crate::ledger::{self, Fault, Ledger, Reference, Told};
 use crate::port::{self, LentBoard, LentPuzzle, PuzzleRecord, Record};
 use crate::puzzles::{self, Making};
@@ -147,8 +149,9 @@ fn every_small(tally: &mut Tally) -> Count {
         for set in 0..1 << borders {
             let given: Vec<u16> = (0..borders as u16).filter(|border| set >> border & 1 == 1).collect();
             let clues = vec![NO_CLUE; given.len() + 1];
+            let making = Making { given: given.clone(), clues, ..Making::empty(size.0, size.1) };
             let puzzle = |(states, names, len): &Fronts| {
-                let mut record = PuzzleRecord::of(size, states, names, &given, &clues);
+                let mut record = PuzzleRecord::of(&making, states, names);
                 record.board.len = *len;
                 port::Puzzle(record)
             };
@@ -162,9 +165,9 @@ fn every_small(tally: &mut Tally) -> Count {
 
 /// How many cuttings were asked, and how many faults were drawn again.
 #[derive(Default)]
-struct Cuttings {
-    asked: u64,
-    again: u64,
+pub(super) struct Cuttings {
+    pub(super) asked: u64,
+    pub(super) again: u64,
 }
 
 /// A fresh record on both sides, and the port's as it is lent, if it can be.
@@ -225,20 +228,25 @@ impl<P: Record, L: Record, R: Fn() -> Q, Q: Reference> Fresh<P, L, R> {
     }
 }
 
+/// A puzzle on which a board's borders stand.
+pub(super) fn on_puzzle(tally: &mut Tally, random: &mut Random, count: &mut Cuttings, making: &Making, board: &Standing) {
+    let rust = || Puzzle::new(making, true).expect("made");
+    let port = port::Puzzle::make(making).expect("made");
+    let fresh = Fresh { port, lent: Some(LentPuzzle(port)), rust, given: making.given.clone() };
+    fresh.compare(tally, random, &puzzles::entries(board, making), count, || format!("{making:?}, {board:?}"));
+}
+
 /// A board and a puzzle on which the same borders stand, and the graph of a room.
 fn cuttings(tally: &mut Tally, random: &mut Random, count: &mut [Cuttings; 3], most: usize) {
     let (board, making) = puzzles::drawn(random, 1, most);
-    let Making { height, width, given, clues } = &making;
+    let Making { height, width, .. } = &making;
     let on = || format!("{making:?}, {board:?}");
     let rust = || reference::Board::new(*height, *width);
     let port = port::Board::make(*height, *width).expect("made");
     let entries = puzzles::entries(&board, &Making::empty(*height, *width));
     Fresh { port, lent: Some(LentBoard(port)), rust, given: vec![] }.compare(tally, random, &entries, &mut count[0], on);
 
-    let rust = || reference::Puzzle::new(*height, *width, &making.walls(), clues, true).expect("made");
-    let port = port::Puzzle::make(*height, *width, given, clues).expect("made");
-    let entries = puzzles::entries(&board, &making);
-    Fresh { port, lent: Some(LentPuzzle(port)), rust, given: given.clone() }.compare(tally, random, &entries, &mut count[1], on);
+    on_puzzle(tally, random, &mut count[1], &making, &board);
 
     let cells = random.within(1, 12);
     let edges: Vec<(usize, usize)> = (0..random.below(16)).map(|_| (random.below(cells), random.below(cells))).collect();
@@ -256,7 +264,7 @@ pub fn run(limits: &Limits) -> Tally {
     let board = port::Board::make(1, 2).expect("made");
     tells(&mut tally, board, "board");
     tells(&mut tally, LentBoard(board), "board in place");
-    let puzzle = port::Puzzle::make(1, 2, &[], &[NO_CLUE]).expect("made");
+    let puzzle = port::Puzzle::make(&Making::empty(1, 2)).expect("made");
     tells(&mut tally, puzzle, "puzzle");
     tells(&mut tally, LentPuzzle(puzzle), "puzzle in place");
     tells(&mut tally, port::City::make(2, &[(0, 1)], 1).expect("made"), "room graph");
@@ -306,7 +314,7 @@ pub fn sample(sample: &mut Sample) {
     let random = &mut Random::new(12);
     for _ in 0..40 {
         let (_, making) = puzzles::drawn(random, 1, 4);
-        let Making { height, width, given, clues } = &making;
+        let Making { height, width, given, clues, .. } = &making;
         sample.call("bm", *height, *width, 0);
         let mut told = Told::new(reference::Board::new(*height, *width), &[]);
         let turns = runs::turns(random, told.ledger.clone(), 10, 4);
@@ -316,10 +324,10 @@ pub fn sample(sample: &mut Sample) {
 
         sample.lists(given, clues);
         sample.call("pm", *height, *width, 0);
-        let rust = reference::Puzzle::new(*height, *width, &making.walls(), clues, true).expect("made");
+        let rust = Puzzle::new(&making, true).expect("made");
         let mut told = Told::new(rust, given);
         let turns = runs::turns(random, told.ledger.clone(), 10, 4);
-        store(sample, 'p', &mut told, &turns, 9 * height * width);
+        store(sample, 'p', &mut told, &turns, making.places());
         let (states, names) = told.record();
         sample.call("pr", states.len(), 0, named(&names, &states));
 

@@ -1,7 +1,7 @@
 //! Boards and puzzles that are lent, and changed or asked where they are.
 use super::puzzle::answered;
 use super::record::{shape, Played, Record};
-use super::{accepted, c, judged, Board, Puzzle};
+use super::{accepted, c, judged, Board, Puzzle, PLACES};
 use crate::answers::Answer;
 use crate::ledger::{fault_of, Fault};
 use std::cell::UnsafeCell;
@@ -78,7 +78,7 @@ impl Record for LentPuzzle {
     }
 
     fn fault(&self) -> Result<Fault, u8> {
-        self.answer(9216).map(fault_of)
+        self.answer(PLACES).map(fault_of)
     }
 }
 

@@ -45,17 +45,60 @@ impl Library {
     }
 }
 
-type Decide = unsafe extern "C" fn(c::Puzzle, usize, bool) -> c::PuzzleMade;
-type Undo = unsafe extern "C" fn(c::Puzzle) -> c::PuzzleMade;
+/// A puzzle's calls by value.
+struct ByValue<K> {
+    ask: unsafe extern "C" fn(c::PuzzleOf<K>, *mut u16, usize) -> c::Outcome,
+    decide: unsafe extern "C" fn(c::PuzzleOf<K>, usize, bool) -> c::PuzzleMadeOf<K>,
+    undo: unsafe extern "C" fn(c::PuzzleOf<K>) -> c::PuzzleMadeOf<K>,
+}
+
+// The buffer lives through its call.
+impl<K: Copy> ByValue<K> {
+    /// The functions are as crates/exports declares them.
+    unsafe fn find(library: &Library) -> ByValue<K> {
+        ByValue {
+            ask: std::mem::transmute(library.must_find("sendai_puzzle_ask")),
+            decide: std::mem::transmute(library.must_find("sendai_puzzle_decide")),
+            undo: std::mem::transmute(library.must_find("sendai_puzzle_undo")),
+        }
+    }
+
+    fn ask(&self, puzzle: &c::PuzzleOf<K>, buffer: &mut [u16]) -> Told {
+        let told = unsafe { (self.ask)(*puzzle, buffer.as_mut_ptr(), buffer.len()) };
+        (told.kind, told.length)
+    }
+
+    fn turn(&self, puzzle: &mut c::PuzzleOf<K>, border: usize) {
+        let decided = unsafe { (self.decide)(*puzzle, border, true) };
+        accepted(decided.code).expect("decided");
+        *puzzle = decided.puzzle;
+        let undone = unsafe { (self.undo)(*puzzle) };
+        accepted(undone.code).expect("undone");
+        *puzzle = undone.puzzle;
+    }
+}
+
+enum Calls {
+    Kinds(ByValue<u8>),
+    /// From before images.
+    Kindless(ByValue<()>),
+}
+
+/// A puzzle's record as an archive has it.
+#[derive(Clone, Copy, PartialEq)]
+pub enum Theirs {
+    Kinds(c::Puzzle),
+    Kindless(c::PuzzleOf<()>),
+}
+
 type DecideInPlace = unsafe extern "C" fn(&mut c::Puzzle, usize, bool) -> u8;
 type UndoInPlace = unsafe extern "C" fn(&mut c::Puzzle) -> u8;
 
-/// An archive whose records are laid out as those of this one.
+/// An archive whose records are laid out as those of this one, but for a puzzle's kind.
 pub struct Archive {
     board: unsafe extern "C" fn(c::Board, *mut u16, usize) -> c::Answer,
-    puzzle: unsafe extern "C" fn(c::Puzzle, *mut u16, usize) -> c::Outcome,
-    by_value: (Decide, Undo),
-    /// Where the archive has them.
+    puzzle: Calls,
+    /// Where the archive has them, and kinds.
     in_place: Option<(DecideInPlace, UndoInPlace)>,
     /// Whether it knows strokes. Where it doesn't, the ledger has borders alone.
     strokes: bool,
@@ -70,16 +113,14 @@ impl Archive {
     pub fn load(archive: &Path, folder: &Path, name: &str) -> Archive {
         let library = Library::load(archive, folder, name);
         let lent = ["sendai_puzzle_decide_in_place", "sendai_puzzle_undo_in_place"].map(|name| library.find(name));
+        let kinds = library.find("sendai_puzzle_make_images").is_some();
+        let lent = lent[0].zip(lent[1]).filter(|_| kinds);
         // the functions are as crates/exports declares them
         unsafe {
             Archive {
                 board: std::mem::transmute(library.must_find("sendai_board_ask")),
-                puzzle: std::mem::transmute(library.must_find("sendai_puzzle_ask")),
-                by_value: (
-                    std::mem::transmute(library.must_find("sendai_puzzle_decide")),
-                    std::mem::transmute(library.must_find("sendai_puzzle_undo")),
-                ),
-                in_place: lent[0].zip(lent[1]).map(|(decide, undo)| (std::mem::transmute(decide), std::mem::transmute(undo))),
+                puzzle: if kinds { Calls::Kinds(ByValue::find(&library)) } else { Calls::Kindless(ByValue::find(&library)) },
+                in_place: lent.map(|(decide, undo)| (std::mem::transmute(decide), std::mem::transmute(undo))),
                 strokes: library.find("sendai_puzzle_stroke").is_some(),
             }
         }
@@ -97,8 +138,13 @@ impl Archive {
         Board(self.named(board.0))
     }
 
-    pub fn puzzle(&self, puzzle: Puzzle) -> Puzzle {
-        Puzzle(c::Puzzle { board: self.named(puzzle.0.board), ..puzzle.0 })
+    pub fn puzzle(&self, puzzle: Puzzle) -> Theirs {
+        let c::PuzzleOf { board, given, given_len, clues, clues_len, kind } = puzzle.0;
+        let board = self.named(board);
+        match self.puzzle {
+            Calls::Kinds(_) => Theirs::Kinds(c::PuzzleOf { board, given, given_len, clues, clues_len, kind }),
+            Calls::Kindless(_) => Theirs::Kindless(c::PuzzleOf { board, given, given_len, clues, clues_len, kind: () }),
+        }
     }
 
     pub fn board_ask(&self, board: &Board, buffer: &mut [u16]) -> Told {
@@ -106,19 +152,21 @@ impl Archive {
         (u8::from(told.fault), told.length)
     }
 
-    pub fn puzzle_ask(&self, puzzle: &Puzzle, buffer: &mut [u16]) -> Told {
-        let told = unsafe { (self.puzzle)(puzzle.0, buffer.as_mut_ptr(), buffer.len()) };
-        (told.kind, told.length)
+    pub fn puzzle_ask(&self, puzzle: &Theirs, buffer: &mut [u16]) -> Told {
+        match (&self.puzzle, puzzle) {
+            (Calls::Kinds(calls), Theirs::Kinds(puzzle)) => calls.ask(puzzle, buffer),
+            (Calls::Kindless(calls), Theirs::Kindless(puzzle)) => calls.ask(puzzle, buffer),
+            _ => panic!("a record of another archive"),
+        }
     }
 
     /// A decide as Wall and an undo, by value.
-    pub fn turn(&self, puzzle: &mut Puzzle, border: usize) {
-        let decided = unsafe { (self.by_value.0)(puzzle.0, border, true) };
-        accepted(decided.code).expect("decided");
-        puzzle.0 = decided.puzzle;
-        let undone = unsafe { (self.by_value.1)(puzzle.0) };
-        accepted(undone.code).expect("undone");
-        puzzle.0 = undone.puzzle;
+    pub fn turn(&self, puzzle: &mut Theirs, border: usize) {
+        match (&self.puzzle, puzzle) {
+            (Calls::Kinds(calls), Theirs::Kinds(puzzle)) => calls.turn(puzzle, border),
+            (Calls::Kindless(calls), Theirs::Kindless(puzzle)) => calls.turn(puzzle, border),
+            _ => panic!("a record of another archive"),
+        }
     }
 
     /// The same where the puzzle is.

@@ -3,17 +3,22 @@ use super::file::{Lent, BEHIND};
 use super::{accepted, c, Board, UNTOUCHED};
 use crate::answers::{Answer, Boards};
 use crate::boards::border_count;
+use crate::kinds::Kind;
+use crate::puzzles::Making;
 use crate::reference::NO_CLUE;
 use std::fmt::{Debug, Formatter, Result as Formatted};
 
 pub use c::Puzzle as PuzzleRecord;
 
+/// As many places as any ask needs.
+pub const PLACES: usize = 16_384;
+
 impl PuzzleRecord {
-    /// A record with these fronts of its arrays, and 0 behind them; the ledger is told by its names.
-    pub fn of(size: (usize, usize), states: &[u8], ledger: &[u16], given: &[u16], clues: &[u16]) -> PuzzleRecord {
-        let mut record = PuzzleRecord::zero();
+    /// What a making says, with these fronts of states and ledger, and 0 behind all fronts; the ledger is told by its names.
+    pub fn of(making: &Making, states: &[u8], ledger: &[u16]) -> PuzzleRecord {
+        let (mut record, Making { given, clues, .. }) = (PuzzleRecord::zero(), making);
         let board = &mut record.board;
-        (board.height, board.width) = size;
+        (board.height, board.width) = (making.height, making.width);
         board.states[..states.len()].copy_from_slice(states);
         board.ledger[..ledger.len()].copy_from_slice(ledger);
         board.len = ledger.len();
@@ -21,6 +26,7 @@ impl PuzzleRecord {
         record.given_len = given.len();
         record.clues[..clues.len()].copy_from_slice(clues);
         record.clues_len = clues.len();
+        record.kind = making.kind.number();
         record
     }
 
@@ -33,7 +39,7 @@ impl PuzzleRecord {
 
     fn zero() -> PuzzleRecord {
         let board = c::Board { height: 0, width: 0, states: [0; 1984], ledger: [0; 1984], len: 0 };
-        PuzzleRecord { board, given: [0; 1984], given_len: 0, clues: [0; 1024], clues_len: 0 }
+        PuzzleRecord { board, given: [0; 1984], given_len: 0, clues: [0; 1024], clues_len: 0, kind: 0 }
     }
 }
 
@@ -49,7 +55,7 @@ impl Debug for PuzzleRecord {
         let (states, ledger) = (front(&b.states), front(&b.ledger));
         write!(f, "{} by {}, states {states:?}, {} of ledger {ledger:?}, ", b.height, b.width, b.len)?;
         let (given, clues) = (front(&self.given), front(&self.clues));
-        write!(f, "{} given of {given:?}, {} clues of {clues:?}", self.given_len, self.clues_len)
+        write!(f, "{} given of {given:?}, {} clues of {clues:?}, kind {}", self.given_len, self.clues_len, self.kind)
     }
 }
 
@@ -73,10 +79,14 @@ pub(super) fn answered(places: usize, ask: impl FnOnce(*mut u16, usize) -> c::Ou
 pub struct Puzzle(pub PuzzleRecord);
 
 impl Puzzle {
-    pub fn make(height: usize, width: usize, given: &[u16], clues: &[u16]) -> Result<Puzzle, u8> {
-        let (walls, counts) = (given.as_ptr(), clues.as_ptr());
+    pub fn make(making: &Making) -> Result<Puzzle, u8> {
+        let Making { kind, height, width, given, clues } = making;
+        let make = match kind {
+            Kind::Translates => c::sendai_puzzle_make,
+            Kind::Images => c::sendai_puzzle_make_images,
+        };
         // both slices live through the call
-        let made = unsafe { c::sendai_puzzle_make(height, width, walls, given.len(), counts, clues.len()) };
+        let made = unsafe { make(*height, *width, given.as_ptr(), given.len(), clues.as_ptr(), clues.len()) };
         assert!(made.code == 0 || made.puzzle == PuzzleRecord::zero(), "a refused making returns zeros");
         accepted(made.code).map(|()| Puzzle(made.puzzle))
     }

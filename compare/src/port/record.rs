@@ -1,5 +1,5 @@
 //! Records that have a ledger: boards, puzzles and room graphs, by value here and where they are in `in_place.rs`.
-use super::{Board, City, Puzzle};
+use super::{Board, City, Puzzle, PLACES};
 use crate::answers::Answer;
 use crate::ledger::{fault_of, Fault};
 use crate::runs::{Call, Turn};
@@ -51,7 +51,7 @@ pub(super) fn shape(list: Result<Option<Vec<u16>>, u8>) -> Result<Fault, u8> {
 records! {
     Board, |board: &Board| shape(board.ask());
     City, |city: &City| shape(city.ask());
-    Puzzle, |puzzle: &Puzzle| puzzle.ask(9216).map(fault_of);
+    Puzzle, |puzzle: &Puzzle| puzzle.ask(PLACES).map(fault_of);
 }
 
 /// A puzzle's record, however it is handed over.

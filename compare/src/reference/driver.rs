@@ -384,6 +384,11 @@ impl Puzzle {
         if let Some(list) = self.shape.find_inconsistency() {
             return Answer::Shape(entries(list));
         }
+        self.ask_rooms()
+    }
+
+    /// The rooms' checks alone.
+    pub fn ask_rooms(&mut self) -> Answer {
         for room in &mut self.rooms {
             if let Some(list) = room.check.find_inconsistency() {
                 let on_board = list.into_iter().map(|(edge, wall)| (room.borders[edge], wall));

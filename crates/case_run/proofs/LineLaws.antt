@@ -28,16 +28,17 @@ use Rattle.puzzle.specs.Puzzle.{answer as made, decide_of, undo_of}
 use Rattle.demand_3.specs.Run.{puzzle_after, reply_to}
 use Rattle.case_run.specs.CaseRun.{as_call, code_line, line_by, blank, Turned}
 
-pub blank_length : length blank ≡ 9216
+pub blank_length : length blank ≡ 16384
 unfolding blank
-blank_length = length-replicate {A = ℕ} 9216 0
+blank_length = length-replicate {A = ℕ} 16384 0
 
--- HAND-OVER into an array of 9,216 places
+-- HAND-OVER into an array that has a place for each entry
 pub record Listed (list : List ℕ) (n : ℕ) (buf : List ℕ) : Type 0 where
-  pub few : n ≤ length buf
+  pub within : n ≤ length buf
+  pub counted : n ≡ length (sorted_once list)
   pub is : take n buf ≡ sorted_once list
 
-module _ (list before : List ℕ) (few : length list ≤ 9216) (long : length before ≡ 9216) where
+module _ (list before : List ℕ) (few : length list ≤ length before) where
   pub listed : (answer : Result ℕ Refusal) (buf : List ℕ) → Lists (hand_over list (length before)) answer → buf ≡ written (hand_over list (length before)) before
       → Listed list (result_unwrap_or answer 0) buf
   listed (Err e) buf q m = absurd (omega (arith, (refused list (length before) e q).0))
@@ -45,7 +46,8 @@ module _ (list before : List ℕ) (few : length list ≤ 9216) (long : length be
       let o = given list (length before) n q in
       let s : buf ≡ sets before 0 (sorted_once list) = rw (le-leb (length list) (length before) o.0) at m in
       record {
-        few = omega (arith, ap length s, length-sets before 0 (sorted_once list), o.0, o.1, no_longer list);
+        within = omega (arith, ap length s, length-sets before 0 (sorted_once list), o.0, o.1, no_longer list);
+        counted = o.1;
         is = rw (s, o.1) (front before (sorted_once list) (omega (arith, o.0, no_longer list)));
       }
 

@@ -20,6 +20,7 @@ use Rattle.case_file.specs.Layout.{numbers_at, numbers_into, span_of, layout_of,
 use Rattle.case_file.proofs.BackLaws.{parts}
 use Rattle.case_file.proofs.UseLaws.{accepted, walls_there, clues_there}
 use Rattle.puzzle.specs.declared.Made.{Made}
+use Rattle.puzzle.specs.declared.kind.Kind.TheVariants.{Translates}
 use Rattle.puzzle.specs.Puzzle.{make_of, made}
 use Rattle.lists.proofs.SetsLaws.{front}
 use Rattle.case_run.specs.declared.Opened.{Opened}
@@ -73,7 +74,7 @@ module _ (bs : List ℕ) (f : Case) (e : decode_of bs ≡ some f) where
     clues_in : (answer : Result ℕ Refusal) (buf : List ℕ) → Told bs l.clues answer → InPlaces bs l.clues buf → Answered answer buf f.clues
     clues_in = rw s (λ answer buf q b. read (layout_of f).clues.at (layout_of f).clues.count f.clues buf answer (clues_there f bs e) (omega arith) q b)
 
-    made_in : (m : Made) → m ≡ make_of l.height l.width f.walls f.clues → opened_as m l.calls.at l.calls.count ≡ opened_of (some f)
+    made_in : (m : Made) → m ≡ make_of Translates l.height l.width f.walls f.clues → opened_as m l.calls.at l.calls.count ≡ opened_of (some f)
     made_in m = rw s (λ q. ap (λ (d : Made). opened_as d (layout_of f).calls.at (layout_of f).calls.count) q)
 
 module _ (bs : List ℕ) (l : Layout) (q : Ok l ≡ file_of (decode_of bs)) where
@@ -86,7 +87,7 @@ module _ (bs : List ℕ) (l : Layout) (q : Ok l ≡ file_of (decode_of bs)) wher
   pub clues_read : (answer : Result ℕ Refusal) (buf : List ℕ) → Told bs l.clues answer → InPlaces bs l.clues buf → Answered answer buf sound.0.clues
   clues_read = clues_in bs sound.0 sound.1 l sound.2
 
-  pub made_file : (m : Made) (walls clues : List ℕ) → walls ≡ sound.0.walls → clues ≡ sound.0.clues → m ≡ make_of l.height l.width walls clues
+  pub made_file : (m : Made) (walls clues : List ℕ) → walls ≡ sound.0.walls → clues ≡ sound.0.clues → m ≡ make_of Translates l.height l.width walls clues
       → opened_as m l.calls.at l.calls.count ≡ opened_of (decode_of bs)
   made_file m walls clues x y e = made_in bs sound.0 sound.1 l sound.2 m (rw (x, y) at e) ∙ ap opened_of (sym sound.1)
 

@@ -4,7 +4,7 @@ use Rattle.std.specs.Prelude.{Result, Ok, Err}
 use Rattle.std.proofs.Math.Option.{Option, none, some}
 use Rattle.answers.specs.declared.Refusal.{Refusal}
 use Rattle.answers.specs.Refusals.{number_of}
-use Rattle.limits.specs.Limits.{most_entries, longest_line}
+use Rattle.limits.specs.Limits.{most_entries, most_image_entries, longest_line}
 use Rattle.lists.specs.Choice.{pick}
 use Rattle.hand_over.specs.Sorted.{sorted_once}
 use Rattle.case_file.specs.declared.Call.{Call}
@@ -16,11 +16,13 @@ use Rattle.lines.specs.declared.Line.TheVariants as line
 use Rattle.lines.specs.Line.{line_of}
 use Rattle.puzzle.specs.declared.Puzzle.{Puzzle}
 use Rattle.puzzle.specs.declared.Made.{Made}
+use Rattle.puzzle.specs.declared.kind.Kind.TheVariants.{Translates}
 use Rattle.puzzle.specs.declared.Check.{Check}
 use Rattle.puzzle.specs.declared.Check.TheVariants.{Shape, Room}
 use Rattle.puzzle.specs.Answer.{Answer}
 use Rattle.puzzle.specs.Answer.{Clear, Fault, Refused}
-use Rattle.puzzle.specs.Puzzle.{zero_puzzle, make_of}
+use Rattle.puzzle.specs.Kind.{ask_room}
+use Rattle.puzzle.specs.Puzzle.{grid_of, zero_puzzle, make_of, puzzle_code}
 use Rattle.demand_3.specs.Run as puzzle
 use Rattle.demand_3.specs.Run.{puzzle_after, run, Reply, coded, asked, reply_to, replies}
 use Rattle.case_run.specs.declared.Remaining.{Remaining}
@@ -36,19 +38,19 @@ opened code p at count = record { code = code; puzzle = p; at = at; count = coun
 abbrev pub opened_as : Made → ℕ → ℕ → Opened
 opened_as m at count = pick (eqb m.code 0) (opened 0 m.puzzle at count) (opened m.code m.puzzle 0 0)
 
--- question 11 comes first (SPEC 3.11); else the making of the file's size, given walls and clues, and where its calls stand
+-- question 11 comes first (SPEC 3.11); else the making, of translates (SPEC 14.4), of the file's size, given walls and clues, and where its calls stand
 abbrev pub opened_of : Option Case → Opened
 opened_of none = opened 11 zero_puzzle 0 0
-opened_of (some f) = opened_as (make_of f.height f.width f.walls f.clues) (layout_of f).calls.at (length f.calls)
+opened_of (some f) = opened_as (make_of Translates f.height f.width f.walls f.clues) (layout_of f).calls.at (length f.calls)
 
 -- what `open` answers
 abbrev pub opened_in : Result Remaining Refusal → Opened
 opened_in (Ok r) = opened 0 r.puzzle r.at r.count
 opened_in (Err e) = opened (number_of e) zero_puzzle 0 0
 
--- THE CALLS of a file, as calls of demand 3's run: an ask is lent 9,216 zeros, as many as the largest board needs
+-- THE CALLS of a file, as calls of demand 3's run: an ask is lent 16,384 zeros, as many as the largest board of either kind needs
 unfoldable pub blank : List ℕ
-blank = replicate most_entries 0
+blank = replicate most_image_entries 0
 
 abbrev pub as_call : Call → puzzle.Call
 as_call Undo = puzzle.undo
@@ -113,9 +115,14 @@ printed_by p cs = lines_of cs (replies p (map as_call cs))
 abbrev pub line_by : Puzzle → Call → List ℕ
 line_by p c = reply_line (well_line c) (reply_to p (as_call c))
 
--- what an ask's line is told by: the line, and how many entries at the list's front it has
+-- an ask that questions 1 and 2 accept finds places enough (SPEC 3.6, 14.5)
+abbrev pub Enough : Puzzle → ℕ → Type 0
+Enough p places = puzzle_code p ≡ 0 → ask_room p.kind (grid_of p) ≤ places
+
+-- what an ask's line is told by: the line, and how many entries at the list's front it has, no more than the longest line
 pub record Tells (line : Line) (n : ℕ) (list l : List ℕ) : Type 0 where
-  pub few : n ≤ length list
+  pub within : n ≤ length list
+  pub few : n ≤ most_entries
   pub bytes : line_of line (take n list) ≡ l
 
 -- what is answered of a call: what it leaves of the puzzle p, how many bytes its line has, and that they are no more than that

@@ -3,16 +3,17 @@
 
 ghost use Rattle.std.specs.Prelude.{◌≡◌, [], ◌≤◌, length, drop};
 ghost use Rattle.std.proofs.lemmas.List.Edits.{sets};
-ghost use Rattle.limits.specs.Limits.{longest_line};
+ghost use Rattle.limits.specs.Limits.{most_image_entries, longest_line};
 ghost use Rattle.case_file.specs.Sound.{decode_of};
 ghost use Rattle.case_file.specs.declared.Call.TheVariants.{Ask};
 ghost use Rattle.answers.specs.Refusals.{code_of};
 ghost use Rattle.lines.specs.Line.{line_of};
-ghost use Rattle.case_run.specs.CaseRun.{opened_of, opened_in, ran_in, length_in, check_line, code_line, line_by, printed_by, code_in, done_in, ran_of, blank, Tells, Turned};
+ghost use Rattle.case_run.specs.CaseRun.{opened_of, opened_in, ran_in, length_in, check_line, code_line, line_by, printed_by, code_in, done_in, ran_of, Enough, Tells, Turned};
 
 use answers::Refusal;
 use case_file::Call;
 use lines::Line;
+use puzzle::kind::Kind;
 use puzzle::{Check, Fault, Puzzle};
 
 // A file's puzzle, and the calls that remain to be run on it: the first one's byte, and how many they are.
@@ -97,7 +98,7 @@ impl Ran {
     }
 }
 
-// The puzzle that a file's size, given walls and clues make. An unsound file is refused (11), and so is what makes no puzzle.
+// The puzzle of translates that a file's size, given walls and clues make. An unsound file is refused (11), and so is what makes no puzzle.
 pub fn open(file: &[u8]) -> Result<Remaining, Refusal>
     ensures { opened_in result ≡ opened_of (decode_of file.now) }
 {
@@ -108,6 +109,7 @@ pub fn open(file: &[u8]) -> Result<Remaining, Refusal>
     let mut clues = [0u16; 30000];
     let clue_count = case_file::numbers(file, layout.clues, &mut clues)?;
     let puzzle = Puzzle::new(
+        Kind::Translates,
         layout.height,
         layout.width,
         &walls[..wall_count],
@@ -140,19 +142,47 @@ fn check_line(check: Check) -> Line
     }
 }
 
-// The line of an ask, and how many entries it has, which are handed over to the list's front.
-fn ask_line(puzzle: &Puzzle, list: &mut [u16; limits::ENTRIES]) -> (Line, usize)
-    requires { list.old ≡ blank }
+// The line of an ask, and how many entries it has: the ask lists in `found`, and its list is handed over to the front of `list`.
+fn ask_line(puzzle: &Puzzle, found: &mut [u16], list: &mut [u16]) -> (Line, usize)
+    requires enough { Enough puzzle.now (length found.old) }
+    requires room { length found.old ≤ length list.old }
     ensures { Tells result.0 result.1 list.new (line_by puzzle.now Ask) }
 {
-    match puzzle.ask(list) {
+    match puzzle.ask(found) {
         Ok(Some(Fault { check, len })) => {
-            let found = *list;
             let n = hand_over::hand_over(&found[..len], list).unwrap_or(0);
             (check_line(check), n)
         }
         Ok(None) => (Line::Clear, 0),
         Err(refusal) => (Line::from(refusal), 0),
+    }
+}
+
+// An ask, by arrays of N places for its list, and its line: it answers how many bytes this has. Never inlined, so that no frame has the arrays of
+// both kinds.
+#[inline(never)]
+fn do_ask_in<const N: usize>(puzzle: &Puzzle, out: &mut [u8]) -> usize
+    requires enough { Enough puzzle.now N × (N ≤ most_image_entries) }
+    requires room { longest_line ≤ length out.old }
+    ensures told { (result ≡ length (line_by puzzle.now Ask)) × (result ≤ longest_line) }
+    ensures out_after { out.new ≡ sets out.old 0 (line_by puzzle.now Ask) }
+{
+    let mut found = [0; N];
+    let mut list = [0; N];
+    let (line, n) = ask_line(puzzle, &mut found, &mut list);
+    lines::put_line(line, &list[..n], out)
+}
+
+// The same by arrays that are no longer than the kind asks, since all of an array is zeroed.
+fn do_ask(puzzle: &Puzzle, out: &mut [u8]) -> usize
+    requires { longest_line ≤ length out.old }
+    ensures told { (result ≡ length (line_by puzzle.now Ask)) × (result ≤ longest_line) }
+    ensures out_after { out.new ≡ sets out.old 0 (line_by puzzle.now Ask) }
+{
+    if puzzle.kind == 0 {
+        do_ask_in::<{ limits::ENTRIES }>(puzzle, out)
+    } else {
+        do_ask_in::<{ limits::IMAGE_ENTRIES }>(puzzle, out)
     }
 }
 
@@ -165,11 +195,7 @@ fn do_call(puzzle: &mut Puzzle, call: Call, out: &mut [u8]) -> usize
     let line = match call {
         Call::Undo => done_line(Line::Undone, puzzle.undo()),
         Call::Decide(border, wall) => done_line(Line::Decided, puzzle.decide(border, wall)),
-        Call::Ask => {
-            let mut list = [0; limits::ENTRIES];
-            let (line, n) = ask_line(puzzle, &mut list);
-            return lines::put_line(line, &list[..n], out);
-        }
+        Call::Ask => return do_ask(puzzle, out),
     };
     lines::put_line(line, &[], out)
 }

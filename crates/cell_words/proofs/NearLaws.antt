@@ -18,7 +18,7 @@ use Rattle.offsets.proofs.TableLaws.{potential_at}
 use Rattle.words.specs.Words.{bit, Says}
 use Rattle.cell_words.specs.declared.Near.{Near}
 use Rattle.cell_words.specs.Marks.{Stamping}
-use Rattle.cell_words.specs.Cells.{NearRow, stamp, Stamped, SameLists, Restamped}
+use Rattle.cell_words.specs.Cells.{NearRow, Stamped, SameLists, Restamped}
 use Rattle.cell_words.proofs.OwnLaws.{cell_at}
 
 -- THE WORD of a row, column by column: the cell's potential unit is marked

@@ -1,5 +1,5 @@
 -- The next ask after a list of calls from a fresh puzzle gives what the checks find on the standing borders. Assumes nothing.
-use Prim.Native.Nat.{ℕ, ◌*◌, ◌≤◌, ◌<◌}
+use Prim.Native.Nat.{ℕ, ◌≤◌, ◌<◌}
 use mathlib.Core.Path.{◌≡◌, refl, ap, sym, ◌∙◌, fun_ext}
 use mathlib.Core.Logic.{⊎_elim}
 use mathlib.Core.Bool.{Bool, true, false, true≢false}
@@ -9,13 +9,15 @@ use native.Mathlib.Omega.{arith}
 use lib.ListN.{length, take, get_or-eq_default}
 use Rattle.lists.proofs.Cases.{le_or_lt, true_or_false}
 use Rattle.lists.proofs.SetsLaws.{front}
-use Rattle.grid.specs.Grid.{grid, cells, border_count}
+use Rattle.grid.specs.Grid.{grid, border_count}
 use Rattle.ledger.specs.Ledger.{Decision, standing, whole}
 use Rattle.ledger.proofs.Standing.{Sound, named_or_not, standing_named, standing_given}
 use Rattle.borders.specs.Border.{state_of, StatesOk}
 use Rattle.ledger.specs.declared.Book.{Book}
 use Rattle.ledger.proofs.Reached as book
 use Rattle.puzzle.specs.declared.Puzzle.{Puzzle}
+use Rattle.puzzle.specs.declared.kind.Kind.{Kind}
+use Rattle.puzzle.specs.Kind.{kind_number, kind_images, ask_room}
 use Rattle.puzzle.specs.Answer.{Answer}
 use Rattle.puzzle.specs.Answer.{Clear, Fault, Refused}
 use Rattle.rooms.specs.Rooms.{is_given}
@@ -90,35 +92,41 @@ module _ (h w : ℕ) (given clues : List ℕ) (a : Accepted h w given clues) (L 
   pub states_ok : StatesOk (grid h w) (states_of n s)
   states_ok e l = rw (states_at n s e l) (state_le e)
 
-  -- what the checks find on the standing borders
-  abbrev fault : Option Found
-  fault = fault_of (grid h w) given clues (states_of (border_count (grid h w)) (standing (is_given given) (whole L)))
+module _
+    (kind : Kind) (h w : ℕ) (given clues : List ℕ) (a : Accepted h w given clues) (L : List (List Decision)) (sound : Sound (border_count (grid h w)) (is_given given) (whole L))
+  where
+    -- the states of the standing borders, and what the checks find there
+    abbrev states : List ℕ
+    states = states_of (border_count (grid h w)) (standing (is_given given) (whole L))
 
-  list_short : length (list_in fault) ≤ 9 * cells (grid h w)
-  list_short = go fault refl
-    where
-      go : (f : Option Found) → fault ≡ f → length (list_in f) ≤ 9 * cells (grid h w)
-      go none q = omega arith
-      go (some x) q = fault_most (grid h w) given clues (states_of n s) states_ok x q
+    abbrev fault : Option Found
+    fault = fault_of (kind_images kind) (grid h w) given clues states
 
-  module _ (b : Book) (r : book.Reached (border_count (grid h w)) (is_given given) L b) where
-    book_fault : fault_in (onto (fresh_puzzle (grid h w) given clues) b) ≡ fault
-    book_fault =
-        cc (given_kept h w given clues a, clues_kept h w given clues a)
-        ∙ fault_agrees (grid h w) given clues b.states (states_of n s) (λ e l. r.stands e l ∙ sym (states_at n s e l))
-
-    book_asked : puzzle_code (onto (fresh_puzzle (grid h w) given clues) b) ≡ 0 → (buf : List ℕ) → Long h w buf → Gives (ask_of (onto (fresh_puzzle (grid h w) given clues) b) buf) fault
-    book_asked code buf long =
-        let p : Puzzle = onto (fresh_puzzle (grid h w) given clues) b in
-        let c : ask_code p buf ≡ 0 = long_buffer p 0 (sym code) refl buf long in
-        gives (fault_in p) fault book_fault (ask_of p buf) buf (accepted_ask p buf c) (omega (arith, list_short))
+    list_short : length (list_in fault) ≤ ask_room (kind_number kind) (grid h w)
+    list_short = go fault refl
       where
-        gives : (f f' : Option Found) → f ≡ f' → (x : Asked) (buf : List ℕ) → x ≡ record { answer = says 0 f; buffer = writes 0 f buf } → length (list_in f') ≤ length buf → Gives x f'
-        gives f f' q x buf e l = rw (e, q) (record { answer = refl; list = written f' buf l })
+        go : (f : Option Found) → fault ≡ f → length (list_in f) ≤ ask_room (kind_number kind) (grid h w)
+        go none q = omega arith
+        go (some x) q = fault_most (kind_images kind) (grid h w) given clues states (states_ok h w given clues a L sound) x q
 
-  -- THE LAW: a long enough ask gives what the checks find on the standing borders
-  pub asked_gives : (p : Puzzle) → Reached h w given clues L p → (buf : List ℕ) → Long h w buf
-      → Gives (ask_of p buf) (fault_of (grid h w) given clues (states_of (border_count (grid h w)) (standing (is_given given) (whole L))))
-  asked_gives p r buf long =
-      let code : puzzle_code (onto (fresh_puzzle (grid h w) given clues) (book_of p)) ≡ 0 = sym (ap puzzle_code r.constants) ∙ reached_code h w given clues a L p r in
-      rw r.constants (book_asked (book_of p) r.stood code buf long)
+    module _ (b : Book) (r : book.Reached (border_count (grid h w)) (is_given given) L b) where
+      book_fault : fault_in (onto (fresh_puzzle kind (grid h w) given clues) b) ≡ fault
+      book_fault =
+          cc (given_kept kind h w given clues a, clues_kept kind h w given clues a)
+          ∙ fault_agrees (kind_images kind) (grid h w) given clues b.states states (λ e l. r.stands e l ∙ sym (states_at (border_count (grid h w)) (standing (is_given given) (whole L)) e l))
+
+      book_asked : puzzle_code (onto (fresh_puzzle kind (grid h w) given clues) b) ≡ 0 → (buf : List ℕ) → Long kind h w buf → Gives (ask_of (onto (fresh_puzzle kind (grid h w) given clues) b) buf) fault
+      book_asked code buf long =
+          let p : Puzzle = onto (fresh_puzzle kind (grid h w) given clues) b in
+          let c : ask_code p buf ≡ 0 = long_buffer p 0 (sym code) refl buf long in
+          gives (fault_in p) fault book_fault (ask_of p buf) buf (accepted_ask p buf c) (omega (arith, list_short))
+        where
+          gives : (f f' : Option Found) → f ≡ f' → (x : Asked) (buf : List ℕ) → x ≡ record { answer = says 0 f; buffer = writes 0 f buf } → length (list_in f') ≤ length buf → Gives x f'
+          gives f f' q x buf e l = rw (e, q) (record { answer = refl; list = written f' buf l })
+
+    -- THE LAW: a long enough ask gives what the checks find on the standing borders
+    pub asked_gives : (p : Puzzle) → Reached kind h w given clues L p → (buf : List ℕ) → Long kind h w buf
+        → Gives (ask_of p buf) (fault_of (kind_images kind) (grid h w) given clues (states_of (border_count (grid h w)) (standing (is_given given) (whole L))))
+    asked_gives p r buf long =
+        let code : puzzle_code (onto (fresh_puzzle kind (grid h w) given clues) (book_of p)) ≡ 0 = sym (ap puzzle_code r.constants) ∙ reached_code kind h w given clues a L p r in
+        rw r.constants (book_asked (book_of p) r.stood code buf long)

@@ -1,4 +1,4 @@
--- DEMAND 3, for every accepted making. The statement, sentence by sentence, is the record `Demand3` of specs/Demand3.antt. Assumes nothing.
+-- DEMAND 3, for every accepted making of both kinds. The statement, sentence by sentence, is the record `Demand3` of specs/Demand3.antt. Assumes nothing.
 use Prim.Native.Nat.{ℕ, ◌+◌, ◌/◌, ◌%◌, ◌≤◌, ◌<◌}
 use mathlib.Core.Path.{◌≡◌, ap, sym, ◌∙◌, subst}
 use mathlib.Core.Logic.{⊎_elim, ◌↔◌}
@@ -16,6 +16,8 @@ use Rattle.shape.specs.Laws.{FullBoard}
 use Rattle.ledger.specs.Ledger.{decisions, state_in, standing, whole, stroke_code}
 use Rattle.ledger.proofs.Standing.{standing_named, standing_given}
 use Rattle.puzzle.specs.declared.Made.{Made}
+use Rattle.puzzle.specs.declared.kind.Kind.{Kind}
+use Rattle.puzzle.specs.Kind.{kind_images}
 use Rattle.puzzle.specs.Answer.{Clear}
 use Rattle.rooms.specs.Rooms.{is_given}
 use Rattle.puzzle.specs.Fault.{Found, fault_of}
@@ -31,22 +33,22 @@ use Rattle.demand_3.proofs.Reached.{Reached, fresh_reached, reached}
 use Rattle.demand_3.proofs.Asks.{fault_some, some_fault, clear_none, none_clear, states_stand, states_ok, state_outside, asked_gives}
 use Rattle.demand_3.proofs.Orders.{Free, Apart, one_stroke, decided_state, standing_apart, cut_ledger, all_accepted, singles, whole_singles, run_singles, reply_singles}
 
-module _ (h w : ℕ) (given clues : List ℕ) (made : (make_of h w given clues).code ≡ 0) where
+module _ (kind : Kind) (h w : ℕ) (given clues : List ℕ) (made : (make_of kind h w given clues).code ≡ 0) where
   pub accepted : Accepted h w given clues
-  accepted = made_accepted h w given clues made
+  accepted = made_accepted kind h w given clues made
 
-  fresh_is : fresh_of h w given clues ≡ fresh_puzzle (grid h w) given clues
-  fresh_is = ap (λ (m : Made). m.puzzle) (made_fresh h w given clues made)
+  fresh_is : fresh_of kind h w given clues ≡ fresh_puzzle kind (grid h w) given clues
+  fresh_is = ap (λ (m : Made). m.puzzle) (made_fresh kind h w given clues made)
 
-  pub reached_calls : (calls : List Call) → Reached h w given clues (ledger_after h w given calls) (after h w given clues calls)
-  reached_calls calls = rw fresh_is (reached h w given clues accepted calls)
+  pub reached_calls : (calls : List Call) → Reached kind h w given clues (ledger_after h w given calls) (after kind h w given clues calls)
+  reached_calls calls = rw fresh_is (reached kind h w given clues accepted calls)
 
   -- what stands after the calls, as a list of states, and what the checks find there
   abbrev state_list : List Call → List ℕ
   state_list calls = states_of (border_count (grid h w)) (state_after h w given calls)
 
   abbrev fault_after : List Call → Option Found
-  fault_after calls = fault_of (grid h w) given clues (state_list calls)
+  fault_after calls = fault_of (kind_images kind) (grid h w) given clues (state_list calls)
 
   stood : (calls : List Call) → state_of (state_list calls) ≡ state_after h w given calls
   stood calls = states_stand h w given clues accepted (ledger_after h w given calls) (reached_calls calls).stood.sound
@@ -54,50 +56,50 @@ module _ (h w : ℕ) (given clues : List ℕ) (made : (make_of h w given clues).
   ok : (calls : List Call) → StatesOk (grid h w) (state_list calls)
   ok calls = states_ok h w given clues accepted (ledger_after h w given calls) (reached_calls calls).stood.sound
 
-  exact : (calls : List Call) (buf : List ℕ) → Long h w buf → Gives (ask_of (after h w given clues calls) buf) (fault_after calls)
-  exact calls buf long = asked_gives h w given clues accepted (ledger_after h w given calls) (reached_calls calls).stood.sound (after h w given clues calls) (reached_calls calls) buf long
+  exact : (calls : List Call) (buf : List ℕ) → Long kind h w buf → Gives (ask_of (after kind h w given clues calls) buf) (fault_after calls)
+  exact calls buf long = asked_gives kind h w given clues accepted (ledger_after h w given calls) (reached_calls calls).stood.sound (after kind h w given clues calls) (reached_calls calls) buf long
 
   same : (a b : List Call) → ((e : ℕ) → e < border_count (grid h w) → state_after h w given a e ≡ state_after h w given b e)
-      → (buf_a buf_b : List ℕ) → Long h w buf_a → Long h w buf_b → Alike (ask_of (after h w given clues a) buf_a) (ask_of (after h w given clues b) buf_b)
+      → (buf_a buf_b : List ℕ) → Long kind h w buf_a → Long kind h w buf_b → Alike (ask_of (after kind h w given clues a) buf_a) (ask_of (after kind h w given clues b) buf_b)
   same a b alike buf_a buf_b long_a long_b =
       let q : fault_after a ≡ fault_after b =
-      ap (fault_of (grid h w) given clues) (states_same (border_count (grid h w)) (state_after h w given a) (state_after h w given b) alike) in
+      ap (fault_of (kind_images kind) (grid h w) given clues) (states_same (border_count (grid h w)) (state_after h w given a) (state_after h w given b) alike) in
       let x = exact a buf_a long_a in
       let y = exact b buf_b long_b in
       record { answers = x.answer ∙ ap (says 0) q ∙ sym y.answer; lists = x.list ∙ ap list_in q ∙ sym y.list }
 
   -- the same entries, cut into strokes in two ways, leave the same borders standing, and so the next ask answers alike
   pub cut_alike : (P Q : List (List ℕ)) → whole P ≡ whole Q → stroke_code (border_count (grid h w)) (standing (is_given given) []) (decisions (whole P)) ≡ 0
-      → (buf_a buf_b : List ℕ) → Long h w buf_a → Long h w buf_b → Alike (ask_of (after h w given clues (map stroke P)) buf_a) (ask_of (after h w given clues (map stroke Q)) buf_b)
+      → (buf_a buf_b : List ℕ) → Long kind h w buf_a → Long kind h w buf_b → Alike (ask_of (after kind h w given clues (map stroke P)) buf_a) (ask_of (after kind h w given clues (map stroke Q)) buf_b)
   cut_alike P Q q ok =
       let n = border_count (grid h w) in
       let e = cut_ledger n (is_given given) P ok ∙ ap decisions q ∙ sym (cut_ledger n (is_given given) Q (rw q at ok)) in
       same (map stroke P) (map stroke Q) (λ x l. ap (λ D. standing (is_given given) D x) e)
 
   -- a fault, as the checks find it
-  module _ (calls : List Call) (buf : List ℕ) (long : Long h w buf) (fault : IsFault (ask_of (after h w given clues calls) buf).answer) where
+  module _ (calls : List Call) (buf : List ℕ) (long : Long kind h w buf) (fault : IsFault (ask_of (after kind h w given clues calls) buf).answer) where
     found : (f : Found) × (fault_after calls ≡ some f)
     found = fault_some (fault_after calls) (rw (exact calls buf long).answer at fault)
 
-    list_is : list_of (ask_of (after h w given clues calls) buf) ≡ found.0.list
+    list_is : list_of (ask_of (after kind h w given clues calls) buf) ≡ found.0.list
     list_is = (exact calls buf long).list ∙ ap list_in found.1
 
-    listed : Standing (state_after h w given calls) (list_of (ask_of (after h w given clues calls) buf))
-    listed = rw (list_is, ← stood calls) (fault_listed (grid h w) given clues (state_list calls) (ok calls) found.0 found.1)
+    listed : Standing (state_after h w given calls) (list_of (ask_of (after kind h w given clues calls) buf))
+    listed = rw (list_is, ← stood calls) (fault_listed (kind_images kind) (grid h w) given clues (state_list calls) (ok calls) found.0 found.1)
 
-    excludes : (s : States) → FullBoard (grid h w) s → Standing s (list_of (ask_of (after h w given clues calls) buf)) → RightBoard (grid h w) given clues s → ⊥
+    excludes : (s : States) → FullBoard (grid h w) s → Standing s (list_of (ask_of (after kind h w given clues calls) buf)) → RightBoard (kind_images kind) (grid h w) given clues s → ⊥
     excludes s full there right =
-        fault_excludes (grid h w) given clues accepted.fit.small s full (state_list calls) (ok calls) found.0 found.1 (rw list_is at there) right
+        fault_excludes (kind_images kind) (grid h w) given clues accepted.fit.small s full (state_list calls) (ok calls) found.0 found.1 (rw list_is at there) right
 
     -- THE GENERAL FORM: after any list of calls after which the listed borders stand as listed, whatever else stands, the ask is a fault
-    pub wherever : (calls' : List Call) → Standing (state_after h w given calls') (list_of (ask_of (after h w given clues calls) buf))
-        → (buf' : List ℕ) → Long h w buf' → IsFault (ask_of (after h w given clues calls') buf').answer
+    pub wherever : (calls' : List Call) → Standing (state_after h w given calls') (list_of (ask_of (after kind h w given clues calls) buf))
+        → (buf' : List ℕ) → Long kind h w buf' → IsFault (ask_of (after kind h w given clues calls') buf').answer
     wherever calls' there buf' long' =
         let m =
-        fault_again (grid h w) given clues (state_list calls) (ok calls) found.0 found.1 (state_list calls') (ok calls') (rw (list_is, ← stood calls') at there) in
+        fault_again (kind_images kind) (grid h w) given clues (state_list calls) (ok calls) found.0 found.1 (state_list calls') (ok calls') (rw (list_is, ← stood calls') at there) in
         rw (exact calls' buf' long').answer (some_fault (fault_after calls') m.0 m.1)
 
-    module _ (parts : List (List ℕ)) (o : OrderOf given (list_of (ask_of (after h w given clues calls) buf)) (whole parts)) where
+    module _ (parts : List (List ℕ)) (o : OrderOf given (list_of (ask_of (after kind h w given clues calls) buf)) (whole parts)) where
       apart : Apart (whole parts)
       apart = standing_apart (state_after h w given calls) (whole parts) (λ l m. listed l (o.listed l m).0) o.once
 
@@ -118,7 +120,7 @@ module _ (h w : ℕ) (given clues : List ℕ) (made : (make_of h w given clues).
       in_one = one_stroke (border_count (grid h w)) (is_given given) (whole parts) free apart
 
       -- after the strokes each listed border stands as listed: the given walls from the start, the others as decided
-      decided : Standing (state_after h w given (map stroke parts)) (list_of (ask_of (after h w given clues calls) buf))
+      decided : Standing (state_after h w given (map stroke parts)) (list_of (ask_of (after kind h w given clues calls) buf))
       decided l m =
           let n = border_count (grid h w) in
           let D = whole (ledger_after h w given calls) in
@@ -130,46 +132,46 @@ module _ (h w : ℕ) (given clues : List ℕ) (made : (make_of h w given clues).
           ∙ ap (λ K. state_in K (l / 2)) (cut_ledger n (is_given given) parts in_one) ∙ decided_state (whole parts) apart l (o.whole l m q))
           (true_or_false (is_given given (l / 2)))
 
-      again_cut : AgainBy h w given clues (map stroke parts)
+      again_cut : AgainBy kind h w given clues (map stroke parts)
       unfolding whole
       again_cut =
           record {
-            accepted = rw fresh_is (all_accepted h w given clues accepted [] (fresh_puzzle (grid h w) given clues) (fresh_reached h w given clues accepted) parts in_one);
+            accepted = rw fresh_is (all_accepted kind h w given clues accepted [] (fresh_puzzle kind (grid h w) given clues) (fresh_reached kind h w given clues accepted) parts in_one);
             fault = wherever (map stroke parts) decided;
           }
 
-    again : (order : List ℕ) → OrderOf given (list_of (ask_of (after h w given clues calls) buf)) order → AgainBy h w given clues (map decide_as order)
+    again : (order : List ℕ) → OrderOf given (list_of (ask_of (after kind h w given clues calls) buf)) order → AgainBy kind h w given clues (map decide_as order)
     again order o =
         let c = again_cut (singles order) (rw (whole_singles order) o) in
         record {
-          accepted = rw (reply_singles order (fresh_of h w given clues)) at c.accepted;
-          fault = rw (run_singles order (fresh_of h w given clues)) at c.fault;
+          accepted = rw (reply_singles order (fresh_of kind h w given clues)) at c.accepted;
+          fault = rw (run_singles order (fresh_of kind h w given clues)) at c.fault;
         }
 
   fault_full_at : (s : States) (states : List ℕ) → state_of states ≡ s → FullBoard (grid h w) s → GivenWalls given s
-      → (fault_of (grid h w) given clues states ≡ none) ↔ RightBoard (grid h w) given clues s
+      → (fault_of (kind_images kind) (grid h w) given clues states ≡ none) ↔ RightBoard (kind_images kind) (grid h w) given clues s
   fault_full_at s states q complete walls =
-      subst (λ (t : States). (fault_of (grid h w) given clues states ≡ none) ↔ RightBoard (grid h w) given clues t) q
-      (fault_full (grid h w) given clues accepted.fit.small states (subst (FullBoard (grid h w)) (sym q) complete) (subst (GivenWalls given) (sym q) walls))
+      subst (λ (t : States). (fault_of (kind_images kind) (grid h w) given clues states ≡ none) ↔ RightBoard (kind_images kind) (grid h w) given clues t) q
+      (fault_full (kind_images kind) (grid h w) given clues accepted.fit.small states (subst (FullBoard (grid h w)) (sym q) complete) (subst (GivenWalls given) (sym q) walls))
 
-  full : (calls : List Call) → FullBoard (grid h w) (state_after h w given calls) → (buf : List ℕ) → Long h w buf
-      → ((ask_of (after h w given clues calls) buf).answer ≡ Clear) ↔ RightBoard (grid h w) given clues (state_after h w given calls)
+  full : (calls : List Call) → FullBoard (grid h w) (state_after h w given calls) → (buf : List ℕ) → Long kind h w buf
+      → ((ask_of (after kind h w given clues calls) buf).answer ≡ Clear) ↔ RightBoard (kind_images kind) (grid h w) given clues (state_after h w given calls)
   full calls complete buf long =
       let walls : GivenWalls given (state_after h w given calls) = λ e q. standing_given (border_count (grid h w)) (is_given given) (whole (ledger_after h w given calls)) e q in
-      let k : (fault_after calls ≡ none) ↔ RightBoard (grid h w) given clues (state_after h w given calls) =
+      let k : (fault_after calls ≡ none) ↔ RightBoard (kind_images kind) (grid h w) given clues (state_after h w given calls) =
       fault_full_at (state_after h w given calls) (state_list calls) (stood calls) complete walls in
       let e = (exact calls buf long).answer in
       (λ q. k.0 (clear_none (fault_after calls) (sym e ∙ q)), λ right. e ∙ none_clear (fault_after calls) (k.1 right))
 
 -- THE THEOREM
-pub demand_3 : (h w : ℕ) (given clues : List ℕ) → (make_of h w given clues).code ≡ 0 → Demand3 h w given clues
-demand_3 h w given clues made =
+pub demand_3 : (kind : Kind) (h w : ℕ) (given clues : List ℕ) → (make_of kind h w given clues).code ≡ 0 → Demand3 kind h w given clues
+demand_3 kind h w given clues made =
     record {
-      same = same h w given clues made;
-      exact = exact h w given clues made;
-      listed = listed h w given clues made;
-      excludes = excludes h w given clues made;
-      again = again h w given clues made;
-      again_cut = again_cut h w given clues made;
-      full = full h w given clues made;
+      same = same kind h w given clues made;
+      exact = exact kind h w given clues made;
+      listed = listed kind h w given clues made;
+      excludes = excludes kind h w given clues made;
+      again = again kind h w given clues made;
+      again_cut = again_cut kind h w given clues made;
+      full = full kind h w given clues made;
     }

@@ -19,6 +19,7 @@ use Rattle.ledger.proofs.Strokes.{code_fits, fits_code, fits_first, fits_then}
 use Rattle.ledger.proofs.Cuts.{strokes, after_stroke, whole_added, cut}
 use Rattle.borders.specs.Entry.{Standing}
 use Rattle.puzzle.specs.declared.Puzzle.{Puzzle}
+use Rattle.puzzle.specs.declared.kind.Kind.{Kind}
 use Rattle.rooms.specs.Rooms.{is_given}
 use Rattle.puzzle.specs.Puzzle.{book_of, stroke_of}
 use Rattle.demand_3.specs.Run.{stroke, puzzle_after, run, Reply, coded, reply_to, replies, on_ledger}
@@ -117,17 +118,17 @@ cut_ledger n given parts q =
     ∙ cut n given (map decisions parts) [] (rw (decisions_parts parts) at q) ∙ sym (decisions_parts parts)
 
 -- EACH STROKE IS ACCEPTED
-module _ (h w : ℕ) (given clues : List ℕ) (a : Accepted h w given clues) where
+module _ (kind : Kind) (h w : ℕ) (given clues : List ℕ) (a : Accepted h w given clues) where
   abbrev n : ℕ
   n = border_count (grid h w)
 
-  reply_zero : (L : List (List Decision)) (p : Puzzle) → Reached h w given clues L p → (es : List ℕ)
+  reply_zero : (L : List (List Decision)) (p : Puzzle) → Reached kind h w given clues L p → (es : List ℕ)
       → stroke_code n (standing (is_given given) (whole L)) (decisions es) ≡ 0 → reply_to p (stroke es) ≡ coded 0
   unfolding reply_to
   reply_zero L p r es q =
-      ap (λ x. coded (stroke_of x (decisions es)).code) r.constants ∙ ap coded (stroke_accepted h w given clues a L (book_of p) r.stood (decisions es) q)
+      ap (λ x. coded (stroke_of x (decisions es)).code) r.constants ∙ ap coded (stroke_accepted kind h w given clues a L (book_of p) r.stood (decisions es) q)
 
-  pub all_accepted : (L : List (List Decision)) (p : Puzzle) → Reached h w given clues L p → (parts : List (List ℕ))
+  pub all_accepted : (L : List (List Decision)) (p : Puzzle) → Reached kind h w given clues L p → (parts : List (List ℕ))
       → stroke_code (border_count (grid h w)) (standing (is_given given) (whole L)) (decisions (whole parts)) ≡ 0
       → (x : Reply) → In x (replies p (map stroke parts)) → x ≡ coded 0
   unfolding replies whole
@@ -137,8 +138,8 @@ module _ (h w : ℕ) (given clues : List ℕ) (a : Accepted h w given clues) whe
       let first = fits_code n (standing (is_given given) (whole L)) (decisions es) (fits_first n (is_given given) (whole L) (decisions es) (decisions (whole parts)) f) in
       let then = fits_code n (standing (is_given given) (whole L ++ decisions es)) (decisions (whole parts)) (fits_then n (is_given given) (whole L) (decisions es) (decisions (whole parts)) f) in
       let L' = ledger.added L (decisions es) in
-      let next : Reached h w given clues L' (puzzle_after p (stroke es)) =
-      rw (after_stroke n (is_given given) L (decisions es) first) at (reached_after h w given clues a L p r (stroke es)) in
+      let next : Reached kind h w given clues L' (puzzle_after p (stroke es)) =
+      rw (after_stroke n (is_given given) L (decisions es) first) at (reached_after kind h w given clues a L p r (stroke es)) in
       ⊎_elim
       (λ (e : x ≡ reply_to p (stroke es)). e ∙ reply_zero L p r es first)
       (λ k. all_accepted L' (puzzle_after p (stroke es)) next parts (rw (whole_added L (decisions es)) then) x k)

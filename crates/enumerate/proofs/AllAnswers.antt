@@ -16,6 +16,7 @@ use Rattle.lists.proofs.Cases.{le_or_lt}
 use Rattle.lists.proofs.ListLaws.{in_left, in_append, in_keep, keep_in, get_d_in}
 use Rattle.frame.specs.Frame.{States}
 use Rattle.grid.specs.declared.Grid.{Grid}
+use Rattle.images.specs.declared.Image.{Image}
 use Rattle.grid.specs.Grid.{border_count}
 use Rattle.borders.specs.Border.{state_of}
 use Rattle.shape.specs.Laws.{FullBoard}
@@ -35,13 +36,13 @@ nothing_none : (o : Option Found) → is_nothing o ≡ true → o ≡ none
 nothing_none none q = refl
 nothing_none (some f) q = absurd (true≢false (sym q))
 
-module _ (g : Grid) (given clues : List ℕ) (s : States) (small : Small g given clues) (ok : (e : ℕ) → e < border_count g → s e ≤ 2) (walls : GivenWalls given s)
+module _ (ms : List Image) (g : Grid) (given clues : List ℕ) (s : States) (small : Small g given clues) (ok : (e : ℕ) → e < border_count g → s e ≤ 2) (walls : GivenWalls given s)
     (inside : (e : ℕ) → is_given given e ≡ true → e < border_count g) where
   abbrev n : ℕ
   n = border_count g
 
   abbrev R : List (List ℕ)
-  R = rights g given clues (states_of n s)
+  R = rights ms g given clues (states_of n s)
 
   at : (e : ℕ) → e < n → get_or (states_of n s) e 0 ≡ s e
   at e l = states_at n s e l
@@ -49,10 +50,10 @@ module _ (g : Grid) (given clues : List ℕ) (s : States) (small : Small g given
   long : length (states_of n s) ≡ n
   long = states_length n s
 
-  right_answer : (b : List ℕ) → In b (rights g given clues (states_of (border_count g) s)) → IsAnswer g given clues s b
+  right_answer : (b : List ℕ) → In b (rights ms g given clues (states_of (border_count g) s)) → IsAnswer ms g given clues s b
   unfolding rights is_right
   right_answer b m =
-      let k = in_keep (is_right g given clues) (extensions (states_of n s)) b m in
+      let k = in_keep (is_right ms g given clues) (extensions (states_of n s)) b m in
       let o = in_extensions (states_of n s) b k.0 in
       let full : FullBoard g (state_of b) = λ e l. over_full (states_of n s) b o e (omega (arith, long)) (rw (at e l) (ok e l)) in
       let stands : (e : ℕ) → e < n → s e ≢ 0 → state_of b e ≡ s e = λ e l z. over_stands (states_of n s) b o e (rw (at e l) z) ∙ at e l in
@@ -60,21 +61,21 @@ module _ (g : Grid) (given clues : List ℕ) (s : States) (small : Small g given
         each = over_long (states_of n s) b o ∙ long;
         full = full;
         extends = stands;
-        right = (fault_full g given clues small b full (λ e q. stands e (inside e q) (λ z. omega (arith, z, walls e q)) ∙ walls e q)).0
-            (nothing_none (fault_of g given clues b) k.1);
+        right = (fault_full ms g given clues small b full (λ e q. stands e (inside e q) (λ z. omega (arith, z, walls e q)) ∙ walls e q)).0
+            (nothing_none (fault_of ms g given clues b) k.1);
       }
 
-  answer_right : (b : List ℕ) → IsAnswer g given clues s b → In b (rights g given clues (states_of (border_count g) s))
+  answer_right : (b : List ℕ) → IsAnswer ms g given clues s b → In b (rights ms g given clues (states_of (border_count g) s))
   unfolding rights is_right
   answer_right b a =
       let o = is_over (states_of n s) b (a.each ∙ sym long) (λ e l. a.full e (omega (arith, long)))
       (λ e l z. let h : e < n = omega (arith, long) in a.extends e h (rw (at e h) at z) ∙ sym (at e h)) in
-      keep_in (is_right g given clues) (extensions (states_of n s)) b (extension_in (states_of n s) b o)
-      (ap is_nothing ((fault_full g given clues small b a.full a.right.given_walls).1 a.right))
+      keep_in (is_right ms g given clues) (extensions (states_of n s)) b (extension_in (states_of n s) b o)
+      (ap is_nothing ((fault_full ms g given clues small b a.full a.right.given_walls).1 a.right))
 
   all_right_rise : Rising R
   unfolding rights
-  all_right_rise = keep_rising (is_right g given clues) (extensions (states_of n s)) (all_rising (states_of n s))
+  all_right_rise = keep_rising (is_right ms g given clues) (extensions (states_of n s)) (all_rising (states_of n s))
 
   -- as many of them as the cap
   module _ (cap : ℕ) where
@@ -95,7 +96,7 @@ module _ (g : Grid) (given clues : List ℕ) (s : States) (small : Small g given
         (λ (l : cap < length R). length-take-le cap R (omega arith))
         (le_or_lt (length R) cap)
 
-    pub all_answers : AllAnswers g given clues s cap (take cap (rights g given clues (states_of (border_count g) s))) (ltb cap (length (rights g given clues (states_of (border_count g) s))))
+    pub all_answers : AllAnswers ms g given clues s cap (take cap (rights ms g given clues (states_of (border_count g) s))) (ltb cap (length (rights ms g given clues (states_of (border_count g) s))))
     all_answers =
         record {
           most = rw (length-take cap R) (min-le_left cap (length R));

@@ -15,6 +15,7 @@ use Rattle.lists.specs.Lists.{In, gather}
 use Rattle.lists.proofs.ListLaws.{in_left}
 use Rattle.frame.specs.Frame.{States}
 use Rattle.grid.specs.declared.Grid.{Grid}
+use Rattle.images.specs.declared.Image.{Image}
 use Rattle.grid.specs.Grid.{grid, border_count}
 use Rattle.ledger.specs.Ledger.{whole}
 use Rattle.ledger.proofs.Codes.{clear_both}
@@ -26,6 +27,8 @@ use Rattle.rooms.specs.Units.{GivenWalls}
 use Rattle.rooms.proofs.RoomLaws.{given_in_lem}
 use Rattle.clues.proofs.Fitting.{lists_fit}
 use Rattle.puzzle.specs.declared.Puzzle.{Puzzle}
+use Rattle.puzzle.specs.declared.kind.Kind.{Kind}
+use Rattle.puzzle.specs.Kind.{images_of, kind_images}
 use Rattle.puzzle.specs.Puzzle.{states_of, fresh_puzzle, make_of, grid_of, book_of, borders_of, given_of, clues_of, puzzle_code, onto}
 use Rattle.puzzle.proofs.Basics.{states_length, states_at, states_same}
 use Rattle.puzzle.proofs.Making.{given_kept, clues_kept, given_inside}
@@ -96,22 +99,22 @@ listed_code : (code : ℕ) (boards : List (List ℕ)) (cap : ℕ) (buf : List �
 listed_code zero boards cap buf count more q = refl
 listed_code (suc code) boards cap buf count more q = absurd (true≢false (sym (ap is_listed q) ∙ ap (λ t. is_listed (pick t (listing boards cap buf) (record { answer = Refused (suc code); buffer = buf })).answer) (ne_eqb (suc code) 0 (omega arith))))
 
-module _ (g : Grid) (given clues : List ℕ) (s : States) (small : Small g given clues) (ok : (e : ℕ) → e < border_count g → s e ≤ 2) (walls : GivenWalls given s)
+module _ (ms : List Image) (g : Grid) (given clues : List ℕ) (s : States) (small : Small g given clues) (ok : (e : ℕ) → e < border_count g → s e ≤ 2) (walls : GivenWalls given s)
     (inside : (e : ℕ) → is_given given e ≡ true → e < border_count g) (cap : ℕ) (buf : List ℕ) where
   abbrev S : List ℕ
   S = states_of (border_count g) s
 
   abbrev R : List (List ℕ)
-  R = rights g given clues S
+  R = rights ms g given clues S
 
   each_long : (b : List ℕ) → In b (take cap R) → length b ≡ border_count g
   each_long b m =
-      right_long g given clues S b (rw (take-append-drop cap R) at (in_left b (take cap R) (drop cap R) m)) ∙ states_length (border_count g) s
+      right_long ms g given clues S b (rw (take-append-drop cap R) at (in_left b (take cap R) (drop cap R) m)) ∙ states_length (border_count g) s
 
   -- a listing of them is what is promised
-  listing_fulfils : cap * length S ≤ length buf → Fulfilled g given clues s cap buf (length (take cap R)) (ltb cap (length R)) (listing R cap buf).buffer
+  listing_fulfils : cap * length S ≤ length buf → Fulfilled ms g given clues s cap buf (length (take cap R)) (ltb cap (length R)) (listing R cap buf).buffer
   listing_fulfils places =
-      let a = all_answers g given clues s small ok walls inside cap in
+      let a = all_answers ms g given clues s small ok walls inside cap in
       let z : cap * border_count g ≤ length buf = rw (states_length (border_count g) s) at places in
       let fits : length (take cap R) * border_count g ≤ length buf = omega (arith, mul-le-mul_right {m = length (take cap R)} {n = cap} (border_count g) a.most) in
       record {
@@ -119,23 +122,23 @@ module _ (g : Grid) (given clues : List ℕ) (s : States) (small : Small g given
         behind = behind_stays (border_count g) (take cap R) buf each_long fits;
       }
 
-  by_answer : (count : ℕ) (more : Bool) → cap * length S ≤ length buf → (listing R cap buf).answer ≡ Listed count more → Fulfilled g given clues s cap buf count more (listing R cap buf).buffer
+  by_answer : (count : ℕ) (more : Bool) → cap * length S ≤ length buf → (listing R cap buf).answer ≡ Listed count more → Fulfilled ms g given clues s cap buf count more (listing R cap buf).buffer
   by_answer count more places q = rw (← ap boards_counted q, ← ap more_said q) (listing_fulfils places)
 
   fulfilled : (code count : ℕ) (more : Bool) → (code ≡ 0 → cap * length S ≤ length buf) → (answered code R cap buf).answer ≡ Listed count more
-      → Fulfilled g given clues s cap buf count more (answered code R cap buf).buffer
+      → Fulfilled ms g given clues s cap buf count more (answered code R cap buf).buffer
   fulfilled zero count more places q = by_answer count more (places refl) q
   fulfilled (suc code) count more places q = absurd (omega (arith, listed_code (suc code) R cap buf count more q))
 
 -- ON EVERY RECORD
 module _ (p : Puzzle) (cap : ℕ) (buf : List ℕ) where
   pub every_puzzle : (count : ℕ) (more : Bool) → (boards_of p cap buf).answer ≡ Listed count more
-      → Fulfilled (grid_of p) (given_of p) (clues_of p) (state_at (book_of p).states) cap buf count more (boards_of p cap buf).buffer
+      → Fulfilled (images_of p.kind) (grid_of p) (given_of p) (clues_of p) (state_at (book_of p).states) cap buf count more (boards_of p cap buf).buffer
   every_puzzle count more q =
       let codes = clear_both (puzzle_code p) (places_code (states_in p) cap (length buf)) (listed_code (boards_code p cap buf) (rights_of p) cap buf count more q) in
       let r = ready p codes.0 in
       let fit = lists_fit (grid_of p) (given_of p) (clues_of p) r.lists in
-      fulfilled (grid_of p) (given_of p) (clues_of p) (state_at (book_of p).states) fit.small
+      fulfilled (images_of p.kind) (grid_of p) (given_of p) (clues_of p) (state_at (book_of p).states) fit.small
       (λ e l. rw (states_at (borders_of p) (state_at (book_of p).states) e l) at (states_good p r e l))
       (walls_stand p r) (λ e k. fit.inside e (given_in_lem (given_of p) e k)) cap buf (boards_code p cap buf) count more
       (λ z. enough_places (states_in p) cap (length buf) codes.1) q
@@ -151,7 +154,7 @@ module _ (p : Puzzle) (cap : ℕ) (buf : List ℕ) where
 
 -- a cap of 0 tells whether an answer exists
 pub one_exists : (p : Puzzle) (buf : List ℕ) (count : ℕ) (more : Bool) → (boards_of p 0 buf).answer ≡ Listed count more
-    → (more ≡ true) ↔ ((b : List ℕ) × IsAnswer (grid_of p) (given_of p) (clues_of p) (state_at (book_of p).states) b)
+    → (more ≡ true) ↔ ((b : List ℕ) × IsAnswer (images_of p.kind) (grid_of p) (given_of p) (clues_of p) (state_at (book_of p).states) b)
 one_exists p buf count more q =
     let a = (every_puzzle p 0 buf count more q).answers in
     (λ t. let o = a.beyond.0 t in (o.0, o.1), λ o. a.beyond.1 (o.0, o.1, λ m. none_written (boards_in (borders_of p) count (boards_of p 0 buf).buffer) a.most o.0 m))
@@ -161,8 +164,8 @@ one_exists p buf count more q =
     none_written (c ∷ bs) l b m = absurd (omega arith)
 
 -- where no more is said, exactly the answers are written
-pub exactly : {g : Grid} {given clues : List ℕ} {s : States} {cap : ℕ} {boards : List (List ℕ)} → AllAnswers g given clues s cap boards false
-    → (b : List ℕ) → In b boards ↔ IsAnswer g given clues s b
+pub exactly : {ms : List Image} {g : Grid} {given clues : List ℕ} {s : States} {cap : ℕ} {boards : List (List ℕ)} → AllAnswers ms g given clues s cap boards false
+    → (b : List ℕ) → In b boards ↔ IsAnswer ms g given clues s b
 exactly a b = (
   a.only b,
   λ k.
@@ -173,8 +176,8 @@ exactly a b = (
 )
 
 -- of boards up to a cap of 1, one is written and no more is said exactly when there is one answer and no other
-module _ {g : Grid} {given clues : List ℕ} {s : States} where
-  one_of : (boards : List (List ℕ)) (more : Bool) → AllAnswers g given clues s 1 boards more → ((length boards ≡ 1) × (more ≡ false)) ↔ JustOne g given clues s
+module _ {ms : List Image} {g : Grid} {given clues : List ℕ} {s : States} where
+  one_of : (boards : List (List ℕ)) (more : Bool) → AllAnswers ms g given clues s 1 boards more → ((length boards ≡ 1) × (more ≡ false)) ↔ JustOne ms g given clues s
   one_of [] more a = (
     λ o. absurd (omega (arith, o.0)),
     λ u. absurd (⊎_elim (λ m. m) (λ o. omega (arith, o.0)) (a.whole u.board u.answer)),
@@ -188,7 +191,7 @@ module _ {g : Grid} {given clues : List ℕ} {s : States} where
       alone c (inl q) = q
       alone c (inr m) = absurd m
 
-      said : (t : Bool) → AllAnswers g given clues s 1 (b ∷ []) t → JustOne g given clues s → t ≡ false
+      said : (t : Bool) → AllAnswers ms g given clues s 1 (b ∷ []) t → JustOne ms g given clues s → t ≡ false
       said false x u = refl
       said true x u = let o = x.beyond.0 refl in absurd (o.2 (inl (u.only o.0 o.1 ∙ sym (u.only b (x.only b (inl refl))))))
   one_of (b ∷ c ∷ bs) more a = absurd (omega (arith, a.most))
@@ -200,52 +203,52 @@ boards_many n (suc k) buf = ap suc (boards_many n k (drop n buf))
 
 -- a cap of 1 tells whether there is just one answer
 pub just_one : (p : Puzzle) (buf : List ℕ) (count : ℕ) (more : Bool) → (boards_of p 1 buf).answer ≡ Listed count more
-    → ((count ≡ 1) × (more ≡ false)) ↔ JustOne (grid_of p) (given_of p) (clues_of p) (state_at (book_of p).states)
+    → ((count ≡ 1) × (more ≡ false)) ↔ JustOne (images_of p.kind) (grid_of p) (given_of p) (clues_of p) (state_at (book_of p).states)
 just_one p buf count more q =
     let k = one_of (boards_in (borders_of p) count (boards_of p 1 buf).buffer) more (every_puzzle p 1 buf count more q).answers in
     let e = boards_many (borders_of p) count (boards_of p 1 buf).buffer in
     (λ o. k.0 (e ∙ o.0, o.1), λ u. (sym e ∙ (k.1 u).0, (k.1 u).1))
 
 -- AFTER EVERY LIST OF CALLS from a fresh puzzle
-module _ (h w : ℕ) (given clues : List ℕ) (made : (make_of h w given clues).code ≡ 0) where
+module _ (kind : Kind) (h w : ℕ) (given clues : List ℕ) (made : (make_of kind h w given clues).code ≡ 0) where
   -- what stands after the calls, as a list of states
   abbrev pub standing_list : List Call → List ℕ
   standing_list calls = states_of (border_count (grid h w)) (state_after h w given calls)
 
   module _ (calls : List Call) (cap : ℕ) (buf : List ℕ) where
-    on_book : (b : Book) → puzzle_code (onto (fresh_puzzle (grid h w) given clues) b) ≡ 0 → states_of (border_count (grid h w)) (state_at b.states) ≡ standing_list calls
-        → boards_of (onto (fresh_puzzle (grid h w) given clues) b) cap buf
-        ≡ answered (places_code (standing_list calls) cap (length buf)) (rights (grid h w) given clues (standing_list calls)) cap buf
+    on_book : (b : Book) → puzzle_code (onto (fresh_puzzle kind (grid h w) given clues) b) ≡ 0 → states_of (border_count (grid h w)) (state_at b.states) ≡ standing_list calls
+        → boards_of (onto (fresh_puzzle kind (grid h w) given clues) b) cap buf
+        ≡ answered (places_code (standing_list calls) cap (length buf)) (rights (kind_images kind) (grid h w) given clues (standing_list calls)) cap buf
     on_book b code q =
-        let a = accepted h w given clues made in
-        rw (code, given_kept h w given clues a, clues_kept h w given clues a, q)
+        let a = accepted kind h w given clues made in
+        rw (code, given_kept kind h w given clues a, clues_kept kind h w given clues a, q)
 
     -- THE ANSWER depends on the standing borders alone
-    pub exact : boards_of (after h w given clues calls) cap buf
-        ≡ answered (places_code (standing_list calls) cap (length buf)) (rights (grid h w) given clues (standing_list calls)) cap buf
+    pub exact : boards_of (after kind h w given clues calls) cap buf
+        ≡ answered (places_code (standing_list calls) cap (length buf)) (rights (kind_images kind) (grid h w) given clues (standing_list calls)) cap buf
     exact =
-        let a = accepted h w given clues made in
+        let a = accepted kind h w given clues made in
         let L = ledger_after h w given calls in
-        let p = after h w given clues calls in
-        let r = reached_calls h w given clues made calls in
+        let p = after kind h w given clues calls in
+        let r = reached_calls kind h w given clues made calls in
         rw r.constants
-        (on_book (book_of p) (sym (ap puzzle_code r.constants) ∙ reached_code h w given clues a L p r)
+        (on_book (book_of p) (sym (ap puzzle_code r.constants) ∙ reached_code kind h w given clues a L p r)
         (states_same (border_count (grid h w)) (state_at (book_of p).states) (state_after h w given calls) (λ e l. r.stood.stands e l)))
 
-    pub after_calls_lem : (count : ℕ) (more : Bool) → (boards_of (after h w given clues calls) cap buf).answer ≡ Listed count more
-        → Fulfilled (grid h w) given clues (state_after h w given calls) cap buf count more (boards_of (after h w given clues calls) cap buf).buffer
+    pub after_calls_lem : (count : ℕ) (more : Bool) → (boards_of (after kind h w given clues calls) cap buf).answer ≡ Listed count more
+        → Fulfilled (kind_images kind) (grid h w) given clues (state_after h w given calls) cap buf count more (boards_of (after kind h w given clues calls) cap buf).buffer
     after_calls_lem count more q =
-        let a = accepted h w given clues made in
+        let a = accepted kind h w given clues made in
         let L = ledger_after h w given calls in
-        let r = reached_calls h w given clues made calls in
+        let r = reached_calls kind h w given clues made calls in
         rw exact
-        (fulfilled (grid h w) given clues (state_after h w given calls) a.fit.small
+        (fulfilled (kind_images kind) (grid h w) given clues (state_after h w given calls) a.fit.small
         (λ e l. rw (states_at (border_count (grid h w)) (state_after h w given calls) e l) at (states_ok h w given clues a L r.stood.sound e l))
         (λ e k. standing_given (border_count (grid h w)) (is_given given) (whole L) e k) (given_inside h w given clues a) cap buf
         (places_code (standing_list calls) cap (length buf)) count more (enough_places (standing_list calls) cap (length buf)) (rw exact at q))
 
   pub same : (a b : List Call) → ((e : ℕ) → e < border_count (grid h w) → state_after h w given a e ≡ state_after h w given b e)
-      → (cap : ℕ) (buf : List ℕ) → boards_of (after h w given clues a) cap buf ≡ boards_of (after h w given clues b) cap buf
+      → (cap : ℕ) (buf : List ℕ) → boards_of (after kind h w given clues a) cap buf ≡ boards_of (after kind h w given clues b) cap buf
   same a b alike cap buf =
       let q : standing_list a ≡ standing_list b = states_same (border_count (grid h w)) (state_after h w given a) (state_after h w given b) alike in
-      exact a cap buf ∙ ap (λ s. answered (places_code s cap (length buf)) (rights (grid h w) given clues s) cap buf) q ∙ sym (exact b cap buf)
+      exact a cap buf ∙ ap (λ s. answered (places_code s cap (length buf)) (rights (kind_images kind) (grid h w) given clues s) cap buf) q ∙ sym (exact b cap buf)

@@ -1,5 +1,5 @@
 -- What a search starts with and ends with, and what an accepted puzzle gives it; a law for each answer of the call. Assumes nothing.
-use Prim.Native.Nat.{ℕ, ◌≤◌, ◌<◌}
+use Prim.Native.Nat.{ℕ, ◌+◌, ◌*◌, ◌≤◌, ◌<◌}
 use mathlib.Core.Path.{◌≡◌, refl, ap, sym, ◌∙◌}
 use mathlib.Core.Logic.{◌≢◌}
 use mathlib.Core.Bool.{Bool, true, false, not, true≢false}
@@ -10,13 +10,13 @@ use borrow.Author.Tests.{eqb-true, ne_eqb}
 use lib.Dec.{eqb, ltb}
 use lib.ListN.{length, take, get_or, length-replicate}
 use lib.Seq.{sets, length-take-le, get_or-take}
-use Rattle.limits.specs.Limits.{most_entries}
 use Rattle.lists.specs.Choice.{either}
 use Rattle.lists.specs.Lists.{In, gather}
 use Rattle.lists.proofs.Cases.{not_both}
 use Rattle.lists.proofs.ListLaws.{in_keep}
 use Rattle.grid.specs.declared.Grid.{Grid}
-use Rattle.grid.specs.Grid.{Limits, border_count}
+use Rattle.images.specs.declared.Image.{Image}
+use Rattle.grid.specs.Grid.{Limits, cells, border_count}
 use Rattle.grid.proofs.Geometry.{cells_le}
 use Rattle.borders.specs.Border.{StatesOk}
 use Rattle.ledger.specs.Books.{names_in, state_at}
@@ -27,7 +27,9 @@ use Rattle.rooms.specs.Units.{GivenWalls}
 use Rattle.rooms.proofs.RoomLaws.{given_in_lem}
 use Rattle.clues.proofs.Fitting.{lists_fit}
 use Rattle.puzzle.specs.declared.Puzzle.{Puzzle}
+use Rattle.puzzle.specs.Kind.{images_of, ask_room}
 use Rattle.puzzle.specs.Puzzle.{grid_of, book_of, borders_of, given_of, clues_of, puzzle_code}
+use Rattle.puzzle.proofs.KindLaws.{sixteen_most, translates_room}
 use Rattle.puzzle.proofs.Basics.{states_length, states_at, states_are}
 use Rattle.puzzle.proofs.Ready.{Ready, ready}
 use Rattle.puzzle.proofs.Answers.{second_says}
@@ -43,33 +45,40 @@ use Rattle.borders.specs.declared.Borders.{Borders}
 use Rattle.borders.specs.Fits.{Fits}
 
 -- THE SEARCH
-entries_long : length no_entries ≡ most_entries
+entries_long : (n : ℕ) → length (no_entries n) ≡ n
 unfolding no_entries
-entries_long = length-replicate {A = ℕ} most_entries 0
+entries_long n = length-replicate {A = ℕ} n 0
+
+-- the places that the largest board of each kind asks
+pub translates_fit : (kind : ℕ) (g : Grid) → Limits g → kind ≡ 0 → ask_room kind g ≤ 9216
+translates_fit kind g l q = rw (q, translates_room g) (omega (arith, cells_le g l))
+
+pub images_fit : (kind : ℕ) (g : Grid) → Limits g → ask_room kind g ≤ 16384
+images_fit kind g l = omega (arith, sixteen_most kind (cells g), cells_le g l)
 
 abbrev pub nothing : ℕ → List ℕ → Written
 nothing cap boards = written cap (record { count = 0; more = false }) boards
 
-pub right_long : (g : Grid) (given clues s b : List ℕ) → In b (rights g given clues s) → length b ≡ length s
+pub right_long : (ms : List Image) (g : Grid) (given clues s b : List ℕ) → In b (rights ms g given clues s) → length b ≡ length s
 unfolding rights
-right_long g given clues s b m = over_long s b (in_extensions s b (in_keep (is_right g given clues) (extensions s) b m).0)
+right_long ms g given clues s b m = over_long s b (in_extensions s b (in_keep (is_right ms g given clues) (extensions s) b m).0)
 
-module _ (g : Grid) (given clues s : List ℕ) (cap : ℕ) (boards : List ℕ) where
-  pub at_start : Limits g → Started g s cap boards → Searching g s no_entries (nothing cap boards)
-  at_start l a =
+module _ (ms : List Image) (g : Grid) (given clues s : List ℕ) (cap : ℕ) (boards : List ℕ) where
+  pub at_start : (n : ℕ) → (length ms + 8) * cells g ≤ n → Started g s cap boards → Searching ms g s (no_entries n) (nothing cap boards)
+  at_start n room a =
       record {
-        list_long = omega (arith, entries_long, cells_le g l);
+        list_long = rw (entries_long n) room;
         each = a.each;
         ok = a.ok;
         fits = record { few = omega arith; long = a.long; met = λ q. absurd (not_both false q refl) };
       }
 
-  whole : searched g given clues s (nothing cap boards)
-      ≡ written cap (record { count = length (take cap (rights g given clues s)); more = ltb cap (length (rights g given clues s)) }) (sets boards 0 (gather (λ b. b) (take cap (rights g given clues s))))
-  whole = all_from (length s) cap cap 0 (sym (zero-add cap)) boards (rights g given clues s) (right_long g given clues s) ∙ rw (zero-add (length (take cap (rights g given clues s))), zero-mul (length s))
+  whole : searched ms g given clues s (nothing cap boards)
+      ≡ written cap (record { count = length (take cap (rights ms g given clues s)); more = ltb cap (length (rights ms g given clues s)) }) (sets boards 0 (gather (λ b. b) (take cap (rights ms g given clues s))))
+  whole = all_from (length s) cap cap 0 (sym (zero-add cap)) boards (rights ms g given clues s) (right_long ms g given clues s) ∙ rw (zero-add (length (take cap (rights ms g given clues s))), zero-mul (length s))
 
-  pub at_end : (top : ℕ) (x : Listing) (boards' left : List ℕ) → left ≡ boards' → written top x boards' ≡ searched g given clues s (nothing cap boards)
-      → (Listed x.count x.more ≡ (listing (rights g given clues s) cap boards).answer) × (left ≡ (listing (rights g given clues s) cap boards).buffer)
+  pub at_end : (top : ℕ) (x : Listing) (boards' left : List ℕ) → left ≡ boards' → written top x boards' ≡ searched ms g given clues s (nothing cap boards)
+      → (Listed x.count x.more ≡ (listing (rights ms g given clues s) cap boards).answer) × (left ≡ (listing (rights ms g given clues s) cap boards).buffer)
   at_end top x boards' left k q =
       let e = q ∙ whole in
       (ap (λ (w : Written). Listed w.listing.count w.listing.more) e, k ∙ ap (λ (w : Written). w.boards) e)
@@ -143,5 +152,5 @@ module _ (p : Puzzle) (z : 0 ≡ puzzle_code p) (b : Borders) (q : (b.grid ≡ g
           })
 
       pub all_listed : {given clues : List ℕ} → (given ≡ given_of p) × (clues ≡ clues_of p) → (x : Boards) (buf' : List ℕ)
-          → (let R = rights b.grid given clues (take n (book_of p).states) in (x ≡ (listing R cap buf).answer) × (buf' ≡ (listing R cap buf).buffer)) → Answered x buf'
+          → (let R = rights (images_of p.kind) b.grid given clues (take n (book_of p).states) in (x ≡ (listing R cap buf).answer) × (buf' ≡ (listing R cap buf).buffer)) → Answered x buf'
       all_listed l x buf' o = rw (both_codes ∙ y) (rw (q.0, l.0, l.1, cut_is) at o)

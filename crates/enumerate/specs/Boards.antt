@@ -1,13 +1,15 @@
--- All right boards that extend a started puzzle (SPEC 10.1 to 10.4): which they are, and what the call answers and writes. Assumes nothing.
+-- All right boards that extend a started puzzle (SPEC 10.1 to 10.4, 14.8): which they are, and what the call answers and writes. Assumes nothing.
 use Rattle.std.specs.Prelude.{ℕ, ◌*◌, Bool, true, false, List, [], ◌∷◌, ◌++◌, map, eqb, ltb, leb, length, take, Result, Ok, Err}
 use Rattle.std.proofs.Math.Option.{Option, none, some}
 use Rattle.std.proofs.lemmas.List.Edits.{sets}
 use Rattle.lists.specs.Choice.{pick}
 use Rattle.lists.specs.Lists.{count, keep, gather}
 use Rattle.grid.specs.declared.Grid.{Grid}
+use Rattle.images.specs.declared.Image.{Image}
 use Rattle.ledger.specs.Ledger.{first_code}
 use Rattle.ledger.specs.Books.{state_at}
 use Rattle.puzzle.specs.declared.Puzzle.{Puzzle}
+use Rattle.puzzle.specs.Kind.{images_of}
 use Rattle.puzzle.specs.Fault.{Found, fault_of}
 use Rattle.puzzle.specs.Puzzle.{states_of, grid_of, book_of, borders_of, given_of, clues_of, puzzle_code}
 use Rattle.answers.specs.declared.Refusal.{Refusal}
@@ -24,19 +26,19 @@ unfoldable pub extensions : List ℕ → List (List ℕ)
 extensions [] = [] ∷ []
 extensions (s ∷ states) = let rest = extensions states in pick (eqb s 0) (with_first 1 rest ++ with_first 2 rest) (with_first s rest)
 
--- a full board is right exactly if the checks find nothing on it (SPEC 6.10)
+-- a full board is right exactly if the checks over these images find nothing on it (SPEC 6.10)
 abbrev pub is_nothing : Option Found → Bool
 is_nothing none = true
 is_nothing (some f) = false
 
-unfoldable pub is_right : Grid → List ℕ → List ℕ → List ℕ → Bool
+unfoldable pub is_right : List Image → Grid → List ℕ → List ℕ → List ℕ → Bool
 unfolding fault_of
-is_right g given clues board = is_nothing (fault_of g given clues board)
+is_right ms g given clues board = is_nothing (fault_of ms g given clues board)
 
 -- the right ones of them: the answers (SPEC 10.1)
-unfoldable pub rights : Grid → List ℕ → List ℕ → List ℕ → List (List ℕ)
+unfoldable pub rights : List Image → Grid → List ℕ → List ℕ → List ℕ → List (List ℕ)
 unfolding keep is_right extensions
-rights g given clues states = keep (is_right g given clues) (extensions states)
+rights ms g given clues states = keep (is_right ms g given clues) (extensions states)
 
 -- THE CALL
 -- the states of a puzzle's borders
@@ -44,7 +46,7 @@ abbrev pub states_in : Puzzle → List ℕ
 states_in p = states_of (borders_of p) (state_at (book_of p).states)
 
 abbrev pub rights_of : Puzzle → List (List ℕ)
-rights_of p = rights (grid_of p) (given_of p) (clues_of p) (states_in p)
+rights_of p = rights (images_of p.kind) (grid_of p) (given_of p) (clues_of p) (states_in p)
 
 -- more undecided borders are refused (SPEC 10.4)
 abbrev pub most_undecided : ℕ

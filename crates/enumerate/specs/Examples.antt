@@ -1,9 +1,11 @@
 -- Closed examples of the call: one unclued room unless it says otherwise; 9 stands in each place of the buffer. Assumes nothing.
 use Rattle.std.specs.Prelude.{ℕ, ◌≡◌, refl, true, false, List, [], ◌∷◌, replicate}
 use Rattle.limits.specs.Limits.{no_clue}
-use Rattle.lists.specs.Lists.{count, gather}
+use Rattle.lists.specs.Lists.{count, range, gather}
 use Rattle.ledger.specs.Ledger.{none_twice, stroke_code}
 use Rattle.ledger.specs.Books.{zeros, names_from, state_all, book_holds}
+use Rattle.puzzle.specs.declared.kind.Kind.{Kind}
+use Rattle.puzzle.specs.declared.kind.Kind.TheVariants.{Translates, Images}
 use Rattle.puzzle.specs.Fault.{fault_of}
 use Rattle.clues.specs.Clues.{lists_code}
 use Rattle.puzzle.specs.Puzzle.{together, no_clues, states_of}
@@ -14,7 +16,7 @@ use Rattle.enumerate.specs.Boards.{rights, Enumerated, boards_of}
 
 -- a board without given walls on which these borders are decided
 abbrev started : ℕ → ℕ → List Call → ℕ → ℕ → Enumerated
-started h w calls cap places = boards_of (after h w [] (no_clue ∷ []) calls) cap (replicate places 9)
+started h w calls cap places = boards_of (after Translates h w [] (no_clue ∷ []) calls) cap (replicate places 9)
 
 abbrev lists : ℕ → List ℕ → Enumerated
 lists n buf = record { answer = Listed n false; buffer = buf }
@@ -56,8 +58,16 @@ unfolding run lists_code together book_holds zeros no_clues states_of count
 undecided = (refl, refl)
 
 -- a clue of 4 in the one room of a 1 by 4 board, and a given wall in its middle
-rooms : (boards_of (after 1 4 [] (4 ∷ []) []) 2 (replicate 6 9) ≡ lists 1 (2 ∷ 2 ∷ 2 ∷ 9 ∷ 9 ∷ 9 ∷ []))
-    × (boards_of (after 1 4 (1 ∷ []) (1 ∷ no_clue ∷ []) []) 2 (replicate 3 9) ≡ refuses 6 3)
-    × (boards_of (after 1 4 (1 ∷ []) (1 ∷ no_clue ∷ []) []) 1 (replicate 3 9) ≡ lists 1 (1 ∷ 2 ∷ 1 ∷ []))
+rooms : (boards_of (after Translates 1 4 [] (4 ∷ []) []) 2 (replicate 6 9) ≡ lists 1 (2 ∷ 2 ∷ 2 ∷ 9 ∷ 9 ∷ 9 ∷ []))
+    × (boards_of (after Translates 1 4 (1 ∷ []) (1 ∷ no_clue ∷ []) []) 2 (replicate 3 9) ≡ refuses 6 3)
+    × (boards_of (after Translates 1 4 (1 ∷ []) (1 ∷ no_clue ∷ []) []) 1 (replicate 3 9) ≡ lists 1 (1 ∷ 2 ∷ 1 ∷ []))
 unfolding run lists_code together book_holds zeros no_clues states_of fault_of count rights gather
 rooms = (refl, refl, refl)
+
+-- 2 by 3, three cells round a corner in each room, which is to hold one unit: each is the other turned by half, and no translate of it
+abbrev trominoes : Kind → Enumerated
+trominoes kind = boards_of (after kind 2 3 (1 ∷ 2 ∷ 5 ∷ []) (1 ∷ 1 ∷ []) (decide 0 false ∷ decide 3 false ∷ [])) 1 (replicate 7 9)
+
+kinds : (trominoes Translates ≡ lists 0 (replicate 7 9)) × (trominoes Images ≡ lists 1 (1 ∷ 2 ∷ 2 ∷ 1 ∷ 1 ∷ 2 ∷ 1 ∷ []))
+unfolding run stroke_code none_twice state_all names_from lists_code together book_holds zeros no_clues states_of fault_of count range rights gather
+kinds = (refl, refl)

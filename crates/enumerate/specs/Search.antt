@@ -1,9 +1,9 @@
 -- The search's own terms: the next border, boards that are written one by one, and what the two functions ask and promise. Assumes nothing.
 use Rattle.std.specs.Prelude.{ℕ, suc, ◌+◌, ◌*◌, ◌≤◌, ◌<◌, ◌≡◌, true, List, [], ◌∷◌, eqb, ltb, length, replicate}
 use Rattle.std.proofs.lemmas.List.Edits.{sets}
-use Rattle.limits.specs.Limits.{most_entries}
 use Rattle.lists.specs.Choice.{pick}
 use Rattle.grid.specs.declared.Grid.{Grid}
+use Rattle.images.specs.declared.Image.{Image}
 use Rattle.grid.specs.Grid.{cells, border_count}
 use Rattle.borders.specs.Border.{StatesOk}
 use Rattle.enumerate.specs.declared.Listing.{Listing}
@@ -46,9 +46,9 @@ pub record Fits (n : ℕ) (w : Written) : Type 0 where
   pub long : w.cap * n ≤ length w.boards
   pub met : w.listing.more ≡ true → w.listing.count ≡ w.cap
 
--- a board's borders as they stand, a buffer for the lists of its asks, and places for the boards
-pub record Searching (g : Grid) (states list : List ℕ) (w : Written) : Type 0 where
-  pub list_long : 9 * cells g ≤ length list
+-- a board's borders as they stand, a buffer for the lists of its asks over these images, and places for the boards
+pub record Searching (ms : List Image) (g : Grid) (states list : List ℕ) (w : Written) : Type 0 where
+  pub list_long : (length ms + 8) * cells g ≤ length list
   pub each : length states ≡ border_count g
   pub ok : StatesOk g states
   pub fits : Fits (border_count g) w
@@ -59,8 +59,8 @@ pub record Trying (border : ℕ) (states : List ℕ) : Type 0 where
   pub exists : border < length states
 
 -- what is written when all right boards over these states are
-abbrev pub searched : Grid → List ℕ → List ℕ → List ℕ → Written → Written
-searched g given clues states w = add_all w (rights g given clues states)
+abbrev pub searched : List Image → Grid → List ℕ → List ℕ → List ℕ → Written → Written
+searched ms g given clues states w = add_all w (rights ms g given clues states)
 
 -- a step goes by the same rules, and writes to the same slices; the lists of its asks have as many places as before
 pub record Kept (before after : Search) : Type 0 where
@@ -69,9 +69,9 @@ pub record Kept (before after : Search) : Type 0 where
   pub list_long : length after.list.now ≡ length before.list.now
   pub boards : after.boards.ghost_name ≡ before.boards.ghost_name
 
--- the array of the asks' lists, with nothing written
-unfoldable pub no_entries : List ℕ
-no_entries = replicate most_entries 0
+-- an array of n places for the asks' lists, with nothing written
+unfoldable pub no_entries : ℕ → List ℕ
+no_entries n = replicate n 0
 
 -- a board's borders as they stand, and places for as many boards as the cap
 pub record Started (g : Grid) (states : List ℕ) (cap : ℕ) (boards : List ℕ) : Type 0 where

@@ -65,6 +65,7 @@ pub fn list_right_boards(p: &Puzzle, cap: usize, buffer: &mut [u8]) -> Result<Li
     let states = &mut states[..grid.border_count()];
     check_places(states, cap, buffer.len())?;
     let rules = Rules {
+        kind: p.kind,
         grid,
         given: board.given,
         clues: board.clues,

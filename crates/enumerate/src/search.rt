@@ -3,15 +3,18 @@
 ghost use Rattle.std.specs.Prelude.{◌≡◌, length};
 ghost use Rattle.rooms.specs.Rooms.{room_count};
 ghost use Rattle.rooms.specs.Lent.{Given};
+ghost use Rattle.puzzle.specs.Kind.{images_of};
 
 use crate::{Listing, first_undecided};
 use borders::Borders;
 use grid::Grid;
+use puzzle::kind;
 use room_checks::CluedBoard;
 
-// What a board is right by: its size, its given walls, and a clue for each of its rooms.
+// What a board is right by: its puzzle's kind, by its number, its size, its given walls, and a clue for each of its rooms.
 #[derive(Clone, Copy)]
 pub struct Rules<'a> {
+    pub kind: u8,
     pub grid: Grid,
     pub given: &'a [u16],
     pub clues: &'a [u16],
@@ -50,10 +53,10 @@ impl Search<'_, '_> {
     // board is kept, and else the first undecided border is tried.
     #[cycle(choose_border_try_values)]
     fn choose_border(&mut self, states: &mut [u8])
-        requires { Searching self.old.rules.grid states.old self.old.list.now (written_in self.old) }
+        requires { Searching (images_of self.old.rules.kind) self.old.rules.grid states.old self.old.list.now (written_in self.old) }
         ensures kept { Kept self.old self.new }
         ensures states_unchanged { states.new ≡ states.old }
-        ensures boards_after { written_in self.new ≡ searched self.old.rules.grid self.old.rules.given.now self.old.rules.clues.now states.old (written_in self.old) }
+        ensures boards_after { written_in self.new ≡ searched (images_of self.old.rules.kind) self.old.rules.grid self.old.rules.given.now self.old.rules.clues.now states.old (written_in self.old) }
     {
         if self.listing.more {
             return;
@@ -67,7 +70,8 @@ impl Search<'_, '_> {
             given: self.rules.given,
             clues: self.rules.clues,
         };
-        if puzzle::fault_of(board, self.list).is_some() {
+        let images = kind::images_of(self.rules.kind);
+        if puzzle::fault_of(board, images, self.list).is_some() {
             return;
         }
         match first_undecided(states) {
@@ -80,10 +84,10 @@ impl Search<'_, '_> {
     #[cycle(choose_border_try_values)]
     fn try_values(&mut self, border: usize, states: &mut [u8])
         requires trying { Trying border states.old }
-        requires searching { Searching self.old.rules.grid states.old self.old.list.now (written_in self.old) }
+        requires searching { Searching (images_of self.old.rules.kind) self.old.rules.grid states.old self.old.list.now (written_in self.old) }
         ensures kept { Kept self.old self.new }
         ensures states_unchanged { states.new ≡ states.old }
-        ensures boards_after { written_in self.new ≡ searched self.old.rules.grid self.old.rules.given.now self.old.rules.clues.now states.old (written_in self.old) }
+        ensures boards_after { written_in self.new ≡ searched (images_of self.old.rules.kind) self.old.rules.grid self.old.rules.given.now self.old.rules.clues.now states.old (written_in self.old) }
     {
         states[border] = 1;
         self.choose_border(states);
@@ -94,16 +98,22 @@ impl Search<'_, '_> {
 }
 
 impl Rules<'_> {
+    ghost use Rattle.std.specs.Prelude.{◌≤◌};
+    ghost use Rattle.limits.specs.Limits.{most_image_entries};
+    ghost use Rattle.puzzle.specs.Kind.{ask_room};
     ghost use Rattle.enumerate.specs.Boards.{listing, said, rights};
     ghost use Rattle.enumerate.specs.Search.{Started};
 
-    // The right boards over these states, by a search from the start. The lists of its asks have an array of their own.
-    pub fn search(self, states: &mut [u8], cap: usize, boards: &mut [u8]) -> Listing
-        requires { Started self.grid states.old cap boards.old }
-        ensures value { said result ≡ (listing (rights self.entry.grid self.entry.given.now self.entry.clues.now states.old) cap boards.old).answer }
-        ensures boards_after { boards.new ≡ (listing (rights self.entry.grid self.entry.given.now self.entry.clues.now states.old) cap boards.old).buffer }
+    // The right boards over these states, by a search from the start. The lists of its asks have an array of their own, of N places. Never inlined,
+    // so that no frame has the arrays of both kinds.
+    #[inline(never)]
+    fn search_in<const N: usize>(self, states: &mut [u8], cap: usize, boards: &mut [u8]) -> Listing
+        requires room { (ask_room self.kind self.grid ≤ N) × (N ≤ most_image_entries) }
+        requires started { Started self.grid states.old cap boards.old }
+        ensures value { said result ≡ (listing (rights (images_of self.entry.kind) self.entry.grid self.entry.given.now self.entry.clues.now states.old) cap boards.old).answer }
+        ensures boards_after { boards.new ≡ (listing (rights (images_of self.entry.kind) self.entry.grid self.entry.given.now self.entry.clues.now states.old) cap boards.old).buffer }
     {
-        let mut list = [0u16; limits::ENTRIES];
+        let mut list = [0u16; N];
         let mut search = Search {
             rules: self,
             list: &mut list,
@@ -116,5 +126,18 @@ impl Rules<'_> {
         };
         search.choose_border(states);
         search.listing
+    }
+
+    // The same by an array that is no longer than the kind asks, since all of an array is zeroed.
+    pub fn search(self, states: &mut [u8], cap: usize, boards: &mut [u8]) -> Listing
+        requires { Started self.grid states.old cap boards.old }
+        ensures value { said result ≡ (listing (rights (images_of self.entry.kind) self.entry.grid self.entry.given.now self.entry.clues.now states.old) cap boards.old).answer }
+        ensures boards_after { boards.new ≡ (listing (rights (images_of self.entry.kind) self.entry.grid self.entry.given.now self.entry.clues.now states.old) cap boards.old).buffer }
+    {
+        if self.kind == 0 {
+            self.search_in::<{ limits::ENTRIES }>(states, cap, boards)
+        } else {
+            self.search_in::<{ limits::IMAGE_ENTRIES }>(states, cap, boards)
+        }
     }
 }

@@ -13,6 +13,7 @@ use Rattle.limits.specs.Limits.{no_clue}
 use Rattle.grid.specs.declared.Grid.{Grid}
 use Rattle.grid.specs.Grid.{grid}
 use Rattle.borders.specs.Border.{state_of}
+use Rattle.images.specs.Images.{translates}
 use Rattle.shape.specs.Laws.{FullBoard}
 use Rattle.rooms.specs.Rooms.{is_given, room_ids, room_count}
 use Rattle.rooms.specs.Units.{GivenWalls}
@@ -55,9 +56,9 @@ dominoes (suc (suc zero)) l = inr refl
 dominoes (suc (suc (suc zero))) l = inr refl
 dominoes (suc (suc (suc (suc e)))) l = absurd (omega arith)
 
-dominoes_right : RightBoard size given clues (state_of (1 ∷ 1 ∷ 2 ∷ 2 ∷ []))
+dominoes_right : RightBoard translates size given clues (state_of (1 ∷ 1 ∷ 2 ∷ 2 ∷ []))
 unfolding fault_of
-dominoes_right = (fault_full size given clues small (1 ∷ 1 ∷ 2 ∷ 2 ∷ []) dominoes (walls (1 ∷ 1 ∷ 2 ∷ 2 ∷ []) refl refl)).0 refl
+dominoes_right = (fault_full translates size given clues small (1 ∷ 1 ∷ 2 ∷ 2 ∷ []) dominoes (walls (1 ∷ 1 ∷ 2 ∷ 2 ∷ []) refl refl)).0 refl
 
 -- WRONG: single cells, which have partners, but the room below holds two
 singles : FullBoard size (state_of (2 ∷ 2 ∷ 2 ∷ 2 ∷ []))
@@ -67,13 +68,13 @@ singles (suc (suc zero)) l = inr refl
 singles (suc (suc (suc zero))) l = inr refl
 singles (suc (suc (suc (suc e)))) l = absurd (omega arith)
 
-singles_wrong : RightBoard size given clues (state_of (2 ∷ 2 ∷ 2 ∷ 2 ∷ [])) → ⊥
+singles_wrong : RightBoard translates size given clues (state_of (2 ∷ 2 ∷ 2 ∷ 2 ∷ [])) → ⊥
 unfolding fault_of
 singles_wrong r =
-    some-ne-none (record { check = Room 1; list = 3 ∷ [] }) ((fault_full size given clues small (2 ∷ 2 ∷ 2 ∷ 2 ∷ []) singles (walls (2 ∷ 2 ∷ 2 ∷ 2 ∷ []) refl refl)).1 r)
+    some-ne-none (record { check = Room 1; list = 3 ∷ [] }) ((fault_full translates size given clues small (2 ∷ 2 ∷ 2 ∷ 2 ∷ []) singles (walls (2 ∷ 2 ∷ 2 ∷ 2 ∷ []) refl refl)).1 r)
 
 -- WRONG: dominoes that stand upright, over the given walls
-upright_wrong : RightBoard size given clues (state_of (2 ∷ 2 ∷ 1 ∷ 1 ∷ [])) → ⊥
+upright_wrong : RightBoard translates size given clues (state_of (2 ∷ 2 ∷ 1 ∷ 1 ∷ [])) → ⊥
 unfolding is_given
 upright_wrong r =
     let q : ◌≡◌ {A = ℕ} 1 2 = r.given_walls 2 refl in absurd (omega arith)

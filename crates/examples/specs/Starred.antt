@@ -5,9 +5,11 @@ use Rattle.std.proofs.Math.Option.{Option, none, some}
 use Rattle.limits.specs.Limits.{no_clue}
 use Rattle.lists.specs.Lists.{count}
 use Rattle.grid.specs.Grid.{grid}
+use Rattle.images.specs.Images.{translates}
 use Rattle.shape.specs.Shape.{shape_fault}
 use Rattle.ledger.specs.Ledger.{none_twice, stroke_code}
 use Rattle.ledger.specs.Books.{zeros, names_from, state_all, clear_all, start_of, book_holds}
+use Rattle.puzzle.specs.declared.kind.Kind.TheVariants.{Translates}
 use Rattle.puzzle.specs.declared.Check.{Check}
 use Rattle.puzzle.specs.declared.Check.TheVariants.{Shape, Room}
 use Rattle.puzzle.specs.Answer.{Answer}
@@ -49,10 +51,10 @@ tells (Fault k n) l = fault k l
 tells (Refused n) l = refused n
 
 abbrev pub told : Question → Told
-told (board h w states) = found_by (fault Shape) (shape_fault (grid h w) states)
+told (board h w states) = found_by (fault Shape) (shape_fault translates (grid h w) states)
 told (room n us vs k states) = found_by list (room_fault (graph n (length us) us vs) k (states_in states))
 told (puzzle h w given clues calls) =
-    let a = ask_of (after h w given clues calls) (replicate (9 * (h * w)) 0) in tells a.answer (list_of a)
+    let a = ask_of (after Translates h w given clues calls) (replicate (9 * (h * w)) 0) in tells a.answer (list_of a)
 told (entries l) = list (sorted_once l)
 
 pub record Example : Type 0 where
@@ -106,7 +108,7 @@ unfolding table run stroke_code none_twice state_all names_from shape_fault room
 starred = refl
 
 -- the calls of the file of SPEC 7.9 (decided, decided, a fault of five entries, undone), with refused calls among them that change nothing
-file : replies (fresh_of 1 3 [] (no_clue ∷ []))
+file : replies (fresh_of Translates 1 3 [] (no_clue ∷ []))
     (undo ∷ decide 0 true ∷ decide 2 true ∷ ask [] ∷ decide 0 false ∷ decide 1 false ∷ ask (replicate 28 9) ∷ undo ∷ [])
     ≡ coded 5 ∷ coded 0 ∷ coded 3 ∷ asked (record { answer = Refused 6; buffer = [] }) ∷ coded 4 ∷ coded 0
     ∷ asked (record { answer = Fault Shape 5; buffer = 2 ∷ 2 ∷ 1 ∷ 1 ∷ 1 ∷ replicate 23 9 }) ∷ coded 0 ∷ []
@@ -115,7 +117,7 @@ file = refl
 
 -- the same two borders as one stroke (SPEC 12): refused are then a missing border beside a drawn one (3), a drawn one twice (14) and a drawn one (4);
 -- an empty stroke is accepted and not kept, so that one undo takes both borders back and a second finds nothing (5)
-strokes : replies (fresh_of 1 3 [] (no_clue ∷ []))
+strokes : replies (fresh_of Translates 1 3 [] (no_clue ∷ []))
     (stroke (1 ∷ 2 ∷ []) ∷ ask (replicate 28 9) ∷ stroke (0 ∷ 4 ∷ []) ∷ stroke (0 ∷ 1 ∷ []) ∷ stroke (0 ∷ []) ∷ stroke [] ∷ undo ∷ undo ∷ [])
     ≡ coded 0 ∷ asked (record { answer = Fault Shape 5; buffer = 2 ∷ 2 ∷ 1 ∷ 1 ∷ 1 ∷ replicate 23 9 }) ∷ coded 3 ∷ coded 14 ∷ coded 4 ∷ coded 0 ∷ coded 0 ∷ coded 5 ∷ []
 unfolding replies stroke_code none_twice state_all names_from clear_all start_of lists_code together book_holds zeros no_clues states_of fault_of count

@@ -40,7 +40,8 @@ pub use places::sendai_neighbour;
 pub use prints::sendai_line;
 pub use puzzles::{
     sendai_puzzle_ask, sendai_puzzle_check, sendai_puzzle_decide, sendai_puzzle_make,
-    sendai_puzzle_right_boards, sendai_puzzle_stroke, sendai_puzzle_undo,
+    sendai_puzzle_make_images, sendai_puzzle_right_boards, sendai_puzzle_stroke,
+    sendai_puzzle_undo,
 };
 pub use room_graphs::{
     sendai_room_ask, sendai_room_check, sendai_room_decide, sendai_room_make, sendai_room_stroke,

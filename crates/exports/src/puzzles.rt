@@ -1,6 +1,7 @@
 // The puzzle's calls.
 ghost use Rattle.std.specs.Prelude.{◌≡◌};
 ghost use Rattle.ledger.specs.Ledger.{decisions};
+ghost use Rattle.puzzle.specs.declared.kind.Kind.TheVariants.{Translates, Images};
 ghost use Rattle.puzzle.specs.Puzzle.{make_of, puzzle_code, stroke_of, decide_of, undo_of, ask_of};
 ghost use Rattle.enumerate.specs.Boards.{boards_of};
 ghost use Rattle.as_numbers.specs.Boards.{listing_of};
@@ -8,6 +9,7 @@ ghost use Rattle.as_numbers.specs.Puzzles.{outcome_of};
 
 use as_numbers::boards::Listing;
 use as_numbers::puzzles::Outcome;
+use puzzle::kind::Kind;
 use puzzle::{Made, Puzzle};
 
 #[unsafe(no_mangle)]
@@ -17,9 +19,21 @@ pub extern "C" fn sendai_puzzle_make<'a>(
     given: &'a [u16],
     clues: &'a [u16],
 ) -> Made
-    ensures { result ≡ make_of height width given.now clues.now }
+    ensures { result ≡ make_of Translates height width given.now clues.now }
 {
-    puzzle::make(height, width, given, clues)
+    puzzle::make(Kind::Translates, height, width, given, clues)
+}
+
+#[unsafe(no_mangle)]
+pub extern "C" fn sendai_puzzle_make_images<'a>(
+    height: usize,
+    width: usize,
+    given: &'a [u16],
+    clues: &'a [u16],
+) -> Made
+    ensures { result ≡ make_of Images height width given.now clues.now }
+{
+    puzzle::make(Kind::Images, height, width, given, clues)
 }
 
 #[unsafe(no_mangle)]

@@ -19,6 +19,7 @@ use Rattle.answers.specs.Listed as answer
 use Rattle.grid.specs.declared.Grid.{Grid}
 use Rattle.grid.specs.Grid.{grid, sizes_ok, border_count}
 use Rattle.puzzle.specs.declared.Made.{Made}
+use Rattle.puzzle.specs.declared.kind.Kind.TheVariants.{Translates}
 use Rattle.demand_3.proofs.Demand3.{demand_3}
 use Rattle.case_file.specs.Sound.{decode_of}
 use Rattle.case_file.specs.Encode.{rest, encode}
@@ -65,7 +66,7 @@ module _ (seed h w n : ℕ) (ok : sizes_ok (grid h w) ≡ true) (short : length 
         exist = all_exist_lem (border_count g) n seed;
         made = ap opened_of sound_file ∙ rw (making h w ok) (ap (λ (k : ℕ). opened 0 (open_puzzle h w) 13 k) count_is);
         replied = all_replied h w ok (calls_from (border_count g) n seed) (all_exist_lem (border_count g) n seed);
-        asks = demand_3 h w [] (no_clue ∷ []) (ap (λ (m : Made). m.code) (making h w ok));
+        asks = demand_3 Translates h w [] (no_clue ∷ []) (ap (λ (m : Made). m.code) (making h w ok));
         runs = rw count_is at (file_calls (encode (case_of seed g n)) (case_of seed g n) sound_file);
         least = omega (arith, file_long seed g n, length_least (border_count g) n seed);
         most = omega (arith, file_long seed g n, length_most (border_count g) n seed);

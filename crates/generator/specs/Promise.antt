@@ -8,6 +8,7 @@ use Rattle.case_file.specs.declared.Call.{Call}
 use Rattle.case_file.specs.declared.Call.TheVariants.{Undo, Decide, Ask}
 use Rattle.case_file.specs.Sound.{decode_of}
 use Rattle.puzzle.specs.declared.Puzzle.{Puzzle}
+use Rattle.puzzle.specs.declared.kind.Kind.TheVariants.{Translates}
 use Rattle.puzzle.specs.Answer.{Refused}
 use Rattle.puzzle.specs.Puzzle.{fresh_puzzle}
 use Rattle.demand_3.specs.Run.{Reply, coded, asked, replies}
@@ -36,9 +37,9 @@ RepliedAll [] (r ∷ rs) = ⊥
 RepliedAll (c ∷ cs) [] = ⊥
 RepliedAll (c ∷ cs) (r ∷ rs) = Replied c r × RepliedAll cs rs
 
--- the puzzle without given walls and with one room, which has no clue
+-- the puzzle of translates without given walls and with one room, which has no clue
 abbrev pub open_puzzle : ℕ → ℕ → Puzzle
-open_puzzle h w = fresh_puzzle (grid h w) [] (no_clue ∷ [])
+open_puzzle h w = fresh_puzzle Translates (grid h w) [] (no_clue ∷ [])
 
 module _ (seed h w n : ℕ) where
   abbrev pub borders : ℕ
@@ -59,7 +60,7 @@ module _ (seed h w n : ℕ) where
     pub runs : calls_in n (drop 13 file) ≡ drawn_calls
     -- a run of them refuses none but by 4 and 5, and demand 3 holds of its asks
     pub replied : RepliedAll drawn_calls (replies (open_puzzle h w) (map as_call drawn_calls))
-    pub asks : Demand3 h w [] (no_clue ∷ [])
+    pub asks : Demand3 Translates h w [] (no_clue ∷ [])
     -- its length: a byte or three for each call, behind 13 others
     pub least : 13 + n ≤ length file
     pub most : length file ≤ 13 + 3 * n

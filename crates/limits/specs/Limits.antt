@@ -1,4 +1,4 @@
--- The numbers that bound every record (SPEC 1.1, 1.7, 1.8, 3.6), as the code's constants have them. Assumes nothing.
+-- The numbers that bound every record (SPEC 1.1, 1.7, 1.8, 3.6, 14.5), as the code's constants have them. Assumes nothing.
 use Rattle.std.specs.Prelude.{ℕ}
 
 -- SPEC 1.1, 1.8: cells of 32 by 32, and vertices of a room graph
@@ -12,6 +12,10 @@ most_borders = 1984
 -- SPEC 3.6: nine entries for each cell
 abbrev pub most_entries : ℕ
 most_entries = 9216
+
+-- SPEC 14.5: sixteen where all eight images are tried
+abbrev pub most_image_entries : ℕ
+most_image_entries = 16384
 
 -- SPEC 1.7: no clue
 abbrev pub no_clue : ℕ

@@ -10,6 +10,9 @@ pub const BORDERS: usize = 1984;
 // Entries of an ask's list: nine for each cell.
 pub const ENTRIES: usize = 9216;
 
+// The same where all eight images are tried: sixteen for each cell.
+pub const IMAGE_ENTRIES: usize = 16384;
+
 // In a clue's place: the room has none.
 pub const NO_CLUE: u16 = 65535;
 

@@ -20,17 +20,18 @@ use Rattle.borders.specs.Entry.{entry_of}
 use Rattle.borders.specs.Border.{state_at, stands}
 use Rattle.borders.specs.Fits.{Fits}
 use Rattle.offsets.specs.declared.shift.Shift.{Shift}
-use Rattle.offsets.specs.declared.spot.Spot.{Spot}
+use Rattle.images.specs.declared.Spot.{Spot}
 use Rattle.offsets.specs.declared.table.CellInfo.{CellInfo}
 use Rattle.offsets.specs.Told.{told}
 use Rattle.offsets.specs.Places.{ahead_of, border_of, land_of}
-use Rattle.offsets.specs.Table.{Table, blank, spot, spot_of, unit_in, units_in}
-use Rattle.offsets.specs.Reach.{Bounded, Small}
+use Rattle.images.specs.Images.{direction_in, spot, spot_in}
+use Rattle.offsets.specs.Table.{Table, blank, spot_of, unit_in, units_in}
+use Rattle.offsets.specs.Reach.{InGrid, Small}
 use Rattle.lists.proofs.ChoiceLaws.{both_false}
 use Rattle.offsets.specs.Landings.{bad_of, kept_of, lands_badly, landing_of, fail_at, Turning}
 use Rattle.offsets.proofs.TableLaws.{unit_at_lem, spot_at}
 use Rattle.offsets.proofs.PlaceLaws.{coordinate_moves, place_lands}
-use Rattle.offsets.proofs.ReachLaws.{bounded, Fell, fell, fell_cell}
+use Rattle.offsets.proofs.ReachLaws.{in_grid, Fell, fell, fell_cell}
 
 module _ (g : Grid) (d : Direction) (c : ℕ) where
   pub lands_on : (e : ℕ) → std.Some e ≡ border_of (neighbour_in g d c) → (goes_on g d c ≡ true) × (e ≡ border g d c)
@@ -77,34 +78,36 @@ module _ (g : Grid) (states : List ℕ) (table : List CellInfo) (inner : Bool) (
     kept_shut q = rw (q, b.0, b.2)
 
 -- whether a border of c lands badly, where c falls on x
-module _ (g : Grid) (states : List ℕ) (table : List CellInfo) (inner : Bool) (unit c x : ℕ) (d : Direction) where
+module _ (g : Grid) (s : Shift) (states : List ℕ) (table : List CellInfo) (inner : Bool) (c x : ℕ) (d : Direction) where
   abbrev bad : Bool
-  bad = lands_badly g states (units_in g table) inner unit c x d
+  bad = lands_badly g s states (units_in g table) inner c x d
 
   abbrev kept : Bool
-  kept = kept_of g states (units_in g table) inner unit c d
+  kept = kept_of g states (units_in g table) inner s.unit c d
 
   pub bad_unkept : kept ≡ false → false ≡ bad
   unfolding lands_badly
   bad_unkept k = rw k
 
-  pub bad_end : goes_on g d x ≡ false → false ≡ bad
+  pub bad_end : goes_on g (direction_in s.image d) x ≡ false → false ≡ bad
   unfolding lands_badly stands
   bad_end e = rw e (sym (both_false kept))
 
-  pub bad_there : {n : Neighbour} → kept ≡ true → (goes_on g d x ≡ true) × (n.cell ≡ next g d x) × (n.border ≡ border g d x)
+  pub bad_there : {d' : Direction} → d' ≡ direction_in s.image d → {n : Neighbour} → kept ≡ true → (goes_on g d' x ≡ true) × (n.cell ≡ next g d' x) × (n.border ≡ border g d' x)
       → bad_of inner (get_or states n.border 0) ≡ bad
   unfolding lands_badly stands state_at
-  bad_there k b = rw (k, b.0, b.2)
+  bad_there e k b = rw (k, ← e, b.0, b.2)
 
 -- a border lands where its cell falls
-pub landing_is : (g : Grid) (s : Shift) (p : Spot) (c : ℕ) (d : Direction) → Limits g → Fell g s p c → landing_of g s p d ≡ border_of (neighbour_in g d c)
+pub landing_is : (g : Grid) (s : Shift) (p : Spot) (c : ℕ) (d : Direction) → Limits g → Fell g s p c → landing_of g s p d ≡ border_of (neighbour_in g (direction_in s.image d) c)
 landing_is g s p c d l f =
+    let at = spot_in g s.image p in
+    let lands = direction_in s.image d in
     ap₂ (land_of g)
-    (coordinate_moves p.row f.to.row s.from.row s.to.row (ahead_of d).y f.row_moves)
-    (coordinate_moves p.col f.to.col s.from.col s.to.col (ahead_of d).x f.col_moves)
-    ∙ place_lands g l f.to.row f.to.col f.row_in f.col_in d
-    ∙ ap (λ n. border_of (neighbour_in g d n)) (sym f.number)
+    (coordinate_moves at.row f.to.row s.from.row s.to.row (ahead_of lands).y f.row_moves)
+    (coordinate_moves at.col f.to.col s.from.col s.to.col (ahead_of lands).x f.col_moves)
+    ∙ place_lands g l f.to.row f.to.col f.row_in f.col_in lands
+    ∙ ap (λ n. border_of (neighbour_in g lands n)) (sym f.number)
 
 -- the ways to answer a border of c
 module _ {g : Grid} {states : List ℕ} {table : List CellInfo} {s : Shift} {c : ℕ} (fits : Fits g states) (tab : Table g table) (t : Turning g s c) (inner : Bool) (d : Direction) where
@@ -114,6 +117,10 @@ module _ {g : Grid} {states : List ℕ} {table : List CellInfo} {s : Shift} {c :
   abbrev z : ℕ
   z = t.falls.0
 
+  -- the direction in which it lands
+  abbrev to : Direction
+  to = direction_in s.image d
+
   abbrev answer : std.Option ℕ
   answer = told (fail_at g s states ids inner c d)
 
@@ -121,11 +128,11 @@ module _ {g : Grid} {states : List ℕ} {table : List CellInfo} {s : Shift} {c :
   unfolding fail_at through give
   not_kept k = rw (t.falls.1, k)
 
-  lands_outside : goes_on g d z ≡ false → std.None ≡ answer
+  lands_outside : goes_on g to z ≡ false → std.None ≡ answer
   unfolding fail_at through stands
   lands_outside k = rw (t.falls.1, k) (go (kept_of g states ids inner s.unit c d))
     where
-      go : (b : Bool) → std.None ≡ told (give (both b false) (entry_of inner (border g d z)))
+      go : (b : Bool) → std.None ≡ told (give (both b false) (entry_of inner (border g to z)))
       go true = unfold give in refl
       go false = unfold give in refl
 
@@ -136,24 +143,24 @@ module _ {g : Grid} {states : List ℕ} {table : List CellInfo} {s : Shift} {c :
     spot_is : p ≡ spot g c
     spot_is = p-is ∙ spot_at tab c t.cell
 
-    pub turning_small : Small g s × Bounded p
-    turning_small = (t.small, rw spot_is (bounded t.small.limits c t.cell))
+    pub turning_small : Small g s × InGrid g p
+    turning_small = (t.small, rw spot_is (in_grid c t.cell))
 
   module _ {p : Spot} (p-is : p ≡ spot_of (get_or table c blank)) {r : std.Option ℕ} (lands-is : r ≡ landing_of g s p d) where
-    lands : r ≡ border_of (neighbour_in g d z)
+    lands : r ≡ border_of (neighbour_in g to z)
     lands = lands-is ∙ ap (λ a. landing_of g s a d) (spot_is p-is) ∙ landing_is g s (spot g c) z d fits.limits fall
 
     pub outside : r ≡ std.None → std.None ≡ answer
-    outside e = lands_outside (lands_off g d z (sym e ∙ lands))
+    outside e = lands_outside (lands_off g to z (sym e ∙ lands))
 
     module _ {e : ℕ} (at : r ≡ std.Some e) where
-      on : (goes_on g d z ≡ true) × (e ≡ border g d z)
-      on = lands_on g d z e (sym at ∙ lands)
+      on : (goes_on g to z ≡ true) × (e ≡ border g to z)
+      on = lands_on g to z e (sym at ∙ lands)
 
       pub landed_border : (e < length states) × (e < most_borders)
       landed_border =
-          let k = goes_step g d z (fell_cell g s (spot g c) z fall) on.0 in
-          let j : e < border_count g = rw on.1 (border_lt g d z (next g d z) (border g d z) k) in
+          let k = goes_step g to z (fell_cell g s (spot g c) z fall) on.0 in
+          let j : e < border_count g = rw on.1 (border_lt g to z (next g to z) (border g to z) k) in
           omega (arith, fits.borders, border_count_le g fits.limits)
 
       pub lands_so : kept_of g states ids inner s.unit c d ≡ true → then_some (bad_of inner (get_or states e 0)) (entry_of inner e) ≡ answer

@@ -23,17 +23,26 @@ use Rattle.grid.specs.Grid.{Limits, Cell, row}
 use Rattle.grid.proofs.Geometry.{coords, row_lt, col_lt}
 use Rattle.shape.specs.Shape.{along}
 use Rattle.offsets.specs.declared.shift.Shift.{Shift}
-use Rattle.offsets.specs.declared.spot.Spot.{Spot}
+use Rattle.images.specs.declared.Spot.{Spot}
 use Rattle.offsets.specs.declared.table.CellInfo.{CellInfo}
 use Rattle.offsets.specs.Told.{told}
-use Rattle.offsets.specs.Table.{Table, blank, spot, spot_of, unit_in, potential_in, units_in, potentials_in}
-use Rattle.offsets.specs.Reach.{moved, Bounded, Small, falls_off, falls_marked, reaches_of}
+use Rattle.images.specs.declared.Image.{Image}
+use Rattle.images.specs.Images.{spot, spot_in}
+use Rattle.images.proofs.Beside.{spot_low}
+use Rattle.offsets.specs.Table.{Table, blank, spot_of, unit_in, potential_in, units_in, potentials_in}
+use Rattle.offsets.specs.Reach.{moved, Bounded, InGrid, Small, falls_off, falls_marked, reaches_of}
 use Rattle.offsets.proofs.TableLaws.{unit_at_lem, potential_at, spot_at}
 use Rattle.offsets.proofs.ToldLaws.{told_some, told_none}
 
--- a cell's row and column are small
+-- a cell's row and column are the board's, and small; so are those of its place in an image
+pub in_grid : {g : Grid} → (c : ℕ) → Cell g c → InGrid g (spot g c)
+in_grid {g} c h = (row_lt g c h, col_lt g c h)
+
 pub bounded : {g : Grid} → Limits g → (c : ℕ) → Cell g c → Bounded (spot g c)
 bounded {g} l c h = (omega (arith, row_lt g c h, l.height_fits), omega (arith, col_lt g c h, l.width_fits))
+
+pub image_bounded : {g : Grid} → Limits g → (m : Image) (p : Spot) → InGrid g p → Bounded (spot_in g m p)
+image_bounded {g} l m p i = spot_low g m p i.0 i.1 l
 
 -- along a row or a column
 pub before_start : (n f t u : ℕ) {r : std.Option ℕ} → std.SomeIff r (f ≤ u + t) (u + t - f) → r ≡ std.None → std.None ≡ told (along n f t u)
@@ -65,38 +74,39 @@ along_lt n f t u y q =
 pub along_below : {n : ℕ} (f t u : ℕ) {r : std.Option ℕ} {y : ℕ} → r ≡ told (along n f t u) → r ≡ std.Some y → y < n
 along_below {n} f t u {y = y} e q = (along_lt n f t u y (told_some _ y (sym e ∙ q))).0
 
-module _ (g : Grid) (s : Shift) (p : Spot) where
-  pub off_row : {r : std.Option ℕ} → r ≡ told (along g.height s.from.row s.to.row p.row) → r ≡ std.None → std.None ≡ told (moved g s p)
+module _ (g : Grid) (s : Shift) (p : Spot) {at : Spot} (at-is : at ≡ spot_in g s.image p) where
+  pub off_row : {r : std.Option ℕ} → r ≡ told (along g.height s.from.row s.to.row at.row) → r ≡ std.None → std.None ≡ told (moved g s p)
   unfolding moved through
-  off_row e q = rw (told_none _ (sym e ∙ q))
+  off_row e q = rw (← at-is, told_none _ (sym e ∙ q))
 
-  module _ {b : ℕ} {r : std.Option ℕ} (e : r ≡ told (along g.height s.from.row s.to.row p.row)) (q : r ≡ std.Some b) {t : std.Option ℕ} (e' : t ≡ told (along g.width s.from.col s.to.col p.col)) where
+  module _ {b : ℕ} {r : std.Option ℕ} (e : r ≡ told (along g.height s.from.row s.to.row at.row)) (q : r ≡ std.Some b) {t : std.Option ℕ} (e' : t ≡ told (along g.width s.from.col s.to.col at.col)) where
     pub off_col : t ≡ std.None → std.None ≡ told (moved g s p)
     unfolding moved through
-    off_col k = rw (told_some _ b (sym e ∙ q), told_none _ (sym e' ∙ k))
+    off_col k = rw (← at-is, told_some _ b (sym e ∙ q), told_none _ (sym e' ∙ k))
 
     pub on_cell : {a : ℕ} → t ≡ std.Some a → std.Some (b * g.width + a) ≡ told (moved g s p)
     unfolding moved through
-    on_cell {a} k = rw (told_some _ b (sym e ∙ q), told_some _ a (sym e' ∙ k))
+    on_cell {a} k = rw (← at-is, told_some _ b (sym e ∙ q), told_some _ a (sym e' ∙ k))
 
--- the row and the column on which a cell falls are the board's, and moved as the first cell is
+-- the row and the column on which a cell falls are the board's, and those of its place in the image moved as the first cell's are
 pub record Fell (g : Grid) (s : Shift) (p : Spot) (c : ℕ) : Type 0 where
   pub to : Spot
   pub row_in : to.row < g.height
   pub col_in : to.col < g.width
-  pub row_moves : p.row + s.to.row ≡ to.row + s.from.row
-  pub col_moves : p.col + s.to.col ≡ to.col + s.from.col
+  pub row_moves : (spot_in g s.image p).row + s.to.row ≡ to.row + s.from.row
+  pub col_moves : (spot_in g s.image p).col + s.to.col ≡ to.col + s.from.col
   pub number : c ≡ to.row * g.width + to.col
 
 module _ (g : Grid) (s : Shift) (p : Spot) (c : ℕ) where
   pub fell : moved g s p ≡ some c → Fell g s p c
   unfolding moved
   fell q =
-      let across : ℕ → Option ℕ = λ b. through (along g.width s.from.col s.to.col p.col) (λ a. some (b * g.width + a)) in
-      let k = through_some (along g.height s.from.row s.to.row p.row) across c q in
-      let m = through_some (along g.width s.from.col s.to.col p.col) (λ a. some (k.0 * g.width + a)) c k.2 in
-      let r = along_lt g.height s.from.row s.to.row p.row k.0 k.1 in
-      let t = along_lt g.width s.from.col s.to.col p.col m.0 m.1 in
+      let at : Spot = spot_in g s.image p in
+      let across : ℕ → Option ℕ = λ b. through (along g.width s.from.col s.to.col at.col) (λ a. some (b * g.width + a)) in
+      let k = through_some (along g.height s.from.row s.to.row at.row) across c q in
+      let m = through_some (along g.width s.from.col s.to.col at.col) (λ a. some (k.0 * g.width + a)) c k.2 in
+      let r = along_lt g.height s.from.row s.to.row at.row k.0 k.1 in
+      let t = along_lt g.width s.from.col s.to.col at.col m.0 m.1 in
       record { to = record { row = k.0; col = m.0 }; row_in = r.0; col_in = t.0; row_moves = r.1; col_moves = t.1; number = sym (some-injective _ _ m.2) }
 
   pub fell_cell : Fell g s p c → Cell g c
@@ -155,8 +165,8 @@ module _ {g : Grid} {table : List CellInfo} {marks cs : List ℕ} {s : Shift} (t
     spot_is : at ≡ spot g c
     spot_is = at-is ∙ spot_at tab c on_board_lem
 
-    pub fall_small : Small g s × Bounded at
-    fall_small = (small, rw spot_is (bounded small.limits c on_board_lem))
+    pub fall_small : Small g s × InGrid g at
+    fall_small = (small, rw spot_is (in_grid c on_board_lem))
 
     module _ {f : std.Option ℕ} (fall-is : f ≡ told (moved g s at)) where
       moved_is : moved g s at ≡ moved g s (spot g c)

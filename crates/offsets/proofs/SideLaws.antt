@@ -29,6 +29,8 @@ use Rattle.grid.proofs.Codes.{up_at, down_at, left_at, right_at}
 use Rattle.grid.proofs.Told.{some_told}
 use Rattle.borders.specs.Border.{state_at, stands}
 use Rattle.borders.specs.Fits.{Fits}
+use Rattle.images.specs.Images.{direction_in}
+use Rattle.offsets.specs.declared.shift.Shift.{Shift}
 use Rattle.offsets.specs.Landings.{kept_of, lands_badly}
 use Rattle.offsets.specs.Sides.{shut_to, shut_in, Shut, Inside}
 
@@ -92,12 +94,12 @@ module _ {g : Grid} {states : List ℕ} (f : Fits g states) {y x : ℕ} (i : Ins
       (four (eqb (get_or states (below + (c - g.width)) 0) 2) (eqb (get_or states (below + c) 0) 2) (eqb (get_or states (c - 1 - y) 0) 2) (eqb (get_or states (c - y) 0) 2))
 
 -- where there is neither a Wall nor an edge, no border of c but an inner one must land well
-pub open_lands : (g : Grid) (states ids : List ℕ) (unit c x : ℕ) → shut_in g states c ≡ false → any (lands_badly g states ids false unit c x) around ≡ false
+pub open_lands : (g : Grid) (s : Shift) (states ids : List ℕ) (c x : ℕ) → shut_in g states c ≡ false → any (lands_badly g s states ids false c x) around ≡ false
 unfolding shut_in any lands_badly kept_of
-open_lands g states ids unit c x e =
-    let no : (d : Direction) → In d around → lands_badly g states ids false unit c x d ≡ false =
-    λ d m. ap (λ k. both k (stands g states 1 d x)) (any_none (shut_to g states c) around e d m) in
-    none_any (lands_badly g states ids false unit c x) around no
+open_lands g s states ids c x e =
+    let no : (d : Direction) → In d around → lands_badly g s states ids false c x d ≡ false =
+    λ d m. ap (λ k. both k (stands g states 1 (direction_in s.image d) x)) (any_none (shut_to g states c) around e d m) in
+    none_any (lands_badly g s states ids false c x) around no
 
 -- ALL CELLS
 

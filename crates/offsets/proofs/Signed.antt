@@ -10,7 +10,9 @@ use lib.Signed.{mag, lt_z}
 use mir.Syntax.{w32}
 use mir.Val.{SFits, to_z, of_z}
 use mir.ValLaws.{to_z_pos, to_z-of_z}
-use Rattle.offsets.specs.Places.{coordinate_of}
+use Rattle.grid.specs.declared.Direction.{Direction}
+use Rattle.grid.specs.declared.Direction.TheVariants.{Up, Down, Left, Right}
+use Rattle.offsets.specs.Places.{ahead_of, coordinate_of}
 
 mag_sub : (a b : ℕ) → mag (sub_ℕ a b) ≤ a + b
 mag_sub a b = by_test (ltb a b)
@@ -34,6 +36,19 @@ mag_minus a b = omega (arith, mag_add (pos a) (neg_ℤ (pos b)), mag_neg b)
 
 fits : (z : ℤ) → mag z < 1000 → SFits w32 z
 fits z h = record { sfits = omega arith }
+
+-- a border's place is one from its cell's at most
+near : (z : ℤ) → mag z < 2 → mag (to_z w32 (of_z w32 z)) < 2
+near z h = rw (to_z-of_z w32 z (fits z (omega arith))) h
+
+ahead_low : (d : Direction) → (mag (ahead_of d).y < 2) × (mag (ahead_of d).x < 2)
+ahead_low Up = (omega arith, omega arith)
+ahead_low Down = (omega arith, omega arith)
+ahead_low Left = (omega arith, omega arith)
+ahead_low Right = (omega arith, omega arith)
+
+pub ahead_small : (d : Direction) → (mag (to_z w32 (of_z w32 (ahead_of d).y)) < 2) × (mag (to_z w32 (of_z w32 (ahead_of d).x)) < 2)
+ahead_small d = let k = ahead_low d in (near (ahead_of d).y k.0, near (ahead_of d).x k.1)
 
 module _ (at : ℕ) (ahead : ℤ) (from to : ℕ) (ha : at < 32) (hs : mag ahead < 2) (hf : from < 32) (ht : to < 32) where
   whole : (n : ℕ) → n < 32 → to_z w32 (2 * n) ≡ pos (2 * n)

@@ -14,7 +14,8 @@ use Rattle.grid.specs.Grid.{cells, Cell, row, col}
 use Rattle.grid.proofs.Geometry.{coords}
 use Rattle.std.proofs.lemmas.Nat.{mul-add-lt}
 use Rattle.offsets.specs.declared.table.CellInfo.{CellInfo}
-use Rattle.offsets.specs.Table.{blank, spot, spot_of, Table, unit_in, potential_in, units_in, potentials_in, Fillable, Filled}
+use Rattle.images.specs.Images.{spot}
+use Rattle.offsets.specs.Table.{blank, spot_of, Table, unit_in, potential_in, units_in, potentials_in, Fillable, Filled}
 
 -- WHAT STANDS IN IT
 

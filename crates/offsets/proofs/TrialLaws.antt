@@ -23,24 +23,26 @@ use Rattle.boundary.specs.Boundary.{ahead}
 use Rattle.groups.proofs.GroupLaws.{in_cells}
 use Rattle.shape.specs.declared.Try.{Try}
 use Rattle.shape.specs.declared.Try.TheVariants.{Passed, Good, Failed}
-use Rattle.shape.specs.Shape.{UnitInfo, shift, head_or0, unit_of, adjacent, falls, meets, inner_border, shut, on_wall, on_connected, landing, landed, try, try_at, is_good}
+use Rattle.shape.specs.Shape.{UnitInfo, place, Offset, offset, head_or0, unit_of, adjacent, falls, meets, inner_border, shut, on_wall, on_connected, landing, landed, try, try_at, is_good}
 use Rattle.offsets.specs.declared.shift.Shift.{Shift}
-use Rattle.offsets.specs.declared.spot.Spot.{Spot}
+use Rattle.images.specs.declared.Spot.{Spot}
 use Rattle.offsets.specs.declared.table.CellInfo.{CellInfo}
 use Rattle.offsets.specs.Told.{told}
-use Rattle.offsets.specs.Table.{blank, spot, spot_of, unit_in, potential_in, units_in, potentials_in}
+use Rattle.images.specs.declared.Image.{Image}
+use Rattle.images.specs.Images.{direction_in, spot, spot_in}
+use Rattle.offsets.specs.Table.{blank, spot_of, unit_in, potential_in, units_in, potentials_in}
 use Rattle.offsets.specs.Reach.{moved, Small, falls_off, falls_marked, reaches_of}
 use Rattle.offsets.specs.Landings.{fail_at, fail_cell, first_fail, kept_of, failure_of, lands_well, Falling}
-use Rattle.offsets.specs.Trial.{unit_at, shift_of, tried_at, Unit, Placed}
+use Rattle.offsets.specs.Trial.{unit_at, shift_of, tried_from, tried_at, Unit, Placed}
 use Rattle.offsets.proofs.TableLaws.{potential_at, spot_at}
-use Rattle.offsets.proofs.ReachLaws.{bounded, fell, fell_cell}
+use Rattle.offsets.proofs.ReachLaws.{in_grid, bounded, image_bounded, fell, fell_cell}
 use Rattle.offsets.proofs.WellLaws.{well_is}
 use Rattle.offsets.proofs.NoneLaws.{is_none, none_or_else, good_pick}
 use Rattle.offsets.proofs.ToldLaws.{told_some, told_none}
 
-shift_moved : (g : Grid) (k f t c : ℕ) → shift g f t c ≡ moved g (shift_of g k f t) (spot g c)
-unfolding shift moved
-shift_moved g k f t c = refl
+place_moved : (m : Image) (g : Grid) (k f t c : ℕ) → place m g f t c ≡ moved g (shift_of m g k f t) (spot g c)
+unfolding place moved
+place_moved m g k f t c = refl
 
 pub head_in : (cs : List ℕ) → 0 < length cs → In (head_or0 cs) cs
 unfolding head_or0
@@ -63,56 +65,60 @@ module _ {g : Grid} {table : List CellInfo} {cs : List ℕ} (u : Unit g table cs
   pub cell_of : {i c : ℕ} → i < length cs → c ≡ get_or cs i 0 → Cell g c
   cell_of {i} {c} h q = unit_cell c (rw q (get_d_in 0 cs i h))
 
-  pub shift_is : {i : CellInfo} {t : ℕ} {a b : Spot} → i ≡ get_or table (head_or0 cs) blank → Cell g t → a ≡ spot_of i → b ≡ spot_of (get_or table t blank)
-      → ◌≡◌ {A = Shift} (record { unit = i.unit; from = a; to = b }) (shift_of g (unit_in table (head_or0 cs)) (head_or0 cs) t)
-  shift_is {t} e to_cell x y = rw (x, e, spot_at u.table_of (head_or0 cs) head_cell, y ∙ spot_at u.table_of t to_cell)
+  pub head_spot : {i : CellInfo} {p : Spot} → i ≡ get_or table (head_or0 cs) blank → p ≡ spot_of i → p ≡ spot g (head_or0 cs)
+  head_spot e x = x ∙ ap spot_of e ∙ spot_at u.table_of (head_or0 cs) head_cell
 
-module _ {g : Grid} {states : List ℕ} {table : List CellInfo} {marks cs : List ℕ} {t : ℕ} (p : Placed g states table marks cs) (to_cell : Cell g t) where
+  pub shift_is : (m : Image) {i : CellInfo} {t : ℕ} {p a b : Spot} → i ≡ get_or table (head_or0 cs) blank → Cell g t → p ≡ spot_of i → a ≡ spot_in g m p → b ≡ spot_of (get_or table t blank)
+      → ◌≡◌ {A = Shift} (record { unit = i.unit; image = m; from = a; to = b }) (shift_of m g (unit_in table (head_or0 cs)) (head_or0 cs) t)
+  shift_is m {t} e to_cell x z y = rw (z, head_spot e x, e, y ∙ spot_at u.table_of t to_cell)
+
+-- AN OFFSET of image m that puts cell f of the unit on t
+module _ {g : Grid} {states : List ℕ} {table : List CellInfo} {marks cs : List ℕ} (m : Image) (f : ℕ) {t : ℕ} (p : Placed g states table marks cs) (f_in : In f cs) (to_cell : Cell g t) where
   abbrev ids : List ℕ
   ids = units_in g table
 
   abbrev pids : List ℕ
   pids = potentials_in g table
 
-  abbrev f : ℕ
-  f = head_or0 cs
-
   abbrev unit : ℕ
-  unit = unit_in table f
+  unit = unit_in table (head_or0 cs)
 
   abbrev u : UnitInfo
   u = unit_at g table cs
 
   abbrev s : Shift
-  s = shift_of g unit f t
+  s = shift_of m g unit f t
 
   on_board_lem : (c : ℕ) → In c cs → Cell g c
   on_board_lem c m = (in_cells g ids unit c (rw p.cells_are at m)).0
 
-  first_cell : Cell g f
-  first_cell = on_board_lem f (head_in cs p.some)
+  first_cell : Cell g (head_or0 cs)
+  first_cell = on_board_lem (head_or0 cs) (head_in cs p.some)
 
   small : Small g s
-  small = record { limits = p.limits; from = bounded p.limits f first_cell; to = bounded p.limits t to_cell }
+  small = record { limits = p.limits; from = image_bounded p.limits m (spot g f) (in_grid f (on_board_lem f f_in)); to = bounded p.limits t to_cell }
 
   u_cells : u.cells ≡ cs
   unfolding unit_of
   u_cells = sym p.cells_are
 
-  u_first : u.first ≡ f
+  u_first : u.first ≡ head_or0 cs
   unfolding unit_of
   u_first = ap head_or0 (sym p.cells_are)
 
-  u_own : u.own ≡ potential_in table f
+  u_own : u.own ≡ potential_in table (head_or0 cs)
   unfolding unit_of
-  u_own = ap (λ c. get_or pids c 0) u_first ∙ potential_at g table f first_cell
+  u_own = ap (λ c. get_or pids c 0) u_first ∙ potential_at g table (head_or0 cs) first_cell
+
+  abbrev o : Offset
+  o = offset m g f t
 
   abbrev put : ℕ → Option ℕ
-  put = shift g u.first t
+  put = place m g f t
 
   -- one cell falls as the definition says
   put_is : (c : ℕ) → put c ≡ moved g s (spot g c)
-  put_is c = ap (λ z. shift g z t c) u_first ∙ shift_moved g unit f t c
+  put_is c = place_moved m g unit f t c
 
   falls_is : (c : ℕ) → falls_off g s ids c ≡ falls ids u put c
   unfolding falls unit_of
@@ -150,43 +156,47 @@ module _ {g : Grid} {states : List ℕ} {table : List CellInfo} {marks cs : List
       }
 
   -- a cell's landings are the definition's
-  inner_is : (c : ℕ) (d : Direction) → fail_at g s states ids true c d ≡ on_wall g states ids u put c d
+  inner_is : (c : ℕ) (d : Direction) → fail_at g s states ids true c d ≡ on_wall g states ids u o c d
   unfolding fail_at on_wall kept_of inner_border unit_of
-  inner_is c d = ap (λ o. through o (λ x. give (both (both (goes_on g d c) (ahead g ids unit c d)) (stands g states 2 d x)) (2 * border g d x + 1))) (sym (put_is c))
+  inner_is c d =
+      let to = direction_in m d in
+      ap (λ z. through z (λ x. give (both (both (goes_on g d c) (ahead g ids unit c d)) (stands g states 2 to x)) (2 * border g to x + 1))) (sym (put_is c))
 
-  outer_is : (c : ℕ) (d : Direction) → fail_at g s states ids false c d ≡ on_connected g states put c d
+  outer_is : (c : ℕ) (d : Direction) → fail_at g s states ids false c d ≡ on_connected g states o c d
   unfolding fail_at on_connected kept_of shut
-  outer_is c d = ap (λ o. through o (λ x. give (both (either (not (goes_on g d c)) (eqb (state_at g states d c) 2)) (stands g states 1 d x)) (2 * border g d x))) (sym (put_is c))
+  outer_is c d =
+      let to = direction_in m d in
+      ap (λ z. through z (λ x. give (both (either (not (goes_on g d c)) (eqb (state_at g states d c) 2)) (stands g states 1 to x)) (2 * border g to x))) (sym (put_is c))
 
   inner_first : Option ℕ
-  inner_first = first (λ c. first (on_wall g states ids u put c) forward) u.cells
+  inner_first = first (λ c. first (on_wall g states ids u o c) forward) u.cells
 
   outer_first : Option ℕ
-  outer_first = first (λ c. first (on_connected g states put c) around) u.cells
+  outer_first = first (λ c. first (on_connected g states o c) around) u.cells
 
   first_inner : first_fail g s states ids true cs ≡ inner_first
   unfolding first_fail fail_cell inner_first
   first_inner =
-      first_same (fail_cell g s states ids true) (λ c. first (on_wall g states ids u put c) forward) cs
-      (λ c m. first_same (fail_at g s states ids true c) (on_wall g states ids u put c) forward (λ d k. inner_is c d))
-      ∙ ap (first (λ c. first (on_wall g states ids u put c) forward)) (sym u_cells)
+      first_same (fail_cell g s states ids true) (λ c. first (on_wall g states ids u o c) forward) cs
+      (λ c m. first_same (fail_at g s states ids true c) (on_wall g states ids u o c) forward (λ d k. inner_is c d))
+      ∙ ap (first (λ c. first (on_wall g states ids u o c) forward)) (sym u_cells)
 
   first_outer : first_fail g s states ids false cs ≡ outer_first
   unfolding first_fail fail_cell outer_first
   first_outer =
-      first_same (fail_cell g s states ids false) (λ c. first (on_connected g states put c) around) cs
-      (λ c m. first_same (fail_at g s states ids false c) (on_connected g states put c) around (λ d k. outer_is c d))
-      ∙ ap (first (λ c. first (on_connected g states put c) around)) (sym u_cells)
+      first_same (fail_cell g s states ids false) (λ c. first (on_connected g states o c) around) cs
+      (λ c m. first_same (fail_at g s states ids false c) (on_connected g states o c) around (λ d k. outer_is c d))
+      ∙ ap (first (λ c. first (on_connected g states o c) around)) (sym u_cells)
 
   -- THE ANSWERS, for a shift that is this one
   abbrev answer : Try
-  answer = tried_at g states table cs t
+  answer = tried_from m g states table cs f t
 
   -- whether the offset is good
   pub good_is : is_good answer ≡ both reached (both (is_none (first_fail g s states ids true cs)) (is_none (first_fail g s states ids false cs)))
-  unfolding try_at try landing inner_first outer_first
+  unfolding try landing inner_first outer_first
   good_is =
-      good_pick (both (all (falls ids u put) u.cells) (any (meets g states pids u put) u.cells)) (landing g states ids u put)
+      good_pick (both (all (falls ids u put) u.cells) (any (meets g states pids u put) u.cells)) (landing g states ids u o)
       ∙ ap₂ both (sym reach_is) (none_or_else inner_first outer_first ∙ ap₂ both (ap is_none (sym first_inner)) (ap is_none (sym first_outer)))
 
   module _ {s' : Shift} (e : s' ≡ s) where
@@ -198,7 +208,7 @@ module _ {g : Grid} {states : List ℕ} {table : List CellInfo} {marks cs : List
       met_is = told_met ∙ ap (λ (z : Shift). reaches_of g z ids pids marks cs) e
 
       pub trial_passed : met ≡ false → Passed ≡ answer
-      unfolding try_at try
+      unfolding try
       trial_passed q = rw (sym reach_is ∙ sym met_is ∙ q)
 
       module _ (q : met ≡ true) where
@@ -206,7 +216,7 @@ module _ {g : Grid} {states : List ℕ} {table : List CellInfo} {marks cs : List
         fail_asks = rw e (falling (sym met_is ∙ q))
 
         by_landing : (o : Option ℕ) → or_else inner_first outer_first ≡ o → answer ≡ landed o
-        unfolding try_at try landing inner_first outer_first
+        unfolding try landing inner_first outer_first
         by_landing o k = rw (sym reach_is ∙ sym met_is ∙ q, k)
 
         module _ {r : std.Option ℕ} (failure : r ≡ told (failure_of g s' states ids cs)) where
@@ -229,3 +239,10 @@ module _ {g : Grid} {states : List ℕ} {table : List CellInfo} {marks cs : List
             ∙ ap (λ (z : Shift). all (lands_well g z states ids) cs) e
             ∙ well_is g states ids s (falling (sym met_is ∙ q))
             ∙ sym (rw (sym met_is ∙ q) at good_is)
+
+-- the offset of its first cell is the definition's
+pub tried_first : (m : Image) {g : Grid} (states : List ℕ) {table : List CellInfo} {cs : List ℕ} (t : ℕ) → Unit g table cs
+    → tried_from m g states table cs (head_or0 cs) t ≡ tried_at m g states table cs t
+unfolding try_at unit_of
+tried_first m {g} states {table} {cs} t u =
+    ap (λ (z : ℕ). try g states (units_in g table) (potentials_in g table) (unit_at g table cs) (offset m g z t)) (ap head_or0 u.cells_are)

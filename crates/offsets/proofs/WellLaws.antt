@@ -14,14 +14,15 @@ use Rattle.lists.proofs.ListLaws.{get_d_in}
 use Rattle.grid.specs.declared.Grid.{Grid}
 use Rattle.grid.specs.Grid.{Cell}
 use Rattle.offsets.specs.declared.shift.Shift.{Shift}
-use Rattle.offsets.specs.declared.spot.Spot.{Spot}
+use Rattle.images.specs.declared.Spot.{Spot}
 use Rattle.offsets.specs.declared.table.CellInfo.{CellInfo}
 use Rattle.offsets.specs.Told.{told}
-use Rattle.offsets.specs.Table.{Table, blank, spot, spot_of, units_in}
-use Rattle.offsets.specs.Reach.{Bounded, Small, moved}
+use Rattle.images.specs.Images.{spot}
+use Rattle.offsets.specs.Table.{Table, blank, spot_of, units_in}
+use Rattle.offsets.specs.Reach.{InGrid, Small, moved}
 use Rattle.offsets.specs.Landings.{directions_of, fail_at, fail_cell, first_fail, lands_badly, has_bad, lands_well, Falling}
 use Rattle.offsets.proofs.TableLaws.{spot_at}
-use Rattle.offsets.proofs.ReachLaws.{bounded, fell, fell_cell, next_cell}
+use Rattle.offsets.proofs.ReachLaws.{in_grid, fell, fell_cell, next_cell}
 use Rattle.offsets.proofs.NoneLaws.{is_none, none_give, none_or_else, none_first, neither}
 use Rattle.offsets.proofs.ToldLaws.{told_some, told_none}
 
@@ -47,8 +48,8 @@ module _ {g : Grid} (states : List ℕ) {table : List CellInfo} {cs : List ℕ} 
     spot_is : p ≡ spot g c
     spot_is = p-is ∙ spot_at tab c cell_on
 
-    pub fall_asks : Small g s × Bounded p
-    fall_asks = (r.small, rw spot_is (bounded r.small.limits c cell_on))
+    pub fall_asks : Small g s × InGrid g p
+    fall_asks = (r.small, rw spot_is (in_grid c cell_on))
 
     module _ {f : std.Option ℕ} (fall-is : f ≡ told (moved g s p)) where
       pub turn_off : f ≡ std.None → all test (drop i cs) ≡ all test cs → false ≡ all test cs
@@ -62,7 +63,7 @@ module _ {g : Grid} (states : List ℕ) {table : List CellInfo} {cs : List ℕ} 
         pub fall_on : Cell g x
         fall_on = fell_cell g s (spot g c) x (fell g s (spot g c) x falls_on)
 
-        module _ {bad : Bool} (bad-is : bad ≡ has_bad g states (units_in g table) s.unit c x) where
+        module _ {bad : Bool} (bad-is : bad ≡ has_bad g s states (units_in g table) c x) where
           test_is : test c ≡ not bad
           unfolding holds
           test_is = rw falls_on (ap not (sym bad-is))
@@ -89,16 +90,16 @@ module _ (g : Grid) (states ids : List ℕ) (s : Shift) where
 
   -- a cell that falls on x
   module _ (c x : ℕ) (on : moved g s (spot g c) ≡ some x) where
-    found_none : (inner : Bool) → is_none (found inner c) ≡ not (any (lands_badly g states ids inner s.unit c x) (directions_of inner))
+    found_none : (inner : Bool) → is_none (found inner c) ≡ not (any (lands_badly g s states ids inner c x) (directions_of inner))
     unfolding found fail_cell fail_at through lands_badly
     found_none inner =
-        none_first (fail_at g s states ids inner c) (lands_badly g states ids inner s.unit c x) (directions_of inner)
-        (λ d m. rw on (none_give (lands_badly g states ids inner s.unit c x d) _))
+        none_first (fail_at g s states ids inner c) (lands_badly g s states ids inner c x) (directions_of inner)
+        (λ d m. rw on (none_give (lands_badly g s states ids inner c x d) _))
 
     well_found : lands_well g s states ids c ≡ both (is_none (found true c)) (is_none (found false c))
     unfolding holds has_bad
     well_found =
-        let bad : Bool → Bool = λ inner. any (lands_badly g states ids inner s.unit c x) (directions_of inner) in
+        let bad : Bool → Bool = λ inner. any (lands_badly g s states ids inner c x) (directions_of inner) in
         rw on (sym (neither (bad true) (bad false)) ∙ ap₂ both (sym (found_none true)) (sym (found_none false)))
 
   both_found : (cs : List ℕ) → ((c : ℕ) → In c cs → lands_well g s states ids c ≡ both (is_none (found true c)) (is_none (found false c)))

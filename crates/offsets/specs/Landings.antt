@@ -12,10 +12,10 @@ use Rattle.borders.specs.Entry.{entry_of}
 use Rattle.borders.specs.Border.{state_at, stands}
 use Rattle.boundary.specs.Boundary.{ahead}
 use Rattle.offsets.specs.declared.shift.Shift.{Shift}
-use Rattle.offsets.specs.declared.spot.Spot.{Spot}
+use Rattle.images.specs.declared.Spot.{Spot}
 use Rattle.offsets.specs.declared.landings.Kind.{Kind}
 use Rattle.offsets.specs.declared.landings.Kind.TheVariants.{Inner, Outer}
-use Rattle.offsets.specs.Table.{spot}
+use Rattle.images.specs.Images.{direction_in, spot, spot_in}
 use Rattle.offsets.specs.Places.{ahead_of, coordinate_of, land_of}
 use Rattle.offsets.specs.Reach.{moved, Small}
 
@@ -42,13 +42,17 @@ kept_of g states ids inner unit c d =
 
 -- where the border of the cell at a row and column lands, by doubled coordinates
 abbrev pub landing_of : Grid → Shift → Spot → Direction → std.Option ℕ
-landing_of g s p d = land_of g (coordinate_of p.row (ahead_of d).y s.from.row s.to.row) (coordinate_of p.col (ahead_of d).x s.from.col s.to.col)
+landing_of g s p d =
+    let at = spot_in g s.image p in
+    let ahead = ahead_of (direction_in s.image d) in
+    land_of g (coordinate_of at.row ahead.y s.from.row s.to.row) (coordinate_of at.col ahead.x s.from.col s.to.col)
 
 -- the entry of a border of c that lands badly
 unfoldable pub fail_at : Grid → Shift → List ℕ → List ℕ → Bool → ℕ → Direction → Option ℕ
 unfolding through give kept_of stands border moved
 fail_at g s states ids inner c d =
-    through (moved g s (spot g c)) (λ x. give (both (kept_of g states ids inner s.unit c d) (stands g states (bad_state inner) d x)) (entry_of inner (border g d x)))
+    let lands = direction_in s.image d in
+    through (moved g s (spot g c)) (λ x. give (both (kept_of g states ids inner s.unit c d) (stands g states (bad_state inner) lands x)) (entry_of inner (border g lands x)))
 
 -- the first of a cell's borders that lands badly
 unfoldable pub fail_cell : Grid → Shift → List ℕ → List ℕ → Bool → ℕ → Option ℕ
@@ -65,18 +69,18 @@ unfolding or_else first_fail
 failure_of g s states ids cs = or_else (first_fail g s states ids true cs) (first_fail g s states ids false cs)
 
 -- the border of c in that direction lands badly, where c falls on x
-unfoldable pub lands_badly : Grid → List ℕ → List ℕ → Bool → ℕ → ℕ → ℕ → Direction → Bool
+unfoldable pub lands_badly : Grid → Shift → List ℕ → List ℕ → Bool → ℕ → ℕ → Direction → Bool
 unfolding kept_of stands
-lands_badly g states ids inner unit c x d = both (kept_of g states ids inner unit c d) (stands g states (bad_state inner) d x)
+lands_badly g s states ids inner c x d = both (kept_of g states ids inner s.unit c d) (stands g states (bad_state inner) (direction_in s.image d) x)
 
 -- one of the borders of c lands badly, where c falls on x
-unfoldable pub has_bad : Grid → List ℕ → List ℕ → ℕ → ℕ → ℕ → Bool
+unfoldable pub has_bad : Grid → Shift → List ℕ → List ℕ → ℕ → ℕ → Bool
 unfolding any lands_badly
-has_bad g states ids unit c x = either (any (lands_badly g states ids true unit c x) (directions_of true)) (any (lands_badly g states ids false unit c x) (directions_of false))
+has_bad g s states ids c x = either (any (lands_badly g s states ids true c x) (directions_of true)) (any (lands_badly g s states ids false c x) (directions_of false))
 
 -- c falls on the board, and its borders land well
 abbrev pub lands_well : Grid → Shift → List ℕ → List ℕ → ℕ → Bool
-lands_well g s states ids c = holds (moved g s (spot g c)) (λ x. not (has_bad g states ids s.unit c x))
+lands_well g s states ids c = holds (moved g s (spot g c)) (λ x. not (has_bad g s states ids c x))
 
 -- c is a cell, and falls on the board
 pub record Turning (g : Grid) (s : Shift) (c : ℕ) : Type 0 where

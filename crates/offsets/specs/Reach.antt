@@ -7,13 +7,18 @@ use Rattle.grid.specs.declared.Grid.{Grid}
 use Rattle.grid.specs.Grid.{Limits}
 use Rattle.shape.specs.Shape.{along}
 use Rattle.offsets.specs.declared.shift.Shift.{Shift}
-use Rattle.offsets.specs.declared.spot.Spot.{Spot}
-use Rattle.offsets.specs.Table.{spot}
+use Rattle.images.specs.declared.Spot.{Spot}
+use Rattle.images.specs.Images.{spot, spot_in}
 
--- the cell on which the cell at a row and column falls
+-- the cell on which the cell at a row and column falls: its place in the image is moved (SPEC 4.8, 14.2)
 unfoldable pub moved : Grid → Shift → Spot → Option ℕ
 moved g s p =
-    through (along g.height s.from.row s.to.row p.row) (λ b. through (along g.width s.from.col s.to.col p.col) (λ a. some (b * g.width + a)))
+    let at = spot_in g s.image p in
+    through (along g.height s.from.row s.to.row at.row) (λ b. through (along g.width s.from.col s.to.col at.col) (λ a. some (b * g.width + a)))
+
+-- a row and a column of the board
+abbrev pub InGrid : Grid → Spot → Type 0
+InGrid g p = (p.row < g.height) × (p.col < g.width)
 
 -- sums of these fit, and of those of a shift
 abbrev pub Bounded : Spot → Type 0

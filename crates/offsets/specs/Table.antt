@@ -3,17 +3,14 @@ use Rattle.std.specs.Prelude.{ℕ, ◌≤◌, ◌≡◌, List, map, get_or, leng
 use Rattle.lists.specs.Lists.{range}
 use Rattle.grid.specs.declared.Grid.{Grid}
 use Rattle.grid.specs.Grid.{Limits, cells, Cell, row, col}
-use Rattle.offsets.specs.declared.spot.Spot.{Spot}
+use Rattle.images.specs.declared.Spot.{Spot}
 use Rattle.offsets.specs.declared.table.CellInfo.{CellInfo}
 
 -- what stands behind the last cell
 abbrev pub blank : CellInfo
 blank = record { row = 0; col = 0; unit = 0; potential = 0 }
 
--- a cell's row and column, and those that the table has of it
-abbrev pub spot : Grid → ℕ → Spot
-spot g c = record { row = row g c; col = col g c }
-
+-- the row and column that the table has of a cell
 abbrev pub spot_of : CellInfo → Spot
 spot_of info = record { row = info.row; col = info.col }
 

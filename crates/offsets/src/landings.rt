@@ -7,8 +7,8 @@ ghost use Rattle.offsets.specs.Landings.{Turning, Falling, is_inner, directions_
 
 use crate::chart::Chart;
 use crate::shift::Shift;
-use crate::spot::Spot;
 use grid::Direction;
+use images::Spot;
 
 // Which of a unit's borders are looked at: those between its cells, or else its Walls and the board's edges.
 #[derive(Clone, Copy, Debug, PartialEq, Eq)]
@@ -68,20 +68,21 @@ impl Chart<'_> {
     #[inline(always)]
     fn lands_badly(
         self,
-        unit: u16,
+        shift: Shift,
         kind: Kind,
         cell: usize,
         fallen: usize,
         direction: Direction,
     ) -> bool
         requires { Cell self.borders.grid cell × Cell self.borders.grid fallen }
-        ensures { result ≡ lands_badly self.entry.borders.grid self.entry.borders.states.now (units_in self.entry.borders.grid self.entry.table.now) (is_inner kind) unit cell fallen direction }
+        ensures { result ≡ lands_badly self.entry.borders.grid shift self.entry.borders.states.now (units_in self.entry.borders.grid self.entry.table.now) (is_inner kind) cell fallen direction }
     {
-        if !self.keeps(unit, kind, cell, direction) {
+        if !self.keeps(shift.unit, kind, cell, direction) {
             return false;
         }
         let Spot { row, col } = self.table[fallen].spot();
-        match self.borders.grid.step_at(row, col, fallen, direction) {
+        let lands = shift.image.direction(direction);
+        match self.borders.grid.step_at(row, col, fallen, lands) {
             Some(beyond) => kind.is_bad(self.borders.states[beyond.border]),
             None => false,
         }
@@ -90,29 +91,29 @@ impl Chart<'_> {
     // Whether one of the borders of a cell that falls on `fallen` lands badly. Around a cell without a Wall or an edge on a side only inner borders
     // must land well. The directions are written out as in `cell_failure`.
     #[inline(always)]
-    pub fn has_bad(self, unit: u16, cell: usize, fallen: usize) -> bool
+    pub fn has_bad(self, shift: Shift, cell: usize, fallen: usize) -> bool
         requires { Cell self.borders.grid cell × Cell self.borders.grid fallen }
-        ensures { result ≡ has_bad self.entry.borders.grid self.entry.borders.states.now (units_in self.entry.borders.grid self.entry.table.now) unit cell fallen }
+        ensures { result ≡ has_bad self.entry.borders.grid shift self.entry.borders.states.now (units_in self.entry.borders.grid self.entry.table.now) cell fallen }
     {
-        if self.lands_badly(unit, Kind::Inner, cell, fallen, Direction::Down) {
+        if self.lands_badly(shift, Kind::Inner, cell, fallen, Direction::Down) {
             return true;
         }
-        if self.lands_badly(unit, Kind::Inner, cell, fallen, Direction::Right) {
+        if self.lands_badly(shift, Kind::Inner, cell, fallen, Direction::Right) {
             return true;
         }
         if !self.is_shut(cell) {
             return false;
         }
-        if self.lands_badly(unit, Kind::Outer, cell, fallen, Direction::Up) {
+        if self.lands_badly(shift, Kind::Outer, cell, fallen, Direction::Up) {
             return true;
         }
-        if self.lands_badly(unit, Kind::Outer, cell, fallen, Direction::Down) {
+        if self.lands_badly(shift, Kind::Outer, cell, fallen, Direction::Down) {
             return true;
         }
-        if self.lands_badly(unit, Kind::Outer, cell, fallen, Direction::Left) {
+        if self.lands_badly(shift, Kind::Outer, cell, fallen, Direction::Left) {
             return true;
         }
-        self.lands_badly(unit, Kind::Outer, cell, fallen, Direction::Right)
+        self.lands_badly(shift, Kind::Outer, cell, fallen, Direction::Right)
     }
 
     // The entry of a cell's border in a direction, where it lands badly.

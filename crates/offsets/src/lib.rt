@@ -12,6 +12,7 @@ ghost use Rattle.offsets.specs.Landings.{Falling, failure_of, lands_well};
 ghost use Rattle.offsets.specs.Trial.{shift_of, tried_at};
 
 use chart::Chart;
+use images::Image;
 use landings::Kind;
 use shape::Try;
 use shift::Shift;
@@ -23,22 +24,22 @@ pub mod landings;
 mod places;
 pub mod shift;
 pub mod sides;
-pub mod spot;
 pub mod table;
 pub mod trial;
 pub mod unit;
 
 impl UnitCells<'_> {
-    // Where the cells go, whose first cell goes to `to`.
+    // Where an image puts the cells, whose first cell goes to `to`.
     #[inline(always)]
-    fn shift_to(self, to: usize) -> Shift
+    fn shift_to(self, image: Image, to: usize) -> Shift
         requires { Cell self.chart.borders.grid to }
-        ensures { result ≡ shift_of self.entry.chart.borders.grid (unit_in self.entry.chart.table.now (head_or0 self.entry.cells.now)) (head_or0 self.entry.cells.now) to }
+        ensures { result ≡ shift_of image self.entry.chart.borders.grid (unit_in self.entry.chart.table.now (head_or0 self.entry.cells.now)) (head_or0 self.entry.cells.now) to }
     {
         let first = self.first();
         Shift {
             unit: first.unit,
-            from: first.spot(),
+            image,
+            from: image.spot(self.chart.borders.grid, first.spot()),
             to: self.chart.table[to].spot(),
         }
     }
@@ -69,7 +70,7 @@ impl UnitCells<'_> {
             let Some(fallen) = shift.falls(borders.grid, table[cell].spot()) else {
                 return false;
             };
-            if self.chart.has_bad(shift.unit, cell, fallen) {
+            if self.chart.has_bad(shift, cell, fallen) {
                 return false;
             }
         }
@@ -100,12 +101,12 @@ impl Trial<'_> {
         met
     }
 
-    // What comes of the unit with its first cell put on `to`.
-    pub fn at(self, to: usize) -> Try
+    // What comes of an image of the unit with its first cell put on `to`.
+    pub fn at(self, image: Image, to: usize) -> Try
         requires { Cell self.unit.chart.borders.grid to }
-        ensures { result ≡ tried_at self.entry.unit.chart.borders.grid self.entry.unit.chart.borders.states.now self.entry.unit.chart.table.now self.entry.unit.cells.now to }
+        ensures { result ≡ tried_at image self.entry.unit.chart.borders.grid self.entry.unit.chart.borders.states.now self.entry.unit.chart.table.now self.entry.unit.cells.now to }
     {
-        let shift = self.unit.shift_to(to);
+        let shift = self.unit.shift_to(image, to);
         if !self.reaches(shift) {
             return Try::Passed;
         }
@@ -117,11 +118,11 @@ impl Trial<'_> {
 
     // Whether that offset is good. The trials that need no entry are compiled into their loop.
     #[inline(always)]
-    pub fn is_good_at(self, to: usize) -> bool
+    pub fn is_good_at(self, image: Image, to: usize) -> bool
         requires { Cell self.unit.chart.borders.grid to }
-        ensures { result ≡ is_good (tried_at self.entry.unit.chart.borders.grid self.entry.unit.chart.borders.states.now self.entry.unit.chart.table.now self.entry.unit.cells.now to) }
+        ensures { result ≡ is_good (tried_at image self.entry.unit.chart.borders.grid self.entry.unit.chart.borders.states.now self.entry.unit.chart.table.now self.entry.unit.cells.now to) }
     {
-        let shift = self.unit.shift_to(to);
+        let shift = self.unit.shift_to(image, to);
         self.reaches(shift) && self.unit.lands_well(shift)
     }
 }

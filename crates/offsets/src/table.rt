@@ -2,8 +2,8 @@
 ghost use Rattle.std.specs.Prelude.{◌≡◌};
 ghost use Rattle.offsets.specs.Table.{spot_of, Fillable, Filled};
 
-use crate::spot::Spot;
 use grid::Grid;
+use images::Spot;
 
 // What the table has of a cell; zeros stand where no cell is.
 #[derive(Clone, Copy, Debug, Default, PartialEq, Eq)]

@@ -14,6 +14,7 @@ use Rattle.lists.specs.Choice.{pick, or_else}
 use Rattle.lists.specs.Lists.{range, first}
 use Rattle.lists.proofs.ListLaws.{in_range}
 use Rattle.grid.specs.declared.Grid.{Grid}
+use Rattle.images.specs.declared.Image.{Image}
 use Rattle.borders.specs.Border.{state_of}
 use Rattle.borders.proofs.Congruence.{first_same}
 use Rattle.shape.specs.Shape.{shape_fault}
@@ -70,7 +71,7 @@ is_fault_lem f x k buf buf' q p e = rw (q, p) (refl, e)
 same_answer : (f h : Option Found) (x : std.Option Fault) (buf buf' : List ℕ) → f ≡ h → (x ≡ told f) × (buf' ≡ writes 0 f buf) → (x ≡ told h) × (buf' ≡ writes 0 h buf)
 same_answer f h x buf buf' q e = rw (← q) e
 
-module _ (g : Grid) (given clues states : List ℕ) (one_each : length clues ≡ room_count g given) where
+module _ (ms : List Image) (g : Grid) (given clues states : List ℕ) (one_each : length clues ≡ room_count g given) where
   -- where every room has a clue, the counts by the clues' places are the rooms' checks
   same_check : (r : ℕ) → r < room_count g given → found_by (Room r) (clue_list g (is_given given) (room_cells g given r) (get_or clues r 0) (state_of states)) ≡ room_check g given clues states r
   unfolding clue_list room_check
@@ -92,15 +93,15 @@ module _ (g : Grid) (given clues states : List ℕ) (one_each : length clues ≡
       (λ r m. asked_room r (clue_list g (is_given given) (room_cells g given r) (get_or clues r 0) (state_of states)) ∙ same_check r (in_range (room_count g given) r m)))
 
   -- the shape check decides, or else the rooms
-  fault_shape : (L : List ℕ) → shape_fault g states ≡ some L → fault_of g given clues states ≡ some (record { check = Shape; list = L })
+  fault_shape : (L : List ℕ) → shape_fault ms g states ≡ some L → fault_of ms g given clues states ≡ some (record { check = Shape; list = L })
   unfolding fault_of found_by or_else
   fault_shape L q = rw q
 
-  fault_rooms : shape_fault g states ≡ none → fault_of g given clues states ≡ asked (rooms_in g given clues states)
+  fault_rooms : shape_fault ms g states ≡ none → fault_of ms g given clues states ≡ asked (rooms_in g given clues states)
   unfolding fault_of found_by or_else
   fault_rooms q = rw q (sym rooms_check)
 
-  module _ (buf buf' : List ℕ) (r : std.Option ℕ) (t : Finds (shape_fault g states) buf buf' r) where
+  module _ (buf buf' : List ℕ) (r : std.Option ℕ) (t : Finds (shape_fault ms g states) buf buf' r) where
     -- what a stage told
     told_fault : (o : Option (List ℕ)) (n : ℕ) → std.Some n ≡ length_found o → (L : List ℕ) × (o ≡ some L) × (n ≡ length L)
     told_fault none n q = absurd (let z : ◌≡◌ {A = ℕ} 0 1 = cc in omega arith)
@@ -110,17 +111,17 @@ module _ (g : Grid) (given clues states : List ℕ) (one_each : length clues ≡
     told_clear none q = refl
     told_clear (some L) q = absurd (let z : ◌≡◌ {A = ℕ} 0 1 = cc in omega arith)
 
-    pub shape_fault_lem : (n : ℕ) → r ≡ std.Some n → (std.Some (record { check = Shape; len = n }) ≡ told (fault_of g given clues states)) × (buf' ≡ writes 0 (fault_of g given clues states) buf)
+    pub shape_fault_lem : (n : ℕ) → r ≡ std.Some n → (std.Some (record { check = Shape; len = n }) ≡ told (fault_of ms g given clues states)) × (buf' ≡ writes 0 (fault_of ms g given clues states) buf)
     shape_fault_lem n q =
-        let o = told_fault (shape_fault g states) n (sym q ∙ t.answer) in
-        is_fault_lem (fault_of g given clues states) (record { check = Shape; list = o.0 }) n buf buf' (fault_shape o.0 o.1) o.2 (t.stored ∙ ap (λ f. written (outcome f) buf) o.1)
+        let o = told_fault (shape_fault ms g states) n (sym q ∙ t.answer) in
+        is_fault_lem (fault_of ms g given clues states) (record { check = Shape; list = o.0 }) n buf buf' (fault_shape o.0 o.1) o.2 (t.stored ∙ ap (λ f. written (outcome f) buf) o.1)
 
     pub shape_clear : r ≡ std.None → buf' ≡ buf
-    shape_clear q = t.stored ∙ ap (λ f. written (outcome f) buf) (told_clear (shape_fault g states) (sym q ∙ t.answer))
+    shape_clear q = t.stored ∙ ap (λ f. written (outcome f) buf) (told_clear (shape_fault ms g states) (sym q ∙ t.answer))
 
     pub rooms_answer : r ≡ std.None → (x y : std.Option RoomFault) (buf'' : List ℕ) → (x ≡ counted_of (rooms_in g given clues states)) × (buf'' ≡ leaves (rooms_in g given clues states) buf') → x ≡ y
-        → (answer_by y ≡ told (fault_of g given clues states)) × (buf'' ≡ writes 0 (fault_of g given clues states) buf)
+        → (answer_by y ≡ told (fault_of ms g given clues states)) × (buf'' ≡ writes 0 (fault_of ms g given clues states) buf)
     rooms_answer q x y buf'' e k =
-        let same = fault_rooms (told_clear (shape_fault g states) (sym q ∙ t.answer)) in
-        same_answer (asked (rooms_in g given clues states)) (fault_of g given clues states) (answer_by y) buf buf'' (sym same)
+        let same = fault_rooms (told_clear (shape_fault ms g states) (sym q ∙ t.answer)) in
+        same_answer (asked (rooms_in g given clues states)) (fault_of ms g given clues states) (answer_by y) buf buf'' (sym same)
         (by_counts (rooms_in g given clues states) y buf buf'' (sym k ∙ e.0, e.1 ∙ ap (leaves (rooms_in g given clues states)) (shape_clear q)))

@@ -1,4 +1,5 @@
 pub mod Basics
+pub mod KindLaws
 pub mod Making
 pub mod Answers
 pub mod Ready

@@ -18,6 +18,8 @@ use Rattle.ledger.specs.Books.{zeros, book}
 use Rattle.ledger.proofs.BookLaws.{zeros_length}
 use Rattle.board.specs.declared.Board.{Board}
 use Rattle.puzzle.specs.declared.Puzzle.{Puzzle}
+use Rattle.puzzle.specs.declared.kind.Kind.{Kind}
+use Rattle.puzzle.specs.Kind.{kind_number}
 use Rattle.rooms.specs.Rooms.{is_given}
 use Rattle.puzzle.specs.Puzzle.{no_clues, fresh_board, fresh_puzzle, zero_puzzle, answer, make_code, make_of, given_of, clues_of, states_of, fresh_state}
 use Rattle.lists.specs.Writes.{puts, Below}
@@ -55,17 +57,7 @@ module _ (h w : ℕ) (given clues : List ℕ) where
       go true p z = accepted p z
       go false p z = absurd (omega arith)
 
-  pub made_accepted : (make_of h w given clues).code ≡ 0 → Accepted h w given clues
-  made_accepted z =
-      code_accepted (code_zero (make_code h w given clues) (fresh_puzzle (grid h w) given clues) zero_puzzle (eqb (make_code h w given clues) 0) refl z)
-
-  pub made_fresh : (make_of h w given clues).code ≡ 0 → make_of h w given clues ≡ answer 0 (fresh_puzzle (grid h w) given clues)
-  made_fresh z = go (make_code h w given clues) (code_zero (make_code h w given clues) (fresh_puzzle (grid h w) given clues) zero_puzzle (eqb (make_code h w given clues) 0) refl z)
-    where
-      go : (n : ℕ) → n ≡ 0 → pick (eqb n 0) (answer 0 (fresh_puzzle (grid h w) given clues)) (answer n zero_puzzle) ≡ answer 0 (fresh_puzzle (grid h w) given clues)
-      go n q = rw q
-
-  -- the lists of a fresh puzzle are the making's
+  -- its lists have their places
   module _ (a : Accepted h w given clues) where
     pub given_short : length given ≤ most_borders
     given_short = omega (arith, rises_length (border_count (grid h w)) given a.fit.rising a.fit.inside, border_count_le (grid h w) a.limits)
@@ -73,15 +65,28 @@ module _ (h w : ℕ) (given clues : List ℕ) where
     pub clues_short : length clues ≤ most_cells
     clues_short = omega (arith, a.fit.one_each, rooms_few (grid h w) given, cells_le (grid h w) a.limits)
 
-    pub given_kept : given_of (fresh_puzzle (grid h w) given clues) ≡ given
-    given_kept = front zeros given (omega (arith, given_short, zeros_length))
-
-    pub clues_kept : clues_of (fresh_puzzle (grid h w) given clues) ≡ clues
-    clues_kept = front no_clues clues (omega (arith, clues_short, no_clues_length))
-
     -- no number behind the board's borders is a given wall
     pub given_inside : (e : ℕ) → is_given given e ≡ true → e < border_count (grid h w)
     given_inside e q = a.fit.inside e (given_in_lem given e q)
+
+module _ (kind : Kind) (h w : ℕ) (given clues : List ℕ) where
+  pub made_accepted : (make_of kind h w given clues).code ≡ 0 → Accepted h w given clues
+  made_accepted z =
+      code_accepted h w given clues (code_zero h w given clues (make_code h w given clues) (fresh_puzzle kind (grid h w) given clues) zero_puzzle (eqb (make_code h w given clues) 0) refl z)
+
+  pub made_fresh : (make_of kind h w given clues).code ≡ 0 → make_of kind h w given clues ≡ answer 0 (fresh_puzzle kind (grid h w) given clues)
+  made_fresh z = go (make_code h w given clues) (code_zero h w given clues (make_code h w given clues) (fresh_puzzle kind (grid h w) given clues) zero_puzzle (eqb (make_code h w given clues) 0) refl z)
+    where
+      go : (n : ℕ) → n ≡ 0 → pick (eqb n 0) (answer 0 (fresh_puzzle kind (grid h w) given clues)) (answer n zero_puzzle) ≡ answer 0 (fresh_puzzle kind (grid h w) given clues)
+      go n q = rw q
+
+  -- the lists of a fresh puzzle are the making's
+  module _ (a : Accepted h w given clues) where
+    pub given_kept : given_of (fresh_puzzle kind (grid h w) given clues) ≡ given
+    given_kept = front zeros given (omega (arith, given_short h w given clues a, zeros_length))
+
+    pub clues_kept : clues_of (fresh_puzzle kind (grid h w) given clues) ≡ clues
+    clues_kept = front no_clues clues (omega (arith, clues_short h w given clues a, no_clues_length))
 
 -- 2 at each given wall of zeros: the states of a fresh board
 fresh_states : (given : List ℕ) → Below most_borders given → puts given 2 unmarked ≡ states_of most_borders (fresh_state given)
@@ -94,24 +99,25 @@ fresh_states given w =
 pub board_is : (g : Grid) (given s : List ℕ) → Below most_borders given → s ≡ puts given 2 unmarked → ◌≡◌ {A = Board} (record { grid = g; book = book s zeros 0 }) (fresh_board g given)
 board_is g given s w q = rw (q, fresh_states given w)
 
-pub puzzle_is : (g : Grid) (given clues walls counts : List ℕ) (b : Board) → b ≡ fresh_board g given → walls ≡ sets zeros 0 given → counts ≡ sets no_clues 0 clues
-    → ◌≡◌ {A = Puzzle} (record { board = b; given = walls; given_len = length given; clues = counts; clues_len = length clues }) (fresh_puzzle g given clues)
-puzzle_is g given clues walls counts b p q r = rw (p, q, r)
+pub puzzle_is : (kind : Kind) (g : Grid) (given clues walls counts : List ℕ) (b : Board) → b ≡ fresh_board g given → walls ≡ sets zeros 0 given → counts ≡ sets no_clues 0 clues
+    → ◌≡◌ {A = Puzzle} (record { board = b; given = walls; given_len = length given; clues = counts; clues_len = length clues; kind = kind_number kind }) (fresh_puzzle kind g given clues)
+puzzle_is kind g given clues walls counts b p q r = rw (p, q, r)
 
 -- a record of zeros, into whose arrays the lists are written
-pub started : (g : Grid) (given clues : List ℕ) → Below most_borders given → length given ≤ most_borders → length clues ≤ most_cells
-    → (p : Puzzle) → p ≡ zero_puzzle → (s : List ℕ) → s ≡ puts given 2 p.board.book.states → (walls counts : List ℕ) → walls ≡ given → counts ≡ clues
+pub started : (kind : Kind) (g : Grid) (given clues : List ℕ) → Below most_borders given → length given ≤ most_borders → length clues ≤ most_cells
+    → (p : Puzzle) → p ≡ zero_puzzle → (s : List ℕ) → s ≡ puts given 2 p.board.book.states → (walls counts : List ℕ) → walls ≡ given → counts ≡ clues → (k : ℕ) → k ≡ kind_number kind
     → ◌≡◌ {A = Puzzle} (record {
       board = record { grid = g; book = record { states = s; names = p.board.book.names; len = p.board.book.len } };
       given = walls ++ drop (length given) p.given;
       given_len = length given;
       clues = counts ++ drop (length clues) p.clues;
       clues_len = length clues;
-    }) (fresh_puzzle g given clues)
-started g given clues w few fit p z s q walls counts wq cq =
+      kind = k;
+    }) (fresh_puzzle kind g given clues)
+started kind g given clues w few fit p z s q walls counts wq cq k kq =
     let marks : s ≡ puts given 2 unmarked = unfold zeros unmarked in (q ∙ ap (λ (p : Puzzle). puts given 2 p.board.book.states) z) in
-    rw (z, wq, cq)
-    (puzzle_is g given clues _ _ _ (board_is g given s w marks) (front_written zeros given (omega (arith, few, zeros_length))) (front_written no_clues clues (omega (arith, fit, no_clues_length))))
+    rw (z, wq, cq, kq)
+    (puzzle_is kind g given clues _ _ _ (board_is g given s w marks) (front_written zeros given (omega (arith, few, zeros_length))) (front_written no_clues clues (omega (arith, fit, no_clues_length))))
 
 -- an accepted making's walls have their places
 pub walls_below : (h w : ℕ) (given clues : List ℕ) → Accepted h w given clues → Below most_borders given

@@ -14,7 +14,10 @@ use Rattle.grid.specs.declared.Grid.{Grid}
 use Rattle.grid.specs.Grid.{sizes_ok, Limits, border_count}
 use Rattle.grid.proofs.Geometry.{limits, border_count_le}
 use Rattle.ledger.specs.declared.Book.{Book}
-use Rattle.ledger.specs.Books.{book_holds}
+use Rattle.borders.specs.Border.{StatesOk}
+use Rattle.ledger.specs.Books.{book_holds, names_in}
+use Rattle.ledger.proofs.Question.{holds_question}
+use Rattle.ledger.proofs.Found as found
 use Rattle.ledger.specs.Marks.{given_in}
 use Rattle.ledger.specs.Moves.{GivenMarks, Held}
 use Rattle.rooms.specs.Rooms.{is_given, room_count}
@@ -32,6 +35,7 @@ pub record Ready (p : Puzzle) : Type 0 where
   pub limits : Limits (grid_of p)
   pub given_fits : p.given_len ≤ most_borders
   pub clues_fit : p.clues_len ≤ most_cells
+  pub kind_fits : p.kind ≤ 1
   pub lists : lists_code (grid_of p) (given_of p) (clues_of p) ≡ 0
   pub holds : book_holds (borders_of p) (is_given (given_of p)) (book_of p) ≡ true
 
@@ -44,7 +48,8 @@ ready p = go (sizes_ok (grid_of p)) refl (together p) refl
         let x = both_true _ _ q in
         let y = both_true _ _ x.0 in
         let z = both_true _ _ y.0 in
-        record { limits = l; given_fits = leb-true _ _ z.0; clues_fit = leb-true _ _ z.1; lists = eqb-true _ _ y.1; holds = x.1 }
+        let fits = both_true _ _ z.0 in
+        record { limits = l; given_fits = leb-true _ _ fits.0; clues_fit = leb-true _ _ fits.1; kind_fits = leb-true _ _ z.1; lists = eqb-true _ _ y.1; holds = x.1 }
 
     go : (a : Bool) → sizes_ok (grid_of p) ≡ a → (b : Bool) → together p ≡ b → ◌≡◌ {A = ℕ} (pick a (pick b 0 2) 1) 0 → Ready p
     go true s true q z = facts (limits (grid_of p) s) q
@@ -85,6 +90,13 @@ lists_given g given clues l z = record { limits = l; below = (lists_fit g given 
 -- it holds a book over its borders
 pub held : (p : Puzzle) → Ready p → Held (borders_of p) (book_of p)
 held p r = record { few = border_count_le (grid_of p) r.limits; given = is_given (given_of p); holds = r.holds }
+
+-- its borders have states
+pub ready_states : (p : Puzzle) → Ready p → StatesOk (grid_of p) (book_of p).states
+ready_states p r e l =
+    let n = borders_of p in
+    let given = is_given (given_of p) in
+    ((holds_question n given (book_of p).states (names_in (book_of p)) (found.held n given (book_of p) r.holds).2).kept e l).state
 
 -- its given walls, and a clue for each of its rooms, as they are handed out
 module _ (p : Puzzle) (r : Ready p) {g : Grid} {walls : List ℕ} (q : g ≡ grid_of p) (w : walls ≡ given_of p) where

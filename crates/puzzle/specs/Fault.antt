@@ -4,6 +4,7 @@ use Rattle.std.proofs.Math.Option.{Option, none, some}
 use Rattle.lists.specs.Choice.{pick, or_else}
 use Rattle.lists.specs.Lists.{range, first}
 use Rattle.grid.specs.declared.Grid.{Grid}
+use Rattle.images.specs.declared.Image.{Image}
 use Rattle.borders.specs.Border.{state_of}
 use Rattle.shape.specs.Shape.{shape_fault}
 use Rattle.rooms.specs.Rooms.{is_given, room_ids, room_count, room_cells, clued, clue_of}
@@ -28,8 +29,8 @@ room_check g given clues states r =
     let counted = found_by (Room r) (room_list g (is_given given) (room_cells g given r) (clue_of clues r) (state_of states)) in
     pick (clued clues r) counted none
 
--- the shape check, then the clued rooms in order, up to the first fault (SPEC 4.15)
-unfoldable pub fault_of : Grid → List ℕ → List ℕ → List ℕ → Option Found
+-- the shape check over these images, then the clued rooms in order, up to the first fault (SPEC 4.15, 14.2)
+unfoldable pub fault_of : List Image → Grid → List ℕ → List ℕ → List ℕ → Option Found
 unfolding or_else found_by shape_fault first room_check range room_ids room_count
-fault_of g given clues states =
-    or_else (found_by Shape (shape_fault g states)) (first (room_check g given clues states) (range (room_count g given)))
+fault_of ms g given clues states =
+    or_else (found_by Shape (shape_fault ms g states)) (first (room_check g given clues states) (range (room_count g given)))

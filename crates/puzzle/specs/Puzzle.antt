@@ -1,5 +1,5 @@
--- What a puzzle's making, stroke, decide, undo and ask answer (SPEC 1.7, 3, 4.15 and 12). Assumes nothing.
-use Rattle.std.specs.Prelude.{ℕ, zero, suc, ◌*◌, Bool, List, map, eqb, leb, length, take, replicate}
+-- What a puzzle's making, stroke, decide, undo and ask answer (SPEC 1.7, 3, 4.15, 12 and 14.4). Assumes nothing.
+use Rattle.std.specs.Prelude.{ℕ, zero, suc, Bool, List, map, eqb, leb, length, take, replicate}
 use Rattle.std.proofs.Math.Option.{Option, none, some}
 use Rattle.std.proofs.lemmas.List.Edits.{sets}
 use Rattle.std.specs.Prelude as std
@@ -9,7 +9,7 @@ use Rattle.answers.specs.Refusals.{number_of}
 use Rattle.puzzle.specs.declared.Fault as declared
 use Rattle.lists.specs.Lists.{range}
 use Rattle.grid.specs.declared.Grid.{Grid}
-use Rattle.grid.specs.Grid.{grid, sizes_ok, cells, border_count}
+use Rattle.grid.specs.Grid.{grid, sizes_ok, border_count}
 use Rattle.limits.specs.Limits.{most_borders, most_cells}
 use Rattle.ledger.specs.declared.Book.{Book}
 use Rattle.ledger.specs.Ledger.{Decision, single, stroke_code, undo_code, first_code}
@@ -21,6 +21,8 @@ use Rattle.puzzle.specs.Answer.{Answer}
 use Rattle.puzzle.specs.Answer.{Clear, Fault, Refused}
 use Rattle.rooms.specs.Rooms.{is_given}
 use Rattle.clues.specs.Clues.{lists_code}
+use Rattle.puzzle.specs.declared.kind.Kind.{Kind}
+use Rattle.puzzle.specs.Kind.{kind_number, images_of, ask_room}
 use Rattle.puzzle.specs.Fault.{Found, fault_of}
 
 -- MAKING
@@ -39,19 +41,20 @@ fresh_board g given = record { grid = g; book = fresh_book (states_of most_borde
 unfoldable pub no_clues : List ℕ
 no_clues = replicate most_cells 0
 
-abbrev pub fresh_puzzle : Grid → List ℕ → List ℕ → Puzzle
-fresh_puzzle g given clues =
+abbrev pub fresh_puzzle : Kind → Grid → List ℕ → List ℕ → Puzzle
+fresh_puzzle kind g given clues =
     record {
       board = fresh_board g given;
       given = sets zeros 0 given;
       given_len = length given;
       clues = sets no_clues 0 clues;
       clues_len = length clues;
+      kind = kind_number kind;
     }
 
 -- a record whose every number is 0 (SPEC 3)
 abbrev pub zero_puzzle : Puzzle
-zero_puzzle = record { board = record { grid = grid 0 0; book = fresh_book zeros }; given = zeros; given_len = 0; clues = no_clues; clues_len = 0 }
+zero_puzzle = record { board = record { grid = grid 0 0; book = fresh_book zeros }; given = zeros; given_len = 0; clues = no_clues; clues_len = 0; kind = 0 }
 
 abbrev pub answer : ℕ → Puzzle → Made
 answer n p = record { code = n; puzzle = p }
@@ -60,8 +63,8 @@ answer n p = record { code = n; puzzle = p }
 abbrev pub make_code : ℕ → ℕ → List ℕ → List ℕ → ℕ
 make_code h w given clues = pick (sizes_ok (grid h w)) (lists_code (grid h w) given clues) 1
 
-abbrev pub make_of : ℕ → ℕ → List ℕ → List ℕ → Made
-make_of h w given clues = pick (eqb (make_code h w given clues) 0) (answer 0 (fresh_puzzle (grid h w) given clues)) (answer (make_code h w given clues) zero_puzzle)
+abbrev pub make_of : Kind → ℕ → ℕ → List ℕ → List ℕ → Made
+make_of kind h w given clues = pick (eqb (make_code h w given clues) 0) (answer 0 (fresh_puzzle kind (grid h w) given clues)) (answer (make_code h w given clues) zero_puzzle)
 
 -- what a making comes to as a record
 abbrev pub made : std.Result Puzzle Refusal → Made
@@ -84,12 +87,13 @@ given_of p = take p.given_len p.given
 abbrev pub clues_of : Puzzle → List ℕ
 clues_of p = take p.clues_len p.clues
 
--- question 2: the arrays hold all walls and clues, questions 3, 7, 8 and 9 would be yes, and states and ledger hold together (SPEC 3.2)
+-- question 2: the arrays hold all walls and clues, there is a kind with this number (SPEC 14.4), questions 3, 7, 8 and 9 would be yes, and states and
+-- ledger hold together (SPEC 3.2)
 unfoldable pub together : Puzzle → Bool
 unfolding lists_code book_holds is_given
 together p =
     both
-    (both (both (leb p.given_len most_borders) (leb p.clues_len most_cells)) (eqb (lists_code (grid_of p) (given_of p) (clues_of p)) 0))
+    (both (both (both (leb p.given_len most_borders) (leb p.clues_len most_cells)) (leb p.kind 1)) (eqb (lists_code (grid_of p) (given_of p) (clues_of p)) 0))
     (book_holds (borders_of p) (is_given (given_of p)) (book_of p))
 
 -- the number of the question, 1 or 2, that refuses a puzzle, or 0
@@ -99,7 +103,7 @@ puzzle_code p = pick (sizes_ok (grid_of p)) (pick (together p) 0 2) 1
 -- the same puzzle with another book
 abbrev pub onto : Puzzle → Book → Puzzle
 onto p b =
-    record { board = record { grid = grid_of p; book = b }; given = p.given; given_len = p.given_len; clues = p.clues; clues_len = p.clues_len }
+    record { board = record { grid = grid_of p; book = b }; given = p.given; given_len = p.given_len; clues = p.clues; clues_len = p.clues_len; kind = p.kind }
 
 -- what a stroke or an undo returns: the changed puzzle, or the puzzle as it was with the number that refuses the call
 abbrev pub answered : Puzzle → ℕ → Book → Made
@@ -126,15 +130,15 @@ undo_of p = answered p (undo_number p) (taken (book_of p))
 -- ASKS
 -- what an ask finds on the puzzle as it stands
 abbrev pub fault_in : Puzzle → Option Found
-fault_in p = fault_of (grid_of p) (given_of p) (clues_of p) (book_of p).states
+fault_in p = fault_of (images_of p.kind) (grid_of p) (given_of p) (clues_of p) (book_of p).states
 
--- question 6 (SPEC 3.6)
-abbrev pub long_enough : Grid → List ℕ → Bool
-long_enough g buf = leb (9 * cells g) (length buf)
+-- question 6 (SPEC 3.6, 14.5)
+abbrev pub long_enough : ℕ → Grid → List ℕ → Bool
+long_enough kind g buf = leb (ask_room kind g) (length buf)
 
 -- the number of the question, 1, 2 or 6, that refuses an ask, or 0
 abbrev pub ask_code : Puzzle → List ℕ → ℕ
-ask_code p buf = pick (eqb (puzzle_code p) 0) (pick (long_enough (grid_of p) buf) 0 6) (puzzle_code p)
+ask_code p buf = pick (eqb (puzzle_code p) 0) (pick (long_enough p.kind (grid_of p) buf) 0 6) (puzzle_code p)
 
 -- number and values (SPEC 3) for each case of the answer: 0 and nothing, 0 with the check and the list's length, or the refusal's number
 abbrev pub says : ℕ → Option Found → Answer

@@ -1,15 +1,18 @@
 // The puzzle: a board with given walls and a clue for each room, which joins the shape check to a count for each clued room.
 #![tactic(auto)]
 
-ghost use Rattle.std.specs.Prelude.{◌≡◌, ◌*◌, ◌≤◌, length};
+ghost use Rattle.std.specs.Prelude.{◌≡◌, ◌+◌, ◌*◌, ◌≤◌, length};
 ghost use Rattle.limits.specs.Limits.{most_borders, most_cells};
+ghost use Rattle.lists.specs.Lists.{In};
 ghost use Rattle.lists.specs.Writes.{Below};
 ghost use Rattle.ledger.specs.Ledger.{decisions};
 ghost use Rattle.ledger.specs.Books.{book_holds};
 ghost use Rattle.grid.specs.Grid.{Limits, cells};
+ghost use Rattle.images.specs.Images.{translate};
 ghost use Rattle.rooms.specs.Rooms.{is_given};
 ghost use Rattle.rooms.specs.Lent.{Given, Blank};
 ghost use Rattle.answers.specs.Refusals.{code_of};
+ghost use Rattle.puzzle.specs.Kind.{images_of};
 ghost use Rattle.puzzle.specs.Fault.{fault_of};
 ghost use Rattle.puzzle.specs.Puzzle.{fresh_puzzle, zero_puzzle, answer, made, make_of, together, puzzle_code, grid_of, given_of, clues_of, borders_of, book_of, stroke_of, decide_of, undo_of, told, answer_in, writes, ask_of};
 
@@ -17,10 +20,14 @@ use answers::Refusal;
 use board::Board;
 use borders::Borders;
 use grid::Grid;
+use images::Image;
+use kind::Kind;
 use room_checks::CluedBoard;
 
+pub mod kind;
+
 // The board has the given walls as Wall; its ledger names none of them. The first `given_len` places of `given` are the given walls,
-// the first `clues_len` of `clues` the clues.
+// the first `clues_len` of `clues` the clues. `kind` is the number of the puzzle's kind.
 #[repr(C)]
 #[derive(Clone, Copy)]
 pub struct Puzzle {
@@ -29,6 +36,7 @@ pub struct Puzzle {
     pub given_len: usize,
     pub clues: [u16; limits::CELLS],
     pub clues_len: usize,
+    pub kind: u8,
 }
 
 // A record of zeros, which a refused making returns.
@@ -42,6 +50,7 @@ impl Default for Puzzle {
             given_len: 0,
             clues: [0; limits::CELLS],
             clues_len: 0,
+            kind: 0,
         }
     }
 }
@@ -70,11 +79,11 @@ pub struct Fault {
 
 impl Puzzle {
     // Makes a fresh puzzle of a record of zeros: its given walls are Wall, and nothing else is decided.
-    fn start(&mut self, grid: Grid, given: &[u16], clues: &[u16])
+    fn start(&mut self, kind: Kind, grid: Grid, given: &[u16], clues: &[u16])
         requires zeros { self.old ≡ zero_puzzle }
         requires below { Below most_borders given.now }
         requires given_len_bound { (length given.now ≤ most_borders) × (length clues.now ≤ most_cells) }
-        ensures { self.new ≡ fresh_puzzle grid given.now clues.now }
+        ensures { self.new ≡ fresh_puzzle kind grid given.now clues.now }
     {
         self.board.grid = grid;
         lists::write_at(given, 2, &mut self.board.book.states);
@@ -82,27 +91,34 @@ impl Puzzle {
         self.given_len = given.len();
         self.clues[..clues.len()].copy_from_slice(clues);
         self.clues_len = clues.len();
+        self.kind = kind.number();
     }
 
     // The same where questions 1, 3, 7, 8 and 9 accept the size and the lists; a refusal leaves the zeros.
-    fn begin(&mut self, grid: Grid, given: &[u16], clues: &[u16]) -> Result<(), Refusal>
+    fn begin(&mut self, kind: Kind, grid: Grid, given: &[u16], clues: &[u16]) -> Result<(), Refusal>
         requires { self.old ≡ zero_puzzle }
-        ensures { answer (code_of result) self.new ≡ make_of grid.height grid.width given.now clues.now }
+        ensures { answer (code_of result) self.new ≡ make_of kind grid.height grid.width given.now clues.now }
     {
         if !grid.is_within_limits() {
             return Err(Refusal::Size);
         }
         clues::check_lists(grid, given, clues)?;
-        self.start(grid, given, clues);
+        self.start(kind, grid, given, clues);
         Ok(())
     }
 
-    // A fresh puzzle of a size, given walls and clues.
-    pub fn new(height: usize, width: usize, given: &[u16], clues: &[u16]) -> Result<Puzzle, Refusal>
-        ensures { made result ≡ make_of height width given.now clues.now }
+    // A fresh puzzle of a kind, a size, given walls and clues.
+    pub fn new(
+        kind: Kind,
+        height: usize,
+        width: usize,
+        given: &[u16],
+        clues: &[u16],
+    ) -> Result<Puzzle, Refusal>
+        ensures { made result ≡ make_of kind height width given.now clues.now }
     {
         let mut puzzle = Puzzle::default();
-        puzzle.begin(Grid { height, width }, given, clues)?;
+        puzzle.begin(kind, Grid { height, width }, given, clues)?;
         Ok(puzzle)
     }
 
@@ -120,6 +136,13 @@ impl Puzzle {
         ensures { result.now ≡ clues_of self.now }
     {
         &self.clues[..self.clues_len]
+    }
+
+    // The images that its checks try.
+    pub fn images(&self) -> &'static [Image]
+        ensures { result.now ≡ images_of self.now.kind }
+    {
+        kind::images_of(self.kind)
     }
 
     // Question 2 of the ledger, with a place for each border that the caller lends.
@@ -152,13 +175,13 @@ impl Puzzle {
         self.holds_in(&mut marks)
     }
 
-    // Question 2: the arrays hold the lists, a making would accept them, and the ledger holds.
+    // Question 2: the arrays hold the lists, the kind is one, a making would accept the lists, and the ledger holds.
     #[tactic(auto, unfolding(crate::specs::Puzzle::together))]
     fn holds_together(&self) -> bool
         requires { Limits (grid_of self.now) }
         ensures { result ≡ together self.now }
     {
-        if limits::BORDERS < self.given_len || limits::CELLS < self.clues_len {
+        if limits::BORDERS < self.given_len || limits::CELLS < self.clues_len || 1 < self.kind {
             return false;
         }
         let lists = clues::check_lists(self.board.grid, self.given(), self.clues());
@@ -230,22 +253,24 @@ impl Puzzle {
         ensures buffer_after { buffer.new ≡ (ask_of self.now buffer.old).buffer }
     {
         self.check()?;
-        if buffer.len() < 9 * self.board.grid.cell_count() {
+        let images = self.images();
+        if buffer.len() < (images.len() + 8) * self.board.grid.cell_count() {
             return Err(Refusal::ShortBuffer);
         }
-        let found = fault_of(self.clued_board(), buffer);
+        let found = fault_of(self.clued_board(), images, buffer);
         Ok(found)
     }
 }
 
-// The shape check, and then the counts of the clued rooms, on a board as it stands: what an ask finds. The rooms are found only where
-// the shape check is clear and a room has a clue.
-pub fn fault_of(board: CluedBoard<'_, '_>, buffer: &mut [u16]) -> Option<Fault>
-    requires { 9 * cells board.borders.grid ≤ length buffer.old }
-    ensures value { result ≡ told (fault_of board.entry.borders.grid board.entry.given.now board.entry.clues.now board.entry.borders.states.now) }
-    ensures buffer_after { buffer.new ≡ writes 0 (fault_of board.entry.borders.grid board.entry.given.now board.entry.clues.now board.entry.borders.states.now) buffer.old }
+// The shape check over a kind's images, and then the counts of the clued rooms, on a board as it stands: what an ask finds. The rooms are found
+// only where the shape check is clear and a room has a clue.
+pub fn fault_of(board: CluedBoard<'_, '_>, images: &[Image], buffer: &mut [u16]) -> Option<Fault>
+    requires translate { In translate images.now }
+    requires room { (length images.now + 8) * cells board.borders.grid ≤ length buffer.old }
+    ensures value { result ≡ told (fault_of images.now board.entry.borders.grid board.entry.given.now board.entry.clues.now board.entry.borders.states.now) }
+    ensures buffer_after { buffer.new ≡ writes 0 (fault_of images.now board.entry.borders.grid board.entry.given.now board.entry.clues.now board.entry.borders.states.now) buffer.old }
 {
-    if let Some(len) = shape_check::shape_fault(board.borders, buffer) {
+    if let Some(len) = shape_check::shape_fault(board.borders, images, buffer) {
         return Some(Fault {
             check: Check::Shape,
             len,
@@ -259,13 +284,13 @@ pub fn fault_of(board: CluedBoard<'_, '_>, buffer: &mut [u16]) -> Option<Fault>
 }
 
 // A making as a record: of zeros where it is refused. The record is made where it stands, and not copied.
-pub fn make(height: usize, width: usize, given: &[u16], clues: &[u16]) -> Made
-    ensures { result ≡ make_of height width given.now clues.now }
+pub fn make(kind: Kind, height: usize, width: usize, given: &[u16], clues: &[u16]) -> Made
+    ensures { result ≡ make_of kind height width given.now clues.now }
 {
     let mut out = Made {
         code: 0,
         puzzle: Puzzle::default(),
     };
-    out.code = answers::code_of(out.puzzle.begin(Grid { height, width }, given, clues));
+    out.code = answers::code_of(out.puzzle.begin(kind, Grid { height, width }, given, clues));
     out
 }

@@ -1,29 +1,29 @@
--- A unit at all offsets of a row, and of several rows: bit x of a word speaks of the offset that puts the unit's first cell on column x of the
--- row. Assumes nothing.
+-- A unit's image at all offsets of a row, and of several rows: bit x of a word speaks of the offset that puts cell f, which is in the image's first
+-- row, on column x of the row. Assumes nothing.
 use Rattle.std.specs.Prelude.{ℕ, ◌+◌, ◌-◌, ◌*◌, ◌≤◌, ◌<◌, ◌≡◌, Bool, true, not, List, length}
 use Rattle.lists.specs.Choice.{both, either}
 use Rattle.lists.specs.Lists.{any, range, count_from}
 use Rattle.grid.specs.declared.Grid.{Grid}
+use Rattle.images.specs.declared.Image.{Image}
 use Rattle.shape.specs.Shape.{head_or0, is_good}
 use Rattle.offsets.specs.declared.table.CellInfo.{CellInfo}
 use Rattle.offsets.specs.Table.{potential_in, potentials_in}
-use Rattle.offsets.specs.Trial.{tried_at}
+use Rattle.offsets.specs.Trial.{tried_from}
 use Rattle.words.specs.Words.{bit, reads}
-use Rattle.cell_words.specs.declared.Near.{Near}
-use Rattle.cell_words.specs.Cells.{NearRow, Stamped, SameLists}
+use Rattle.cell_words.specs.Cells.{NearRow}
 
--- the offset that puts the first cell on column x of row t is good (SPEC 4.8, 4.9)
-abbrev pub good_at : Grid → List ℕ → List CellInfo → List ℕ → ℕ → ℕ → Bool
-good_at g states table cs t x = is_good (tried_at g states table cs (t * g.width + x))
+-- the offset of image m that puts f on column x of row t is good (SPEC 4.8, 4.9, 14.2)
+abbrev pub good_at : Image → Grid → List ℕ → List CellInfo → List ℕ → ℕ → ℕ → ℕ → Bool
+good_at m g states table cs f t x = is_good (tried_from m g states table cs f (t * g.width + x))
 
 -- one of row t's offsets is good
-unfoldable pub row_good : Grid → List ℕ → List CellInfo → List ℕ → ℕ → Bool
+unfoldable pub row_good : Image → Grid → List ℕ → List CellInfo → List ℕ → ℕ → ℕ → Bool
 unfolding any range is_good
-row_good g states table cs t = any (good_at g states table cs t) (range g.width)
+row_good m g states table cs f t = any (good_at m g states table cs f t) (range g.width)
 
 -- one of the offsets of the rows from one up to another is good
-abbrev pub rows_good : Grid → List ℕ → List CellInfo → List ℕ → ℕ → ℕ → Bool
-rows_good g states table cs from to = any (row_good g states table cs) (count_from from (to - from))
+abbrev pub rows_good : Image → Grid → List ℕ → List CellInfo → List ℕ → ℕ → ℕ → ℕ → Bool
+rows_good m g states table cs f from to = any (row_good m g states table cs f) (count_from from (to - from))
 
 -- by the words: all cells stay in their rows, one falls on a cell that is near, none on the unit, and no border lands badly
 abbrev pub left_at : ℕ → List ℕ → List ℕ → List ℕ → List ℕ → List ℕ → ℕ → ℕ → Bool
@@ -40,8 +40,3 @@ pub record NearRows (g : Grid) (states : List ℕ) (table : List CellInfo) (cs :
   pub high : t + tall < g.height
   pub long : g.height ≤ length near
   pub says : (y : ℕ) → t ≤ y → y ≤ t + tall → NearRow g states (potentials_in g table) (potential_in table (head_or0 cs)) near y
-
--- each row's word still stands for the potential unit of its stamp, in the same lists
-pub record Held (g : Grid) (states pids : List ℕ) (near near' : Near) : Type 0 where
-  pub stamped : Stamped g states pids near'
-  pub same : SameLists near near'

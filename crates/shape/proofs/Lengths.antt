@@ -1,12 +1,13 @@
--- The check's list fits in 9 entries a cell: at most one failed landing for each offset, 4 a cell for the unit, and 4 a cell for the
+-- How long the check's list is at most: one failed landing for each offset of each image, 4 entries a cell for the unit, and 4 a cell for the
 -- adjacent potential units, which have no cell in common. Assumes nothing.
-use Prim.Native.Nat.{ℕ, zero, suc, ◌*◌, ◌≤◌, ◌<◌}
+use Prim.Native.Nat.{ℕ, zero, suc, ◌+◌, ◌*◌, ◌≤◌, ◌<◌}
 use mathlib.Core.Path.{◌≡◌, refl, ap}
 use mathlib.Core.Logic.{◌≢◌, ⊎_elim}
 use mathlib.Core.Bool.{Bool, true, false, not}
 use mathlib.Core.List.{List, [], ◌∷◌, ◌++◌}
 use mathlib.Core.Option.{some}
 use native.Mathlib.Omega.{arith}
+use native.Mathlib.Nat.{add-mul}
 use borrow.Author.Tests.{ne_eqb}
 use lib.Dec.{eqb}
 use lib.ListN.{get_or, length, length-append}
@@ -17,6 +18,7 @@ use Rattle.lists.proofs.ChoiceLaws.{give_some, or_else_some}
 use Rattle.lists.proofs.ListLaws.{first_some, range_length}
 use Rattle.grid.specs.declared.Grid.{Grid}
 use Rattle.grid.specs.Grid.{cells, next, border}
+use Rattle.images.specs.declared.Image.{Image}
 use Rattle.borders.specs.Entry.{wall_entry}
 use Rattle.groups.specs.Groups.{cells_in, cells_of}
 use Rattle.boundary.specs.Boundary.{unit_boundary, potential_boundary}
@@ -24,7 +26,7 @@ use Rattle.boundary.proofs.Lengths.{when_most, gather_most, gather_both, gather_
 use Rattle.boundary.proofs.BoundaryLaws.{unit_most, potential_most, cells_most}
 use Rattle.path.specs.Path.{path_list}
 use Rattle.path.proofs.PathLaws.{path_list_short}
-use Rattle.shape.specs.Shape.{inner_wall, adjacent, UnitInfo, unit_of, entry_of, try_at, fits, failures, boundaries, unit_fault, fault_in}
+use Rattle.shape.specs.Shape.{inner_wall, adjacent, UnitInfo, unit_of, entry_of, try_at, fits, failures_by, failures, boundaries, unit_fault, fault_in}
 use Rattle.shape.specs.declared.Try.{Try}
 use Rattle.shape.specs.declared.Try.TheVariants.{Passed, Good, Failed}
 use Rattle.shape.proofs.InnerWalls.{inner_at_lem}
@@ -100,11 +102,21 @@ entry_most Passed = omega arith
 entry_most Good = omega arith
 entry_most (Failed l) = omega arith
 
-module _ (g : Grid) (states ids pids : List ℕ) (n : ℕ) (u : UnitInfo) where
-  pub failures_most : length (failures g states ids pids u) ≤ cells g
-  unfolding failures
-  failures_most = omega (arith, gather_most (λ t. entry_of (try_at g states ids pids u t)) 1 (λ t. entry_most (try_at g states ids pids u t)) (range (cells g)), range_length (cells g))
+module _ (ms : List Image) (g : Grid) (states ids pids : List ℕ) (u : UnitInfo) where
+  by_most : (m : Image) → length (failures_by g states ids pids u m) ≤ cells g
+  unfolding failures_by
+  by_most m =
+      omega (
+        arith,
+        gather_most (λ t. entry_of (try_at m g states ids pids u t)) 1 (λ t. entry_most (try_at m g states ids pids u t)) (range (cells g)),
+        range_length (cells g),
+      )
 
+  pub failures_most : length (failures ms g states ids pids u) ≤ length ms * cells g
+  unfolding failures
+  failures_most = gather_most (failures_by g states ids pids u) (cells g) by_most ms
+
+module _ (g : Grid) (states ids pids : List ℕ) (n : ℕ) (u : UnitInfo) where
   pub boundaries_most : length (boundaries g states ids pids n u) ≤ 8 * cells g
   unfolding boundaries
   boundaries_most =
@@ -118,17 +130,26 @@ module _ (g : Grid) (states ids pids : List ℕ) (n : ℕ) (u : UnitInfo) where
         groups_most g pids (adjacent g states pids u.own) n,
       )
 
-pub fault_most : (g : Grid) (states ids pids : List ℕ) (m n : ℕ) (L : List ℕ) → fault_in g states ids pids m n ≡ some L → length L ≤ 9 * cells g
+pub fault_most : (ms : List Image) (g : Grid) (states ids pids : List ℕ) (m n : ℕ) (L : List ℕ) → fault_in ms g states ids pids m n ≡ some L
+    → length L ≤ (length ms + 8) * cells g
 unfolding fault_in unit_fault
-fault_most g states ids pids m n L q =
+fault_most ms g states ids pids m n L q =
+    let most : (length ms + 8) * cells g ≡ length ms * cells g + 8 * cells g = add-mul (length ms) 8 (cells g) in
     ⊎_elim
     (λ k.
     let o = inner_at_lem g states ids L k in
     let path : List ℕ = path_list g states o.c (next g o.d o.c) in
-    omega (arith, ap length o.list, length-append path (wall_entry (border g o.d o.c) ∷ []), path_list_short g states o.c (next g o.d o.c) o.cell))
+    omega (arith, most, ap length o.list, length-append path (wall_entry (border g o.d o.c) ∷ []), path_list_short g states o.c (next g o.d o.c) o.cell))
     (λ k.
-    let i = first_some (unit_fault g states ids pids n) (range m) L k in
+    let i = first_some (unit_fault ms g states ids pids n) (range m) L k in
     let u = unit_of g ids pids i.0 in
-    let o = give_some (not (fits g states ids pids u)) (failures g states ids pids u ++ boundaries g states ids pids n u) L i.2 in
-    omega (arith, ap length o.1, length-append (failures g states ids pids u) (boundaries g states ids pids n u), failures_most g states ids pids n u, boundaries_most g states ids pids n u))
-    (or_else_some (inner_wall g states ids) (first (unit_fault g states ids pids n) (range m)) L q)
+    let o = give_some (not (fits ms g states ids pids u)) (failures ms g states ids pids u ++ boundaries g states ids pids n u) L i.2 in
+    omega (
+      arith,
+      most,
+      ap length o.1,
+      length-append (failures ms g states ids pids u) (boundaries g states ids pids n u),
+      failures_most ms g states ids pids u,
+      boundaries_most g states ids pids n u,
+    ))
+    (or_else_some (inner_wall g states ids) (first (unit_fault ms g states ids pids n) (range m)) L q)

@@ -1,5 +1,5 @@
 pub mod Moves
-pub mod Translation
+pub mod Placing
 pub mod Offsets
 pub mod Units
 pub mod InnerWalls

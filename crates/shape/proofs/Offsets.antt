@@ -31,10 +31,10 @@ use Rattle.borders.proofs.Directions.{Ahead, down_or_right, in_around}
 use Rattle.groups.specs.Groups.{cells_of}
 use Rattle.groups.proofs.GroupLaws.{Labels, in_cells, cells_in_lem, chain_cell}
 use Rattle.boundary.specs.Boundary.{ahead}
-use Rattle.shape.specs.Shape.{wall_to, behind, parted, adjacent, UnitInfo, falls, meets, inner_border, shut, on_wall, on_connected, landing, landed, try, is_good, entry_of}
+use Rattle.shape.specs.Shape.{wall_to, behind, parted, adjacent, Offset, UnitInfo, falls, meets, inner_border, shut, on_wall, on_connected, landing, landed, try, is_good, entry_of}
 use Rattle.shape.specs.declared.Try.{Try}
 use Rattle.shape.specs.declared.Try.TheVariants.{Passed}
-use Rattle.shape.proofs.Moves.{Moves}
+use Rattle.shape.proofs.Moves.{Moves, turned_step}
 
 -- u is the unit of its first cell
 pub record IsUnit (g : Grid) (ids pids : List ℕ) (u : UnitInfo) : Type 0 where
@@ -73,56 +73,58 @@ module _ (o : Option ℕ) (t : Bool) (at : ℕ → Bool) (entry : ℕ → ℕ) w
   given_none q x p i w = not_both _ (true_both t (at x) i w) (give_none _ (entry x) (through_none o (λ x. give (both t (at x)) (entry x)) x p q))
 
 -- a failed landing stands where it was found
-module _ (g : Grid) (states ids : List ℕ) (u : UnitInfo) (put : ℕ → Option ℕ) where
+module _ (g : Grid) (states ids : List ℕ) (u : UnitInfo) (o : Offset) where
   abbrev walls : Option ℕ
-  walls = first (λ c. first (on_wall g states ids u put c) forward) u.cells
+  walls = first (λ c. first (on_wall g states ids u o c) forward) u.cells
 
   abbrev connecteds : Option ℕ
-  connecteds = first (λ c. first (on_connected g states put c) around) u.cells
+  connecteds = first (λ c. first (on_connected g states o c) around) u.cells
 
   -- where the landing comes from
-  landing_some : (l : ℕ) → landing g states ids u put ≡ some l
-      → ((c : ℕ) × (d : Direction) × In c u.cells × (on_wall g states ids u put c d ≡ some l)) ⊎ ((c : ℕ) × (d : Direction) × In c u.cells × (on_connected g states put c d ≡ some l))
+  landing_some : (l : ℕ) → landing g states ids u o ≡ some l
+      → ((c : ℕ) × (d : Direction) × In c u.cells × (on_wall g states ids u o c d ≡ some l)) ⊎ ((c : ℕ) × (d : Direction) × In c u.cells × (on_connected g states o c d ≡ some l))
   unfolding landing
   landing_some l q =
       ⊎_elim
-      (λ k. inl (first_of_both (on_wall g states ids u put) u.cells forward l k))
-      (λ k. inr (first_of_both (on_connected g states put) u.cells around l k))
+      (λ k. inl (first_of_both (on_wall g states ids u o) u.cells forward l k))
+      (λ k. inr (first_of_both (on_connected g states o) u.cells around l k))
       (or_else_some walls connecteds l q)
 
-  wall_some : (c l : ℕ) (d : Direction) → on_wall g states ids u put c d ≡ some l
-      → (x : ℕ) × (put c ≡ some x) × (inner_border g ids u c d ≡ true) × (stands g states 2 d x ≡ true) × (l ≡ wall_entry (border g d x))
+  wall_some : (c l : ℕ) (d : Direction) → on_wall g states ids u o c d ≡ some l
+      → (x : ℕ) × (o.put c ≡ some x) × (inner_border g ids u c d ≡ true) × (stands g states 2 (o.turn d) x ≡ true) × (l ≡ wall_entry (border g (o.turn d) x))
   unfolding on_wall
-  wall_some c l d q = given_some (put c) (inner_border g ids u c d) (stands g states 2 d) (λ x. wall_entry (border g d x)) l q
+  wall_some c l d q = given_some (o.put c) (inner_border g ids u c d) (stands g states 2 (o.turn d)) (λ x. wall_entry (border g (o.turn d) x)) l q
 
-  connected_some : (c l : ℕ) (d : Direction) → on_connected g states put c d ≡ some l
-      → (x : ℕ) × (put c ≡ some x) × (shut g states c d ≡ true) × (stands g states 1 d x ≡ true) × (l ≡ connected_entry (border g d x))
+  connected_some : (c l : ℕ) (d : Direction) → on_connected g states o c d ≡ some l
+      → (x : ℕ) × (o.put c ≡ some x) × (shut g states c d ≡ true) × (stands g states 1 (o.turn d) x ≡ true) × (l ≡ connected_entry (border g (o.turn d) x))
   unfolding on_connected
-  connected_some c l d q = given_some (put c) (shut g states c d) (stands g states 1 d) (λ x. connected_entry (border g d x)) l q
+  connected_some c l d q = given_some (o.put c) (shut g states c d) (stands g states 1 (o.turn d)) (λ x. connected_entry (border g (o.turn d) x)) l q
 
-  pub landing_stands : (l : ℕ) → landing g states ids u put ≡ some l → Stands (state_of states) l
+  pub landing_stands : (l : ℕ) → landing g states ids u o ≡ some l → Stands (state_of states) l
   landing_stands l q =
       ⊎_elim
-      (λ (k : (c : ℕ) × (d : Direction) × In c u.cells × (on_wall g states ids u put c d ≡ some l)).
-      let o = wall_some k.0 l k.1 k.3 in
-      rw o.4 (wall_stands (state_of states) (border g k.1 o.0) (stands_state g states 2 k.1 o.0 o.3)))
-      (λ (k : (c : ℕ) × (d : Direction) × In c u.cells × (on_connected g states put c d ≡ some l)).
-      let o = connected_some k.0 l k.1 k.3 in
-      rw o.4 (connected_stands (state_of states) (border g k.1 o.0) (stands_state g states 1 k.1 o.0 o.3)))
+      (λ (k : (c : ℕ) × (d : Direction) × In c u.cells × (on_wall g states ids u o c d ≡ some l)).
+      let x = wall_some k.0 l k.1 k.3 in
+      let d = o.turn k.1 in
+      rw x.4 (wall_stands (state_of states) (border g d x.0) (stands_state g states 2 d x.0 x.3)))
+      (λ (k : (c : ℕ) × (d : Direction) × In c u.cells × (on_connected g states o c d ≡ some l)).
+      let x = connected_some k.0 l k.1 k.3 in
+      let d = o.turn k.1 in
+      rw x.4 (connected_stands (state_of states) (border g d x.0) (stands_state g states 1 d x.0 x.3)))
       (landing_some l q)
 
-  module _ (free : landing g states ids u put ≡ none) where
-    wall_free : (a x : ℕ) (d : Direction) → In a u.cells → In d forward → put a ≡ some x → inner_border g ids u a d ≡ true → stands g states 2 d x ≡ true → ⊥
+  module _ (free : landing g states ids u o ≡ none) where
+    wall_free : (a x : ℕ) (d : Direction) → In a u.cells → In d forward → o.put a ≡ some x → inner_border g ids u a d ≡ true → stands g states 2 (o.turn d) x ≡ true → ⊥
     unfolding landing on_wall
     wall_free a x d m k p i w =
-        given_none (put a) (inner_border g ids u a d) (stands g states 2 d) (λ x. wall_entry (border g d x))
-        (none_of_both (on_wall g states ids u put) u.cells forward (or_else_none walls connecteds free).0 a d m k) x p i w
+        given_none (o.put a) (inner_border g ids u a d) (stands g states 2 (o.turn d)) (λ x. wall_entry (border g (o.turn d) x))
+        (none_of_both (on_wall g states ids u o) u.cells forward (or_else_none walls connecteds free).0 a d m k) x p i w
 
-    connected_free : (a x : ℕ) (d : Direction) → In a u.cells → put a ≡ some x → shut g states a d ≡ true → stands g states 1 d x ≡ true → ⊥
+    connected_free : (a x : ℕ) (d : Direction) → In a u.cells → o.put a ≡ some x → shut g states a d ≡ true → stands g states 1 (o.turn d) x ≡ true → ⊥
     unfolding landing on_connected
     connected_free a x d m p i w =
-        given_none (put a) (shut g states a d) (stands g states 1 d) (λ x. connected_entry (border g d x))
-        (none_of_both (on_connected g states put) u.cells around (or_else_none walls connecteds free).1 a d m (in_around d)) x p i w
+        given_none (o.put a) (shut g states a d) (stands g states 1 (o.turn d)) (λ x. connected_entry (border g (o.turn d) x))
+        (none_of_both (on_connected g states o) u.cells around (or_else_none walls connecteds free).1 a d m (in_around d)) x p i w
 
 module _ (g : Grid) (states ids pids : List ℕ) (m n : ℕ)
     (lu : Labels g ids m (SameUnit (Neighbours g) (state_of states))) (lp : Labels g pids n (SamePotential (Neighbours g) (state_of states))) where
@@ -187,56 +189,56 @@ module _ (g : Grid) (states ids pids : List ℕ) (m n : ℕ)
     in_cells_of a j = is.unit_in a (unit_cell_lem a j) (unit_id a j)
 
     -- THE OFFSET
-    module _ (put : ℕ → Option ℕ) (T : ℕ → ℕ → Type 0) (moves : Moves g put T) where
-      falls_true : (c : ℕ) → Cell g c → falls ids u put c ≡ true → (x : ℕ) × T c x × (SameUnit Nb s u.first x → ⊥)
+    module _ (o : Offset) (T : ℕ → ℕ → Type 0) (moves : Moves g o T) where
+      falls_true : (c : ℕ) → Cell g c → falls ids u o.put c ≡ true → (x : ℕ) × T c x × (SameUnit Nb s u.first x → ⊥)
       unfolding falls
       falls_true c l q =
-          let o = holds_true (put c) (λ x. not (eqb (get_or ids x 0) u.number)) q in
-          (o.0, moves.is_put c o.0 l o.1, λ j. eqb-false (get_or ids o.0 0) u.number (not-true _ o.2) (unit_id o.0 j))
+          let k = holds_true (o.put c) (λ x. not (eqb (get_or ids x 0) u.number)) q in
+          (k.0, moves.is_put c k.0 l k.1, λ j. eqb-false (get_or ids k.0 0) u.number (not-true _ k.2) (unit_id k.0 j))
 
-      true_falls : (c x : ℕ) → T c x → (SameUnit Nb s u.first x → ⊥) → falls ids u put c ≡ true
+      true_falls : (c x : ℕ) → T c x → (SameUnit Nb s u.first x → ⊥) → falls ids u o.put c ≡ true
       unfolding falls
       true_falls c x r z =
-          true_holds (put c) (λ x. not (eqb (get_or ids x 0) u.number)) x (moves.puts c x r)
+          true_holds (o.put c) (λ x. not (eqb (get_or ids x 0) u.number)) x (moves.puts c x r)
           (ap not (ne_eqb (get_or ids x 0) u.number (λ q. z (same_unit x (moves.to c x r) q))))
 
-      meets_true : (c : ℕ) → Cell g c → meets g states pids u put c ≡ true → (x : ℕ) × T c x × Adjacent Nb s u.first x
+      meets_true : (c : ℕ) → Cell g c → meets g states pids u o.put c ≡ true → (x : ℕ) × T c x × Adjacent Nb s u.first x
       unfolding meets
       meets_true c l q =
-          let o = holds_true (put c) (λ x. adjacent g states pids u.own (get_or pids x 0)) q in
-          let r = moves.is_put c o.0 l o.1 in
-          (o.0, r, adjacent_true u.first o.0 is.cell (moves.to c o.0 r) (sym (ap (λ p. adjacent g states pids p (get_or pids o.0 0)) is.own) ∙ o.2))
+          let k = holds_true (o.put c) (λ x. adjacent g states pids u.own (get_or pids x 0)) q in
+          let r = moves.is_put c k.0 l k.1 in
+          (k.0, r, adjacent_true u.first k.0 is.cell (moves.to c k.0 r) (sym (ap (λ p. adjacent g states pids p (get_or pids k.0 0)) is.own) ∙ k.2))
 
-      true_meets : (c x : ℕ) → T c x → Adjacent Nb s u.first x → meets g states pids u put c ≡ true
+      true_meets : (c x : ℕ) → T c x → Adjacent Nb s u.first x → meets g states pids u o.put c ≡ true
       unfolding meets
       true_meets c x r k =
-          true_holds (put c) (λ x. adjacent g states pids u.own (get_or pids x 0)) x (moves.puts c x r)
+          true_holds (o.put c) (λ x. adjacent g states pids u.own (get_or pids x 0)) x (moves.puts c x r)
           (rw is.own (true_adjacent u.first x is.cell (moves.to c x r) k))
 
       abbrev test : Bool
-      test = both (all (falls ids u put) u.cells) (any (meets g states pids u put) u.cells)
+      test = both (all (falls ids u o.put) u.cells) (any (meets g states pids u o.put) u.cells)
 
       tried_true : test ≡ true → Tried Nb s u.first T
       tried_true q =
-          let p = both_true (all (falls ids u put) u.cells) (any (meets g states pids u put) u.cells) q in
-          let k = any_true (meets g states pids u put) u.cells p.1 in
+          let p = both_true (all (falls ids u o.put) u.cells) (any (meets g states pids u o.put) u.cells) q in
+          let k = any_true (meets g states pids u o.put) u.cells p.1 in
           let c = is.in_unit k.0 k.1 in
           let x = meets_true k.0 c.0 k.2 in
           record {
-            falls = λ a j. falls_true a (unit_cell_lem a j) (all_true (falls ids u put) u.cells p.0 a (in_cells_of a j));
+            falls = λ a j. falls_true a (unit_cell_lem a j) (all_true (falls ids u o.put) u.cells p.0 a (in_cells_of a j));
             meets = (k.0, x.0, same_unit k.0 c.0 c.1, x.1, x.2);
           }
 
       true_tried : Tried Nb s u.first T → test ≡ true
       true_tried k =
-          let o = k.meets in
-          true_both (all (falls ids u put) u.cells) (any (meets g states pids u put) u.cells)
-          (true_all (falls ids u put) u.cells
+          let w = k.meets in
+          true_both (all (falls ids u o.put) u.cells) (any (meets g states pids u o.put) u.cells)
+          (true_all (falls ids u o.put) u.cells
           (λ a i. let c = is.in_unit a i in let x = k.falls a (same_unit a c.0 c.1) in true_falls a x.0 x.1 x.2))
-          (true_any (meets g states pids u put) u.cells o.0 (in_cells_of o.0 o.2) (true_meets o.0 o.1 o.3 o.4))
+          (true_any (meets g states pids u o.put) u.cells w.0 (in_cells_of w.0 w.2) (true_meets w.0 w.1 w.3 w.4))
 
       -- no landing fails
-      module _ (free : landing g states ids u put ≡ none) where
+      module _ (free : landing g states ids u o ≡ none) where
         no_wall : (a c x y e e' : ℕ) → Ahead g a c e → SameUnit Nb s u.first a → SameUnit Nb s u.first c
             → T a x → T c y → Nb x y e' → state_of states e' ≢ 2
         unfolding inner_border
@@ -244,104 +246,108 @@ module _ (g : Grid) (states ids pids : List ℕ) (m n : ℕ)
             let d = h.0 in
             let step = h.2 in
             let step' = moves.step_on d a c x y e p q step in
-            wall_free g states ids u put free a x d (in_cells_of a ja) h.1 (moves.puts a x p)
+            wall_free g states ids u o free a x d (in_cells_of a ja) h.1 (moves.puts a x p)
             (true_both (goes_on g d a) (ahead g ids u.number a d) (step_goes g d a c e step) (eq-eqb _ u.number (ap (λ i. get_or ids i 0) (sym (step_next g d a c e step)) ∙ unit_id c jc)))
-            (step_stands g states 2 d x y (border g d x) step' (ap s (one_border g x y (border g d x) e' (d, step') k) ∙ w))
+            (step_stands g states 2 (o.turn d) x y (border g (o.turn d) x) step' (ap s (one_border g x y (border g (o.turn d) x) e' (o.turn d, step') k) ∙ w))
 
         no_connected : (a x y e' : ℕ) → SameUnit Nb s u.first a → T a x → Nb x y e' → state_of states e' ≡ 1
             → (c : ℕ) × (e : ℕ) × T c y × Nb a c e × (state_of states e ≢ 2)
         unfolding shut state_at
         no_connected a x y e' ja p k w =
-            let d = k.0 in
+            let d = moves.back k.0 in
+            let step' = turned_step g o T moves k.0 x y e' k.1 in
             ⊎_elim
-            (λ (z : shut g states a d ≡ true). absurd (connected_free g states ids u put free a x d (in_cells_of a ja) (moves.puts a x p) z (step_stands g states 1 d x y e' k.1 w)))
+            (λ (z : shut g states a d ≡ true).
+            absurd (connected_free g states ids u o free a x d (in_cells_of a ja) (moves.puts a x p) z (step_stands g states 1 (o.turn d) x y e' step' w)))
             (λ (z : shut g states a d ≡ false).
-            let o = either_false (not (goes_on g d a)) (eqb (state_at g states d a) 2) z in
-            let step = goes_step g d a (moves.from a x p) (not-false _ o.0) in
-            (next g d a, border g d a, moves.follows d a (next g d a) x y (border g d a) e' p step k.1, (d, step), eqb-false _ 2 o.1))
+            let z' = either_false (not (goes_on g d a)) (eqb (state_at g states d a) 2) z in
+            let step = goes_step g d a (moves.from a x p) (not-false _ z'.0) in
+            (next g d a, border g d a, moves.follows d a (next g d a) x y (border g d a) e' p step step', (d, step), eqb-false _ 2 z'.1))
             (true_or_false (shut g states a d))
 
-      pub good_true : is_good (try g states ids pids u put) ≡ true → Good Nb s u.first T
+      pub good_true : is_good (try g states ids pids u o) ≡ true → Good Nb s u.first T
       unfolding try
       good_true q =
-          let o = good_pick test (landing g states ids u put) q in
+          let k = good_pick test (landing g states ids u o) q in
           record {
-            tried = tried_true o.0;
-            joins = λ a c x y e e' ja jc k p r k' w.
+            tried = tried_true k.0;
+            joins = λ a c x y e e' ja jc l p r l' w.
                 ⊎_elim
-                (λ h. no_wall o.1 a c x y e e' h ja jc p r k' w)
-                (λ h. no_wall o.1 c a y x e e' h jc ja r p (neighbours_back g x y e' k') w)
-                (down_or_right g a c e k);
-            parts = λ a x y e' ja p k w. no_connected o.1 a x y e' ja p k w;
+                (λ h. no_wall k.1 a c x y e e' h ja jc p r l' w)
+                (λ h. no_wall k.1 c a y x e e' h jc ja r p (neighbours_back g x y e' l') w)
+                (down_or_right g a c e l);
+            parts = λ a x y e' ja p l w. no_connected k.1 a x y e' ja p l w;
           }
 
       -- a failed landing, whose entry stands on S
       module _ (S : ℕ → ℕ) (l : ℕ) (stood : Stands S l) where
-        wall_fails : (c : ℕ) (d : Direction) → In c u.cells → on_wall g states ids u put c d ≡ some l → OnWall Nb s S u.first T
+        wall_fails : (c : ℕ) (d : Direction) → In c u.cells → on_wall g states ids u o c d ≡ some l → OnWall Nb s S u.first T
         unfolding inner_border
         wall_fails c d i q =
-            let o = is.in_unit c i in
-            let x = wall_some g states ids u put c l d q in
-            let p = moves.is_put c x.0 o.0 x.1 in
+            let z = is.in_unit c i in
+            let x = wall_some g states ids u o c l d q in
+            let p = moves.is_put c x.0 z.0 x.1 in
             let k = both_true (goes_on g d c) (ahead g ids u.number c d) x.2 in
-            let step = goes_step g d c o.0 k.0 in
-            let step' = stands_step g states 2 d x.0 (moves.to c x.0 p) x.3 in
+            let step = goes_step g d c z.0 k.0 in
+            let d' = o.turn d in
+            let step' = stands_step g states 2 d' x.0 (moves.to c x.0 p) x.3 in
             record {
               a = c;
               b = next g d c;
               x = x.0;
-              y = next g d x.0;
+              y = next g d' x.0;
               e = border g d c;
-              e' = border g d x.0;
-              in_a = same_unit c o.0 o.1;
+              e' = border g d' x.0;
+              in_a = same_unit c z.0 z.1;
               in_b = same_unit (next g d c) step.cell' (eqb-true _ u.number k.1);
               inner = (d, step);
               puts_a = p;
-              puts_b = moves.follows d c (next g d c) x.0 (next g d x.0) (border g d c) (border g d x.0) p step step';
-              lands = (d, step');
-              is_wall = stands_wall S (border g d x.0) (rw x.4 at stood);
+              puts_b = moves.follows d c (next g d c) x.0 (next g d' x.0) (border g d c) (border g d' x.0) p step step';
+              lands = (d', step');
+              is_wall = stands_wall S (border g d' x.0) (rw x.4 at stood);
             }
 
-        connected_fails : (c : ℕ) (d : Direction) → In c u.cells → on_connected g states put c d ≡ some l → OnConnected Nb s S u.first T
+        connected_fails : (c : ℕ) (d : Direction) → In c u.cells → on_connected g states o c d ≡ some l → OnConnected Nb s S u.first T
         unfolding shut state_at
         connected_fails c d i q =
-            let o = is.in_unit c i in
-            let x = connected_some g states ids u put c l d q in
-            let p = moves.is_put c x.0 o.0 x.1 in
-            let step' = stands_step g states 1 d x.0 (moves.to c x.0 p) x.3 in
+            let z = is.in_unit c i in
+            let x = connected_some g states ids u o c l d q in
+            let p = moves.is_put c x.0 z.0 x.1 in
+            let d' = o.turn d in
+            let step' = stands_step g states 1 d' x.0 (moves.to c x.0 p) x.3 in
             record {
               a = c;
               x = x.0;
-              y = next g d x.0;
-              e' = border g d x.0;
-              in_a = same_unit c o.0 o.1;
+              y = next g d' x.0;
+              e' = border g d' x.0;
+              in_a = same_unit c z.0 z.1;
               puts_a = p;
               shut = λ v e r k.
-                  let step = moves.step_off d c v x.0 (next g d x.0) (border g d x.0) p r step' in
+                  let step = moves.step_off d c v x.0 (next g d' x.0) (border g d' x.0) p r step' in
                   ap s (one_border g c v e (border g d c) k (d, step)) ∙
                   ⊎_elim
                   (λ (z : not (goes_on g d c) ≡ true). absurd (true≢false (sym (step_goes g d c v (border g d c) step) ∙ not-true _ z)))
                   (λ (z : eqb (state_at g states d c) 2 ≡ true). eqb-true (state_at g states d c) 2 z)
                   (either_true (not (goes_on g d c)) (eqb (state_at g states d c) 2) x.2);
-              lands = (d, step');
-              is_connected = stands_connected S (border g d x.0) (rw x.4 at stood);
+              lands = (d', step');
+              is_connected = stands_connected S (border g d' x.0) (rw x.4 at stood);
             }
 
-        landing_fails : landing g states ids u put ≡ some l → Fails Nb s S u.first T
+        landing_fails : landing g states ids u o ≡ some l → Fails Nb s S u.first T
         landing_fails q =
             ⊎_elim
-            (λ (k : (c : ℕ) × (d : Direction) × In c u.cells × (on_wall g states ids u put c d ≡ some l)). inl (wall_fails k.0 k.1 k.2 k.3))
-            (λ (k : (c : ℕ) × (d : Direction) × In c u.cells × (on_connected g states put c d ≡ some l)). inr (connected_fails k.0 k.1 k.2 k.3))
-            (landing_some g states ids u put l q)
+            (λ (k : (c : ℕ) × (d : Direction) × In c u.cells × (on_wall g states ids u o c d ≡ some l)). inl (wall_fails k.0 k.1 k.2 k.3))
+            (λ (k : (c : ℕ) × (d : Direction) × In c u.cells × (on_connected g states o c d ≡ some l)). inr (connected_fails k.0 k.1 k.2 k.3))
+            (landing_some g states ids u o l q)
 
       -- an offset that is tried and not good gave an entry, and failed
-      pub tried_fails : (S : ℕ → ℕ) → Standing S (entry_of (try g states ids pids u put)) → (is_good (try g states ids pids u put) ≡ true → ⊥)
+      pub tried_fails : (S : ℕ → ℕ) → Standing S (entry_of (try g states ids pids u o)) → (is_good (try g states ids pids u o) ≡ true → ⊥)
           → Tried Nb s u.first T → Fails Nb s S u.first T
       unfolding try is_good entry_of landed
       tried_fails S stood bad k =
           let q : test ≡ true = true_tried k in
-          let land = landing g states ids u put in
-          let r : try g states ids pids u put ≡ landed land = ap (λ t. pick t (landed land) Passed) q in
+          let land = landing g states ids u o in
+          let r : try g states ids pids u o ≡ landed land = ap (λ t. pick t (landed land) Passed) q in
           ⊎_elim
           (λ (z : land ≡ none). absurd (bad (ap is_good (r ∙ ap landed z))))
           (λ (z : (l : ℕ) × (land ≡ some l)).

@@ -3,29 +3,31 @@ use Prim.Native.Nat.{ℕ, ◌+◌, ◌-◌, ◌≤◌, ◌<◌}
 use mathlib.Core.Path.{◌≡◌, refl, ap, sym, ◌∙◌}
 use mathlib.Core.Logic.{◌≢◌, ⊎_elim, ∥∥₁_elim}
 use mathlib.Core.Bool.{Bool, true, false, not}
-use mathlib.Core.List.{List}
+use mathlib.Core.List.{List, [], ◌∷◌}
 use native.Mathlib.Omega.{arith}
 use Rattle.std.proofs.Props.{props}
-use borrow.Author.Tests.{eq-eqb, not-true}
+use borrow.Author.Tests.{eq-eqb, eqb-true, not-true}
 use lib.Dec.{eqb}
 use lib.ListN.{get_or, length}
 use Rattle.std.specs.Prelude.{Option, Some, None}
 use Rattle.lists.specs.Choice.{both}
-use Rattle.lists.specs.Lists.{all, any, range}
+use Rattle.lists.specs.Lists.{In, all, any, range}
 use Rattle.lists.proofs.Cases.{eq_or_ne, true_or_false, not_both}
-use Rattle.lists.proofs.ChoiceLaws.{both_true, holds_true}
-use Rattle.lists.proofs.ListLaws.{any_true, all_true}
+use Rattle.lists.proofs.ChoiceLaws.{both_true, either_false, holds_true}
+use Rattle.lists.proofs.ListLaws.{any_true, true_any, all_true}
 use Rattle.grid.specs.declared.Grid.{Grid}
 use Rattle.grid.specs.Grid.{Limits, cells, Cell, border_count}
 use Rattle.groups.specs.Groups.{cells_of}
 use Rattle.groups.specs.Lent.{InTurn}
 use Rattle.groups.proofs.GroupLaws.{in_cells}
 use Rattle.groups.proofs.Theorems.{turn_some}
-use Rattle.shape.specs.Shape.{head_or0, shift, unit_of, falls, meets, landing, try, try_at, is_good, fits}
+use Rattle.images.specs.declared.Image.{Image}
+use Rattle.shape.specs.Shape.{head_or0, place, offset, unit_of, falls, meets, landing, try, try_at, is_good, fits_by, fits}
 use Rattle.offsets.specs.declared.table.CellInfo.{CellInfo}
-use Rattle.offsets.specs.Table.{Table, spot, unit_in, potential_in, units_in, potentials_in}
+use Rattle.images.specs.Images.{spot, translate}
+use Rattle.offsets.specs.Table.{Table, unit_in, potential_in, units_in, potentials_in}
 use Rattle.offsets.specs.Reach.{moved}
-use Rattle.offsets.specs.Trial.{unit_at, shift_of, fits_at, Unit, Placed}
+use Rattle.offsets.specs.Trial.{unit_at, shift_of, fits_as, fits_at, Unit, Placed}
 use Rattle.offsets.proofs.TableLaws.{unit_at_lem, potential_at}
 use Rattle.offsets.proofs.ReachLaws.{fell, fell_cell}
 use Rattle.offsets.proofs.NoneLaws.{is_none, good_pick}
@@ -34,7 +36,7 @@ use Rattle.adjacency.specs.Adjacency.{Adjacency, Marking, MarksOf, Unmarked}
 use Rattle.adjacency.proofs.ListingLaws.{marking}
 use Rattle.cell_words.proofs.NearLaws.{some_is}
 use Rattle.unit_check.specs.Stage.{Finding}
-use Rattle.unit_check.specs.Find.{unit_cells, own_of, fits_in, tries_all, AllFit, FirstUnfit, MarkedFor, Sought, Unfit}
+use Rattle.unit_check.specs.Find.{unit_cells, own_of, fits_in, translate_fits, tries_all, AllFit, FirstUnfit, MarkedFor, Sought, Unfit}
 
 -- THE UNITS IN TURN
 
@@ -92,8 +94,11 @@ module _ {g : Grid} {table : List CellInfo} {n : ℕ} {starts flat : List ℕ} (
   pub unit_is : unit_at g table (unit_cells g table k) ≡ unit_of g ids pids k
   unit_is = ap (unit_of g ids pids) number
 
-  pub fits_is : (states : List ℕ) → fits_at g states table (unit_cells g table k) ≡ fits_in g states table k
-  fits_is states = ap (fits g states ids pids) unit_is
+  pub fits_is : (ms : List Image) (states : List ℕ) → fits_at ms g states table (unit_cells g table k) ≡ fits_in ms g states table k
+  fits_is ms states = ap (fits ms g states ids pids) unit_is
+
+  pub translate_is : (states : List ℕ) → fits_as g states table (unit_cells g table k) translate ≡ translate_fits g states table k
+  translate_is states = ap (λ u. fits_by g states ids pids u translate) unit_is
 
   pub its_unit : Unit g table (unit_cells g table k)
   its_unit = record { limits = l; table_of = t; some = some_cells; cells_are = ap (cells_of g ids) (sym number) }
@@ -135,46 +140,66 @@ module _ {g : Grid} {table : List CellInfo} {n : ℕ} {starts flat : List ℕ} (
     unit_unmarked e marks' m f q =
         ∥∥₁_elim a (hlevel props) (λ (b : Adjacency g states pids count nstarts near). f g states pids count b (rw e own_exists) (rw e m.only) q)
 
--- a unit that is the whole board fits nowhere: each offset puts its first cell on it
-module _ {g : Grid} (states : List ℕ) (table : List CellInfo) {n : ℕ} {starts flat : List ℕ} (turns : InTurn g (units_in g table) n starts flat) (e : n ≡ 1) where
+-- a unit that is the whole board fits nowhere, as any image: each offset puts its first cell on it
+module _ (ms : List Image) {g : Grid} (states : List ℕ) (table : List CellInfo) {n : ℕ} {starts flat : List ℕ} (turns : InTurn g (units_in g table) n starts flat) (e : n ≡ 1) where
   abbrev all_ids : List ℕ
   all_ids = units_in g table
 
   abbrev all_cells : List ℕ
   all_cells = cells_of g all_ids 0
 
-  fits_never : fits_in g states table 0 ≡ true → ⊥
-  unfolding fits try_at try falls unit_of shift moved
+  fits_never : fits_in ms g states table 0 ≡ true → ⊥
+  unfolding fits fits_by try_at try falls unit_of place moved
   fits_never q =
       let u = unit_of g all_ids (potentials_in g table) 0 in
       let f = head_or0 all_cells in
-      let a = any_true (λ t. is_good (try_at g states all_ids (potentials_in g table) u t)) (range (cells g)) q in
-      let put = shift g f a.0 in
+      let m = any_true (fits_by g states all_ids (potentials_in g table) u) ms q in
+      let a = any_true (λ t. is_good (try_at m.0 g states all_ids (potentials_in g table) u t)) (range (cells g)) m.2 in
+      let put = place m.0 g f a.0 in
       let t = both (all (falls all_ids u put) all_cells) (any (meets g states (potentials_in g table) u put) all_cells) in
-      let o = landing g states all_ids u put in
+      let o = landing g states all_ids u (offset m.0 g f a.0) in
       let b = (both_true t (is_none o) (sym (good_pick t o) ∙ a.2)).0 in
       let c = (both_true (all (falls all_ids u put) all_cells) (any (meets g states (potentials_in g table) u put) all_cells) b).0 in
       let d = all_true (falls all_ids u put) all_cells c f (head_in all_cells (turn_some turns (omega arith))) in
       let x = holds_true (put f) (λ z. not (eqb (get_or all_ids z 0) 0)) d in
-      let s = shift_of g 0 f a.0 in
+      let s = shift_of m.0 g 0 f a.0 in
       let k = turns.small x.0 (fell_cell g s (spot g f) x.0 (fell g s (spot g f) x.0 x.1)) in
       not_both (eqb (get_or all_ids x.0 0) 0) (eq-eqb (get_or all_ids x.0 0) 0 (omega (arith, k, e))) (not-true (eqb (get_or all_ids x.0 0) 0) x.2)
 
-  pub only_unit : FirstUnfit (fits_in g states table) n 0
+  pub only_unit : FirstUnfit (fits_in ms g states table) n 0
   only_unit =
       record {
         within = omega arith;
         before = λ i l. absurd (omega arith);
-        there = λ l. ⊎_elim (λ q. absurd (fits_never q)) (λ q. q) (true_or_false (fits_in g states table 0));
+        there = λ l. ⊎_elim (λ q. absurd (fits_never q)) (λ q. q) (true_or_false (fits_in ms g states table 0));
       }
+
+-- WHAT A TRANSLATE TELLS
+
+alone : (test : Image → Bool) (ms : List Image) → In translate ms → length ms ≡ 1 → test translate ≡ false → any test ms ≡ false
+unfolding any
+alone test [] m l e = absurd m
+alone test (x ∷ []) m l e = let q : translate ≡ x = ⊎_elim (λ p. p) (λ p. absurd p) m in rw (← q) (either_false (test translate) ∙ e)
+alone test (x ∷ y ∷ ms) m l e = absurd (omega arith)
+
+module _ (ms : List Image) (m : In translate ms) (g : Grid) (states : List ℕ) (table : List CellInfo) (k : ℕ) where
+  -- a unit that fits as a translate fits
+  pub translate_in : translate_fits g states table k ≡ true → fits_in ms g states table k ≡ true
+  unfolding fits
+  translate_in e = true_any _ ms translate m e
+
+  -- where translates are tried alone, one that does not fit so fits nowhere
+  pub translate_alone : both (eqb (length ms) 1) (tries_all g) ≡ true → (tries_all g ≡ true → translate_fits g states table k ≡ false) → fits_in ms g states table k ≡ false
+  unfolding fits
+  translate_alone l e = let b = both_true (eqb (length ms) 1) (tries_all g) l in alone _ ms m (eqb-true (length ms) 1 b.0) (e b.1)
 
 -- WHAT IS FOUND
 
 some_none : {a : ℕ} {P : Type 0} → ◌≡◌ {A = Option ℕ} (Some a) None → P
 some_none e = absurd (let z : ◌≡◌ {A = ℕ} 0 1 = cc in omega arith)
 
-module _ {g : Grid} {states : List ℕ} {table : List CellInfo} {n : ℕ} where
-  pub sought_none : {from k : ℕ} {marks : List ℕ} → AllFit (fits_in g states table) n k → n ≤ k → Sought g states table n from marks None
+module _ {ms : List Image} {g : Grid} {states : List ℕ} {table : List CellInfo} {n : ℕ} where
+  pub sought_none : {from k : ℕ} {marks : List ℕ} → AllFit (fits_in ms g states table) n k → n ≤ k → Sought ms g states table n from marks None
   sought_none {k = k₀} a h =
       record {
         none = λ e. let q : k₀ ≡ n = omega (arith, a.within) in rw q at a;
@@ -184,8 +209,8 @@ module _ {g : Grid} {states : List ℕ} {table : List CellInfo} {n : ℕ} where
         there = λ s k e. some_none (sym e);
       }
 
-  pub sought_some : {from u : ℕ} {marks : List ℕ} → from ≤ u → u < n → AllFit (fits_in g states table) n u → MarkedFor g states table u marks → (tries_all g ≡ true → fits_in g states table u ≡ false)
-      → Sought g states table n from marks (Some u)
+  pub sought_some : {from u : ℕ} {marks : List ℕ} → from ≤ u → u < n → AllFit (fits_in ms g states table) n u → MarkedFor g states table u marks → (tries_all g ≡ true → translate_fits g states table u ≡ false)
+      → Sought ms g states table n from marks (Some u)
   sought_some {from} {u} {marks} f h a m t =
       record {
         none = λ e. some_none e;
@@ -195,24 +220,24 @@ module _ {g : Grid} {states : List ℕ} {table : List CellInfo} {n : ℕ} where
         there = λ s k e. rw (← some_is e) (t s);
       }
 
-  pub unfit_none : {marks : List ℕ} → AllFit (fits_in g states table) n n → Unfit g states table n marks None
+  pub unfit_none : {marks : List ℕ} → AllFit (fits_in ms g states table) n n → Unfit ms g states table n marks None
   unfit_none a = record { none = λ e. fit_all a (omega arith); some = λ k e. some_none (sym e); first = λ k e. some_none (sym e); marked = λ k e. some_none (sym e) }
 
-  pub unfit_some : {u : ℕ} {marks : List ℕ} → u < n → FirstUnfit (fits_in g states table) n u → MarkedFor g states table u marks → Unfit g states table n marks (Some u)
+  pub unfit_some : {u : ℕ} {marks : List ℕ} → u < n → FirstUnfit (fits_in ms g states table) n u → MarkedFor g states table u marks → Unfit ms g states table n marks (Some u)
   unfit_some {u} h a m = record { none = λ e. some_none e; some = λ k e. rw (← some_is e) h; first = λ k e. rw (← some_is e) a; marked = λ k e. rw (← some_is e) m }
 
 -- each unit so far fits somewhere, and the next one to look at has its marks
-pub record Pending (g : Grid) (states : List ℕ) (table : List CellInfo) (n : ℕ) (marks : List ℕ) (next : Option ℕ) : Type 0 where
-  pub none : next ≡ None → AllFit (fits_in g states table) n n
+pub record Pending (ms : List Image) (g : Grid) (states : List ℕ) (table : List CellInfo) (n : ℕ) (marks : List ℕ) (next : Option ℕ) : Type 0 where
+  pub none : next ≡ None → AllFit (fits_in ms g states table) n n
   pub some : (k : ℕ) → next ≡ Some k → k < n
-  pub before : (k : ℕ) → next ≡ Some k → AllFit (fits_in g states table) n k
+  pub before : (k : ℕ) → next ≡ Some k → AllFit (fits_in ms g states table) n k
   pub marked : (k : ℕ) → next ≡ Some k → MarkedFor g states table k marks
 
-module _ {g : Grid} {states : List ℕ} {table : List CellInfo} {n : ℕ} where
-  pub pending_first : {u : ℕ} {marks : List ℕ} → u < n → AllFit (fits_in g states table) n u → MarkedFor g states table u marks → Pending g states table n marks (Some u)
+module _ {ms : List Image} {g : Grid} {states : List ℕ} {table : List CellInfo} {n : ℕ} where
+  pub pending_first : {u : ℕ} {marks : List ℕ} → u < n → AllFit (fits_in ms g states table) n u → MarkedFor g states table u marks → Pending ms g states table n marks (Some u)
   pending_first h a m = record { none = λ e. some_none e; some = λ k e. rw (← some_is e) h; before = λ k e. rw (← some_is e) a; marked = λ k e. rw (← some_is e) m }
 
-  pub pending_next : {from : ℕ} {marks : List ℕ} {next : Option ℕ} → Sought g states table n from marks next → Pending g states table n marks next
+  pub pending_next : {from : ℕ} {marks : List ℕ} {next : Option ℕ} → Sought ms g states table n from marks next → Pending ms g states table n marks next
   pending_next s = record { none = s.none; some = λ k e. (s.some k e).1; before = s.before; marked = s.marked }
 
 -- how many units are left to look at

@@ -3,6 +3,6 @@ pub mod FindLaws
 pub mod FinderLaws
 pub mod HeldLaws
 pub mod RestLaws
-pub mod RoomLaws
+pub mod ImageLaws
 pub mod WriteLaws
 pub mod StageLaws

@@ -16,6 +16,7 @@ use Rattle.grid.specs.declared.Grid.{Grid}
 use Rattle.grid.specs.Grid.{Limits}
 use Rattle.groups.specs.Lent.{InTurn}
 use Rattle.boundary.specs.Appended.{Appended}
+use Rattle.images.specs.declared.Image.{Image}
 use Rattle.shape.specs.Shape.{UnitInfo, unit_of, failures, boundaries, unit_fault}
 use Rattle.offsets.specs.declared.table.CellInfo.{CellInfo}
 use Rattle.offsets.specs.Table.{Table, units_in, potentials_in}
@@ -37,9 +38,9 @@ skip f n zero h e = rw (sub-zero n)
 skip f n (suc k) h e =
     rw (← add-one k) (skip_one f n k (omega arith) (e k (omega arith)) (skip f n k (omega arith) (λ i l. e i (omega arith))))
 
-module _ (g : Grid) (states : List ℕ) (table : List CellInfo) (n k : ℕ) (w : FirstUnfit (fits_in g states table) n k) (count : ℕ) where
+module _ (ms : List Image) (g : Grid) (states : List ℕ) (table : List CellInfo) (n k : ℕ) (w : FirstUnfit (fits_in ms g states table) n k) (count : ℕ) where
   abbrev fault : ℕ → Option (List ℕ)
-  fault = unit_fault g states (units_in g table) (potentials_in g table) count
+  fault = unit_fault ms g states (units_in g table) (potentials_in g table) count
 
   passed : (i : ℕ) → i < k → fault i ≡ none
   unfolding unit_fault give
@@ -53,7 +54,7 @@ module _ (g : Grid) (states : List ℕ) (table : List CellInfo) (n k : ℕ) (w :
   u = unit_of g (units_in g table) (potentials_in g table) k
 
   abbrev list : List ℕ
-  list = failures g states (units_in g table) (potentials_in g table) u ++ boundaries g states (units_in g table) (potentials_in g table) count u
+  list = failures ms g states (units_in g table) (potentials_in g table) u ++ boundaries g states (units_in g table) (potentials_in g table) count u
 
   this : k < n → fault k ≡ some list
   unfolding unit_fault give
@@ -63,18 +64,18 @@ module _ (g : Grid) (states : List ℕ) (table : List CellInfo) (n k : ℕ) (w :
   unfolding first or_else
   stage_some h = sym (skip fault n k w.within passed) ∙ rw (count_from_step n k h, this h)
 
-module _ (g : Grid) (states : List ℕ) (table : List CellInfo) {n : ℕ} (count : ℕ) where
-  pub finds_nothing : FirstUnfit (fits_in g states table) n n → (b : List ℕ) → Finds (first_list g states table count n) b b std.None
+module _ (ms : List Image) (g : Grid) (states : List ℕ) (table : List CellInfo) {n : ℕ} (count : ℕ) where
+  pub finds_nothing : FirstUnfit (fits_in ms g states table) n n → (b : List ℕ) → Finds (first_list ms g states table count n) b b std.None
   finds_nothing q b =
-      let z : first_list g states table count n ≡ none = stage_none g states table n n q count (omega arith) in
+      let z : first_list ms g states table count n ≡ none = stage_none ms g states table n n q count (omega arith) in
       rw z record { answer = refl; stored = refl }
 
-  pub finds_list : Limits g → Table g table → {starts flat : List ℕ} → InTurn g (units_in g table) n starts flat → {k : ℕ} → k < n → FirstUnfit (fits_in g states table) n k → {b b' : List ℕ} {r : ℕ}
-      → Appended b 0 (list_at g states table count (unit_cells g table k)) b' r → Finds (first_list g states table count n) b b' (std.Some r)
+  pub finds_list : Limits g → Table g table → {starts flat : List ℕ} → InTurn g (units_in g table) n starts flat → {k : ℕ} → k < n → FirstUnfit (fits_in ms g states table) n k → {b b' : List ℕ} {r : ℕ}
+      → Appended b 0 (list_at ms g states table count (unit_cells g table k)) b' r → Finds (first_list ms g states table count n) b b' (std.Some r)
   finds_list limits t turns {k} h q {r = r} v =
-      let L : List ℕ = list g states table n k q count in
-      let z : first_list g states table count n ≡ some L = stage_some g states table n k q count h in
-      let e : list_at g states table count (unit_cells g table k) ≡ L = rw (unit_is limits t turns h) in
+      let L : List ℕ = list ms g states table n k q count in
+      let z : first_list ms g states table count n ≡ some L = stage_some ms g states table n k q count h in
+      let e : list_at ms g states table count (unit_cells g table k) ≡ L = rw (unit_is limits t turns h) in
       let v' = rw e at v in
       let j : r ≡ length L = omega (arith, v'.place) in
       rw z record { answer = rw j; stored = v'.stored }

@@ -1,18 +1,24 @@
--- The first unit that fits nowhere. The table tells the units and potential units of the cells. Assumes nothing.
+-- The first unit that fits nowhere, as any of the images. The table tells the units and potential units of the cells. Assumes nothing.
 use Rattle.std.specs.Prelude.{ℕ, ◌≤◌, ◌<◌, ◌≡◌, Bool, true, false, List, leb, Option, Some, None}
 use Rattle.grid.specs.declared.Grid.{Grid}
 use Rattle.grid.specs.Grid.{cells}
 use Rattle.groups.specs.Groups.{cells_of}
-use Rattle.shape.specs.Shape.{head_or0, unit_of, fits}
+use Rattle.images.specs.declared.Image.{Image}
+use Rattle.images.specs.Images.{translate}
+use Rattle.shape.specs.Shape.{head_or0, unit_of, fits_by, fits}
 use Rattle.offsets.specs.declared.table.CellInfo.{CellInfo}
 use Rattle.offsets.specs.Table.{potential_in, units_in, potentials_in}
 use Rattle.adjacency.specs.Adjacency.{MarksOf}
 
--- unit k fits somewhere: it has a good offset (SPEC 4.8, 4.9)
-abbrev pub fits_in : Grid → List ℕ → List CellInfo → ℕ → Bool
-fits_in g states table k = fits g states (units_in g table) (potentials_in g table) (unit_of g (units_in g table) (potentials_in g table) k)
+-- unit k fits somewhere as one of the images: it has a good offset (SPEC 4.8, 4.9, 14.2)
+abbrev pub fits_in : List Image → Grid → List ℕ → List CellInfo → ℕ → Bool
+fits_in ms g states table k = fits ms g states (units_in g table) (potentials_in g table) (unit_of g (units_in g table) (potentials_in g table) k)
 
--- the board is so small that a unit is tried at every offset by itself, and never by words
+-- it does as a translate
+abbrev pub translate_fits : Grid → List ℕ → List CellInfo → ℕ → Bool
+translate_fits g states table k = fits_by g states (units_in g table) (potentials_in g table) (unit_of g (units_in g table) (potentials_in g table) k) translate
+
+-- the board is so small that a unit's translates are tried at every offset, one by one
 abbrev pub tries_all : Grid → Bool
 tries_all g = leb (cells g) 25
 
@@ -38,17 +44,17 @@ own_of g table k = potential_in table (head_or0 (unit_cells g table k))
 pub record MarkedFor (g : Grid) (states : List ℕ) (table : List CellInfo) (k : ℕ) (marks : List ℕ) : Type 0 where
   pub only : MarksOf g states (potentials_in g table) (own_of g table k) marks
 
--- of n units each fits somewhere, or this is the first, from one on, that fits at none of the places tried soon; its marks are set
-pub record Sought (g : Grid) (states : List ℕ) (table : List CellInfo) (n from : ℕ) (marks : List ℕ) (r : Option ℕ) : Type 0 where
-  pub none : r ≡ None → AllFit (fits_in g states table) n n
+-- of n units each fits somewhere, or this is the first, from one on, no translate of which fits at one of the places tried soon; its marks are set
+pub record Sought (ms : List Image) (g : Grid) (states : List ℕ) (table : List CellInfo) (n from : ℕ) (marks : List ℕ) (r : Option ℕ) : Type 0 where
+  pub none : r ≡ None → AllFit (fits_in ms g states table) n n
   pub some : (k : ℕ) → r ≡ Some k → (from ≤ k) × (k < n)
-  pub before : (k : ℕ) → r ≡ Some k → AllFit (fits_in g states table) n k
+  pub before : (k : ℕ) → r ≡ Some k → AllFit (fits_in ms g states table) n k
   pub marked : (k : ℕ) → r ≡ Some k → MarkedFor g states table k marks
-  pub there : tries_all g ≡ true → (k : ℕ) → r ≡ Some k → fits_in g states table k ≡ false
+  pub there : tries_all g ≡ true → (k : ℕ) → r ≡ Some k → translate_fits g states table k ≡ false
 
 -- of n units each fits somewhere, or this is the first that fits nowhere; its marks are set
-pub record Unfit (g : Grid) (states : List ℕ) (table : List CellInfo) (n : ℕ) (marks : List ℕ) (r : Option ℕ) : Type 0 where
-  pub none : r ≡ None → FirstUnfit (fits_in g states table) n n
+pub record Unfit (ms : List Image) (g : Grid) (states : List ℕ) (table : List CellInfo) (n : ℕ) (marks : List ℕ) (r : Option ℕ) : Type 0 where
+  pub none : r ≡ None → FirstUnfit (fits_in ms g states table) n n
   pub some : (k : ℕ) → r ≡ Some k → (k < n)
-  pub first : (k : ℕ) → r ≡ Some k → FirstUnfit (fits_in g states table) n k
+  pub first : (k : ℕ) → r ≡ Some k → FirstUnfit (fits_in ms g states table) n k
   pub marked : (k : ℕ) → r ≡ Some k → MarkedFor g states table k marks

@@ -4,18 +4,22 @@ use Rattle.lists.specs.Choice.{pick}
 use Rattle.lists.specs.Lists.{range, gather}
 use Rattle.grid.specs.declared.Grid.{Grid}
 use Rattle.boundary.specs.Boundary.{potential_boundary}
-use Rattle.shape.specs.Shape.{failures, boundaries}
+use Rattle.images.specs.declared.Image.{Image}
+use Rattle.shape.specs.Shape.{failures_by, failures, boundaries}
 use Rattle.offsets.specs.declared.table.CellInfo.{CellInfo}
 use Rattle.offsets.specs.Table.{units_in, potentials_in}
 use Rattle.offsets.specs.Trial.{unit_at}
 
--- the failed landings of the unit of these cells
-abbrev pub failures_at : Grid → List ℕ → List CellInfo → List ℕ → List ℕ
-failures_at g states table cs = failures g states (units_in g table) (potentials_in g table) (unit_at g table cs)
+-- the failed landings of the unit of these cells as an image, and those as one image after the other
+abbrev pub failures_as : Grid → List ℕ → List CellInfo → List ℕ → Image → List ℕ
+failures_as g states table cs m = failures_by g states (units_in g table) (potentials_in g table) (unit_at g table cs) m
 
--- its whole list, where there are n potential units (SPEC 4.11)
-abbrev pub list_at : Grid → List ℕ → List CellInfo → ℕ → List ℕ → List ℕ
-list_at g states table n cs = failures_at g states table cs ++ boundaries g states (units_in g table) (potentials_in g table) n (unit_at g table cs)
+abbrev pub failures_at : List Image → Grid → List ℕ → List CellInfo → List ℕ → List ℕ
+failures_at ms g states table cs = failures ms g states (units_in g table) (potentials_in g table) (unit_at g table cs)
+
+-- its whole list, where there are n potential units (SPEC 4.11, 14.2)
+abbrev pub list_at : List Image → Grid → List ℕ → List CellInfo → ℕ → List ℕ → List ℕ
+list_at ms g states table n cs = failures_at ms g states table cs ++ boundaries g states (units_in g table) (potentials_in g table) n (unit_at g table cs)
 
 -- the boundary list of a potential unit, if it is marked
 unfoldable pub marked_boundary : Grid → List ℕ → List ℕ → List ℕ → ℕ → List ℕ

@@ -1,16 +1,18 @@
-// Finding: the first unit that fits nowhere.
-ghost use Rattle.std.specs.Prelude.{◌≡◌, ◌*◌, ◌<◌, ◌≤◌, length};
+// Finding: the first unit that fits nowhere, as any of the images.
+ghost use Rattle.std.specs.Prelude.{◌≡◌, ◌+◌, ◌*◌, ◌<◌, ◌≤◌, eqb, length};
+ghost use Rattle.lists.specs.Choice.{both};
 ghost use Rattle.grid.specs.Grid.{cells as cells_of};
 ghost use Rattle.adjacency.specs.Adjacency.{Unmarked};
 ghost use Rattle.answers.specs.Answers.{Finds};
 ghost use Rattle.unit_check.specs.Units.{first_list};
-ghost use Rattle.unit_check.specs.Find.{unit_cells, own_of, fits_in, AllFit, MarkedFor, Sought, Unfit};
+ghost use Rattle.unit_check.specs.Find.{unit_cells, own_of, fits_in, tries_all, AllFit, MarkedFor, Sought, Unfit};
 
-use crate::soon;
 use crate::stage::Stage;
+use crate::{by_words, soon};
 use cell_words::Near;
 use offsets::trial::Trial;
 use offsets::unit::UnitCells;
+use row_trials::unit_words::UnitWords;
 
 // A search among a stage's units, which sets the marks of one unit after the other. There is a mark for each potential unit.
 #[derive(Drop)]
@@ -58,6 +60,13 @@ impl<'a> Stage<'a> {
         usize::from(self.unit(unit).first().potential)
     }
 
+    // Whether a unit that fits at none of the places that are tried soon fits nowhere: on a small board, among translates alone.
+    fn is_told_soon(self) -> bool
+        ensures { result ≡ both (eqb (length self.entry.images.now) 1) (tries_all self.entry.chart.borders.grid) }
+    {
+        self.images.len() == 1 && soon::tries_all(self.chart.borders)
+    }
+
     // How long the list is of the first unit that fits nowhere, if there is one. No mark is set before, and the arrays of codes have room for
     // those of any unit.
     pub fn list_first<const N: usize, const BORDERS: usize>(
@@ -69,8 +78,8 @@ impl<'a> Stage<'a> {
         requires unmarked { Unmarked marks.old }
         requires room { (cells_of self.chart.borders.grid ≤ N) × (6 * cells_of self.chart.borders.grid ≤ BORDERS) }
         requires arrays_small { (N ≤ 1024) × (BORDERS ≤ 6144) }
-        requires enough { 9 * cells_of self.chart.borders.grid ≤ length buffer.old }
-        ensures { Finds (first_list self.entry.chart.borders.grid self.entry.chart.borders.states.now self.entry.chart.table.now (length self.entry.potentials.starts.now) (length self.entry.units.starts.now)) buffer.old buffer.new result }
+        requires enough { (length self.images.now + 8) * cells_of self.chart.borders.grid ≤ length buffer.old }
+        ensures { Finds (first_list self.entry.images.now self.entry.chart.borders.grid self.entry.chart.borders.states.now self.entry.chart.table.now (length self.entry.potentials.starts.now) (length self.entry.units.starts.now)) buffer.old buffer.new result }
     {
         let mut finder = Finder { stage: self, marks };
         let unit = finder.find::<N, BORDERS>()?;
@@ -116,13 +125,13 @@ impl Finder<'_, '_> {
         self.stage.near.unmark(own, self.marks);
     }
 
-    // The first unit from one on that fits at none of the places that are tried soon, for which the marks are left set. On a small board it fits
-    // nowhere.
+    // The first unit from one on that fits as a translate at none of the places that are tried soon, for which the marks are left set. On a small board
+    // none of its translates fits.
     fn find_soon(&mut self, from: usize) -> Option<usize>
         requires unmarked { Unmarked self.old.marks.now }
-        requires all_fit { AllFit (fits_in self.old.stage.chart.borders.grid self.old.stage.chart.borders.states.now self.old.stage.chart.table.now) (length self.old.stage.units.starts.now) from }
+        requires all_fit { AllFit (fits_in self.old.stage.images.now self.old.stage.chart.borders.grid self.old.stage.chart.borders.states.now self.old.stage.chart.table.now) (length self.old.stage.units.starts.now) from }
         ensures kept { Kept self.old self.new }
-        ensures sought { Sought self.old.stage.chart.borders.grid self.old.stage.chart.borders.states.now self.old.stage.chart.table.now (length self.old.stage.units.starts.now) from self.new.marks.now result }
+        ensures sought { Sought self.old.stage.images.now self.old.stage.chart.borders.grid self.old.stage.chart.borders.states.now self.old.stage.chart.table.now (length self.old.stage.units.starts.now) from self.new.marks.now result }
     {
         for unit in from..self.stage.units.len() {
             self.mark(unit);
@@ -140,26 +149,31 @@ impl Finder<'_, '_> {
         requires room { (cells_of self.old.stage.chart.borders.grid ≤ N) × (6 * cells_of self.old.stage.chart.borders.grid ≤ BORDERS) }
         requires arrays_small { (N ≤ 1024) × (BORDERS ≤ 6144) }
         requires from_exists { from < length self.old.stage.units.starts.now }
-        requires all_fit { AllFit (fits_in self.old.stage.chart.borders.grid self.old.stage.chart.borders.states.now self.old.stage.chart.table.now) (length self.old.stage.units.starts.now) from }
+        requires all_fit { AllFit (fits_in self.old.stage.images.now self.old.stage.chart.borders.grid self.old.stage.chart.borders.states.now self.old.stage.chart.table.now) (length self.old.stage.units.starts.now) from }
         requires marked { MarkedFor self.old.stage.chart.borders.grid self.old.stage.chart.borders.states.now self.old.stage.chart.table.now from self.old.marks.now }
         ensures kept { Kept self.old self.new }
-        ensures unfit { Unfit self.old.stage.chart.borders.grid self.old.stage.chart.borders.states.now self.old.stage.chart.table.now (length self.old.stage.units.starts.now) self.new.marks.now result }
+        ensures unfit { Unfit self.old.stage.images.now self.old.stage.chart.borders.grid self.old.stage.chart.borders.states.now self.old.stage.chart.table.now (length self.old.stage.units.starts.now) self.new.marks.now result }
     {
-        let mut words = [0; 132];
-        border_words::fill(self.stage.chart.borders, &mut words);
-        let full = words::full_word(self.stage.chart.borders.grid.width);
+        let mut board = [0; 132];
+        border_words::fill(self.stage.chart.borders, &mut board);
         let mut near_words = [0; 32];
         let mut stamps = [None; 32];
-        let mut near = Near {
-            words: &mut near_words,
-            stamps: &mut stamps,
-        };
         let mut codes = [0; N];
         let mut borders = [0; BORDERS];
+        let mut words = UnitWords {
+            full: words::full_word(self.stage.chart.borders.grid.width),
+            board: &board,
+            codes: &mut codes,
+            borders: &mut borders,
+            near: Near {
+                words: &mut near_words,
+                stamps: &mut stamps,
+            },
+        };
         let mut next = Some(from);
         while let Some(unit) = next {
             let trial = self.trial(unit);
-            if !row_trials::fits(trial, full, &words, &mut codes, &mut borders, &mut near) {
+            if !by_words::fits(trial, self.stage.images, &mut words) {
                 return next;
             }
             self.unmark(unit);
@@ -175,14 +189,14 @@ impl Finder<'_, '_> {
         requires arrays_small { (N ≤ 1024) × (BORDERS ≤ 6144) }
         requires unmarked { Unmarked self.old.marks.now }
         ensures kept { Kept self.old self.new }
-        ensures unfit { Unfit self.old.stage.chart.borders.grid self.old.stage.chart.borders.states.now self.old.stage.chart.table.now (length self.old.stage.units.starts.now) self.new.marks.now result }
+        ensures unfit { Unfit self.old.stage.images.now self.old.stage.chart.borders.grid self.old.stage.chart.borders.states.now self.old.stage.chart.table.now (length self.old.stage.units.starts.now) self.new.marks.now result }
     {
         if self.stage.units.len() == 1 {
             self.mark(0);
             return Some(0);
         }
         let unit = self.find_soon(0)?;
-        if soon::tries_all(self.stage.chart.borders) {
+        if self.stage.is_told_soon() {
             return Some(unit);
         }
         self.find_by_words::<N, BORDERS>(unit)

@@ -2,36 +2,42 @@
 #![tactic(auto)]
 
 ghost use Rattle.std.specs.Prelude.{◌≡◌, ◌+◌, ◌*◌, ◌≤◌, length};
+ghost use Rattle.lists.specs.Lists.{In};
 ghost use Rattle.grid.specs.Grid.{cells as cells_of};
+ghost use Rattle.images.specs.Images.{translate};
 ghost use Rattle.answers.specs.Answers.{Finds};
 ghost use Rattle.unit_check.specs.Units.{unit_stage, Checked};
 
 use adjacency::{Near, Potentials};
 use borders::Borders;
 use groups::Groups;
+use images::Image;
 use offsets::chart::Chart;
 use offsets::sides;
 use offsets::table::{self, CellInfo};
 use stage::Stage;
 
+mod by_words;
 mod find;
 mod soon;
 mod stage;
 mod write;
 
-// The units of a board of at most N cells among its potential units: how long the list is of the first that fits nowhere, if there is one. The arrays
-// are no longer than N asks, since all of an array is zeroed.
+// The units of a board of at most N cells among its potential units: how long the list is of the first that fits nowhere as any of the images, if there
+// is one. The arrays are no longer than N asks, since all of an array is zeroed.
 pub fn check<'a, const N: usize, const STARTS: usize, const NEAR: usize, const BORDERS: usize>(
     borders: Borders<'a>,
     units: Groups<'a>,
     potentials: Groups<'a>,
+    images: &'a [Image],
     buffer: &mut [u16],
 ) -> Option<usize>
-    requires checked { Checked borders.grid units.grid units.ids.now (length buffer.old) }
+    requires checked { Checked (length images.now) borders.grid units.grid units.ids.now (length buffer.old) }
+    requires translates { In translate images.now }
     requires potentials { (potentials.grid ≡ borders.grid) × (length potentials.ids.now ≡ cells_of borders.grid) }
     requires room { (cells_of borders.grid ≤ N) × (cells_of borders.grid + 1 ≤ STARTS) × (4 * cells_of borders.grid ≤ NEAR) × (6 * cells_of borders.grid ≤ BORDERS) }
     requires arrays_small { (N ≤ 1024) × (STARTS ≤ 1025) × (NEAR ≤ 4096) × (BORDERS ≤ 6144) }
-    ensures { Finds (unit_stage borders.entry.grid borders.entry.states.now units.entry.ids.now potentials.entry.ids.now (length potentials.entry.starts.now) (length units.entry.starts.now)) buffer.old buffer.new result }
+    ensures { Finds (unit_stage images.entry.now borders.entry.grid borders.entry.states.now units.entry.ids.now potentials.entry.ids.now (length potentials.entry.starts.now) (length units.entry.starts.now)) buffer.old buffer.new result }
 {
     let mut table = [CellInfo::default(); N];
     table::fill(borders.grid, units.ids, potentials.ids, &mut table);
@@ -58,6 +64,7 @@ pub fn check<'a, const N: usize, const STARTS: usize, const NEAR: usize, const B
             starts: &near_starts,
             list: &near,
         },
+        images,
     };
     stage.list_first::<N, BORDERS>(&mut marks, buffer)
 }

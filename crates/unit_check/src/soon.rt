@@ -1,21 +1,23 @@
-// The offsets at which a unit is tried before it is tried by words: on most boards one of them is good for almost every unit, since what is
-// adjacent is near.
+// The offsets at which a unit is tried as a translate before it is tried by words: on most boards one of them is good for almost every unit, since
+// what is adjacent is near.
 ghost use Rattle.std.specs.Prelude.{◌≡◌, true, ◌+◌, ◌-◌, ◌≤◌, ltb};
 ghost use Rattle.lists.specs.Choice.{both};
 ghost use Rattle.grid.specs.Grid.{cells as cells_of};
 ghost use Rattle.shape.specs.Shape.{is_good};
-ghost use Rattle.offsets.specs.Trial.{tried_at, fits_at};
+ghost use Rattle.images.specs.Images.{translate};
+ghost use Rattle.offsets.specs.Trial.{tried_at, fits_as};
 ghost use Rattle.unit_check.specs.Find.{tries_all};
 
 use borders::Borders;
+use images::TRANSLATE;
 use offsets::trial::Trial;
 use offsets::unit::UnitCells;
 
 // Whether the offset that puts the unit's first cell on `to` is good; where there is no such cell, it is not.
 fn is_good_at(trial: Trial<'_>, to: usize) -> bool
-    ensures { result ≡ both (ltb to (cells_of trial.entry.unit.chart.borders.grid)) (is_good (tried_at trial.entry.unit.chart.borders.grid trial.entry.unit.chart.borders.states.now trial.entry.unit.chart.table.now trial.entry.unit.cells.now to)) }
+    ensures { result ≡ both (ltb to (cells_of trial.entry.unit.chart.borders.grid)) (is_good (tried_at translate trial.entry.unit.chart.borders.grid trial.entry.unit.chart.borders.states.now trial.entry.unit.chart.table.now trial.entry.unit.cells.now to)) }
 {
-    to < trial.unit.chart.borders.grid.cell_count() && trial.is_good_at(to)
+    to < trial.unit.chart.borders.grid.cell_count() && trial.is_good_at(TRANSLATE, to)
 }
 
 // How many cells the unit's longest run has, of cells whose numbers follow one another. Where these are in one row, the unit would fall on
@@ -52,7 +54,7 @@ fn under(unit: UnitCells<'_>) -> usize {
     (usize::from(last.row) + 1) * unit.chart.borders.grid.width + usize::from(first.col)
 }
 
-// Whether the board is so small that all offsets are tried one by one, and none by words.
+// Whether the board is so small that all offsets of a translate are tried one by one, and so none of a translate by words.
 pub fn tries_all(borders: Borders<'_>) -> bool
     ensures { result ≡ tries_all borders.entry.grid }
 {
@@ -93,11 +95,11 @@ fn place(unit: UnitCells<'_>, run: usize, beside: usize, i: usize) -> usize
     }
 }
 
-// Whether the unit fits at one of the places that are tried soon; on a small board, whether it fits somewhere. One loop has all turns, so that
+// Whether a translate fits at one of the places that are tried soon; on a small board, whether one fits somewhere. One loop has all turns, so that
 // a trial is compiled into it.
 pub fn fits_soon(trial: Trial<'_>) -> bool
-    ensures cells_value { result ≡ true → fits_at trial.entry.unit.chart.borders.grid trial.entry.unit.chart.borders.states.now trial.entry.unit.chart.table.now trial.entry.unit.cells.now ≡ true }
-    ensures value { tries_all trial.entry.unit.chart.borders.grid ≡ true → result ≡ fits_at trial.entry.unit.chart.borders.grid trial.entry.unit.chart.borders.states.now trial.entry.unit.chart.table.now trial.entry.unit.cells.now }
+    ensures cells_value { result ≡ true → fits_as trial.entry.unit.chart.borders.grid trial.entry.unit.chart.borders.states.now trial.entry.unit.chart.table.now trial.entry.unit.cells.now translate ≡ true }
+    ensures value { tries_all trial.entry.unit.chart.borders.grid ≡ true → result ≡ fits_as trial.entry.unit.chart.borders.grid trial.entry.unit.chart.borders.states.now trial.entry.unit.chart.table.now trial.entry.unit.cells.now translate }
 {
     let borders = trial.unit.chart.borders;
     let run = longest_run(trial.unit);

@@ -1,3 +1,4 @@
 pub mod SpanLaws
+pub mod OrderLaws
 pub mod CodeLaws
 pub mod WriteLaws

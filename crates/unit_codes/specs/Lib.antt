@@ -1,3 +1,3 @@
--- Defined here: the codes of a unit's cells and borders, and what writing them asks (`Codes`, `Follows`).
-pub mod Follows
+-- Defined here: where a unit's cells stand in an image (`Spans`), the codes of its cells and borders, and what writing them asks (`Codes`).
+pub mod Spans
 pub mod Codes

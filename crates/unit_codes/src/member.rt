@@ -1,15 +1,16 @@
 // A cell of a unit, whose borders are looked at.
-ghost use Rattle.unit_codes.specs.Follows.{Follows};
+ghost use Rattle.unit_codes.specs.Spans.{MemberAt};
 
-use offsets::chart::Chart;
+use crate::turned::Turned;
+use images::Spot;
 use offsets::landings::Kind;
 
-// A cell of the unit with this first cell, and which of its borders are looked at.
+// A cell of a unit, where it stands in the image, and which of its borders are looked at.
 #[derive(Clone, Copy)]
 pub struct Member<'a> {
-    pub chart: Chart<'a>,
-    pub first: usize,
+    pub turned: Turned<'a>,
     pub cell: usize,
+    pub at: Spot,
     pub kind: Kind,
-    ghost follows: { Follows chart.borders.grid first cell },
+    ghost member: { MemberAt turned.image turned.unit.chart.borders.grid turned.unit.cells.now cell at },
 }

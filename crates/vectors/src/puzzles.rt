@@ -1,15 +1,16 @@
-// Calls on a puzzle: make (its given walls and clues wait in the two lists), stroke, decide, undo and ask; its board's record; its right boards.
+// Calls on a puzzle: make one of a kind (given walls and clues wait in the two lists), stroke, decide, undo, ask; its board's record; its right boards.
 use crate::desk::Desk;
 use crate::text::{Record, Spaced, Word, first};
 use crate::turns::Turn;
 use enumerate::Listing;
 use grid::Grid;
+use puzzle::kind::Kind;
 use puzzle::{Check, Fault};
 use std::io;
 
 #[derive(Clone, Copy, Debug)]
 pub enum Call {
-    Make { height: usize, width: usize },
+    Make { kind: Kind, grid: Grid },
     Turn(Turn),
     Ask { room: usize },
     Record { states: usize },
@@ -19,10 +20,18 @@ pub enum Call {
 impl Call {
     // Any letter but these asks for a fault.
     pub fn new(letter: u8, x: usize, y: usize) -> Call {
+        let grid = Grid {
+            height: x,
+            width: y,
+        };
         match letter {
             b'm' => Call::Make {
-                height: x,
-                width: y,
+                kind: Kind::Translates,
+                grid,
+            },
+            b'i' => Call::Make {
+                kind: Kind::Images,
+                grid,
             },
             b'r' => Call::Record { states: x },
             b'b' => Call::Boards { most: x, room: y },
@@ -43,7 +52,7 @@ fn border_count(grid: Grid) -> usize {
 impl Desk {
     pub fn on_puzzle(&mut self, call: Call) -> io::Result<()> {
         let done = match call {
-            Call::Make { height, width } => return self.make_puzzle(height, width),
+            Call::Make { kind, grid } => return self.make_puzzle(kind, grid),
             Call::Turn(Turn::Stroke) => self.puzzle.stroke(self.first.numbers()),
             Call::Turn(Turn::Decide { border, wall }) => self.puzzle.decide(border, wall),
             Call::Turn(Turn::Undo) => self.puzzle.undo(),
@@ -57,16 +66,17 @@ impl Desk {
         self.say_done(done)
     }
 
-    fn make_puzzle(&mut self, height: usize, width: usize) -> io::Result<()> {
-        let made = puzzle::make(height, width, self.first.numbers(), self.second.numbers());
+    fn make_puzzle(&mut self, kind: Kind, grid: Grid) -> io::Result<()> {
+        let (given, clues) = (self.first.numbers(), self.second.numbers());
+        let made = puzzle::make(kind, grid.height, grid.width, given, clues);
         self.puzzle = made.puzzle;
         self.say(made.code)
     }
 
     // An ask that is lent so many places: which check found a fault, and the fault.
     fn ask_puzzle(&self, room: usize) -> io::Result<()> {
-        let mut buffer = [0u16; limits::ENTRIES];
-        let lent = &mut buffer[..room.min(limits::ENTRIES)];
+        let mut buffer = [0u16; limits::IMAGE_ENTRIES];
+        let lent = &mut buffer[..room.min(limits::IMAGE_ENTRIES)];
         let asked = self.puzzle.ask(lent);
         match asked {
             Ok(None) => self.say_done(Ok(())),

@@ -36,6 +36,26 @@ ROOMS = """
 """
 
 
+# 2 by 3: two units of three cells, each the other by half a turn.
+TURNED = """
++---+---+---+
+| 2 o   x   |
++ o + x + o +
+|   x   o   |
++---+---+---+
+"""
+TURNED_DRAWN = """\
++---+---+---+
+| a o a x b |
++ o + x + o +
+| a x b o b |
++---+---+---+
+a: image 2 is b
+b: image 2 is a
+image 2: a half turn
+"""
+
+
 def random_case(rng):
     h, w = rng.randint(1, 32), rng.randint(1, 32)
     made = Case(h, w)

@@ -12,8 +12,8 @@ from cases.file import encode
 from cases.model import CONNECT, NO_CLUE, UNDO, WALL, ASK, Case
 from checker import puzzle_of, sendai
 
-from .support import ARCHIVE, PAPER, WithCalls, run
-from .test_svg import marks, titles
+from .support import ARCHIVE, PAPER, TURNED, TURNED_DRAWN, WithCalls, run
+from .test_svg import labels, marks, titles
 
 # The right boards of 1 by 4: two units of two cells, or four of one.
 ROW_OF_FOUR = [[1, 2, 1], [2, 2, 2]]
@@ -22,7 +22,7 @@ ROW_OF_FOUR = [[1, 2, 1], [2, 2, 2]]
 class Listed:
     """Stands for a puzzle of one row whose right boards are known."""
 
-    height, given, clues = 1, [], [NO_CLUE]
+    height, given, clues, images = 1, [], [NO_CLUE], False
 
     def __init__(self, boards, width=4):
         self.boards, self.width, self.decided = boards, width, [0] * (width - 1)
@@ -59,6 +59,24 @@ class Drawn(unittest.TestCase):
             "+---+---+---+---+   +---+---+---+---+   +---+---+---+---+   +---+---+---+---+",
         ])
 
+    def test_partners(self):
+        found = self.found(10)
+        self.assertEqual(report(found, found.partners()).split("\n")[2:], [
+            "started             in all answers      1                   2",
+            "+---+---+---+---+   +---+---+---+---+   +---+---+---+---+   +---+---+---+---+",
+            "|               |   |   ?   x   ?   |   | a O a x b O b |   | a X b x c X d |",
+            "+---+---+---+---+   +---+---+---+---+   +---+---+---+---+   +---+---+---+---+",
+            "                                        a: image 0 is b     a: image 0 is b",
+            "                                        b: image 0 is a     b: image 0 is a",
+            "                                                            c: image 0 is b",
+            "                                                            d: image 0 is c",
+            "image 0: as it is"])
+        self.assertEqual(report(self.found(0), self.found(0).partners()), report(self.found(0)))
+        tree = ElementTree.fromstring(svg.answers(found, found.partners()))
+        self.assertEqual(titles(tree), ["started: 2 answers", "in all answers", "1", "2"])
+        self.assertEqual(labels(tree), ["a", "b 0", "b", "a 0", "a", "b 0", "b", "a 0", "c", "b 0", "d", "c 0"])
+        self.assertIn("image 0: as it is", [e.text for e in tree.iter() if e.text])
+
     def test_what_is_told(self):
         told = [(cap, boards, self.found(cap, boards).told()) for cap in (0, 1, 2) for boards in ([], ROW_OF_FOUR[:1], ROW_OF_FOUR)]
         self.assertEqual([words for _, _, words in told], [
@@ -88,6 +106,7 @@ class Drawn(unittest.TestCase):
             tree = ElementTree.fromstring(svg.picture(found.case, [svg.Panel(*drawn) for drawn in found.drawings()], svg.OF_ANSWERS, widest=widest))
             self.assertEqual(int(tree.get("width")), wide)
             self.assertEqual({k: v for k, v in marks(tree).items() if k != "gone"}, {"differs": 2, "listed": 4, "wall": 5, "connected": 2})
+        self.assertEqual(labels(ElementTree.fromstring(svg.answers(found))), [])
 
 
 class Called(WithCalls):
@@ -108,6 +127,22 @@ class Called(WithCalls):
         self.assertEqual(self.count(Case(1, 2, [], [NO_CLUE], [(CONNECT, 0)])), "no answer")
         self.assertEqual(self.count(Case(4, 4, [], [NO_CLUE])), "10 answers and more")
         self.assertEqual(self.count(Case(1, 4, [1], [1, NO_CLUE])), "1 answer")
+
+    def test_images(self):
+        turned = parse(TURNED)
+        self.assertEqual(self.count(turned), "no answer")
+        drawn = self.path + ".svg"
+        said = self.answers(turned, "--images", "--svg", drawn).split("\n")
+        self.assertEqual(said[:2], ["2 by 3, of images, 0 given walls, clues: 2", "1 answer"])
+        # beside the drawing of what stands
+        self.assertEqual([line[18:] if at < 7 else line for at, line in enumerate(said[3:])], TURNED_DRAWN.split("\n"))
+        self.assertEqual(labels(ElementTree.parse(drawn).getroot()), ["a", "b 2", "b", "a 2"])
+        pair = Case(1, 2, [], [NO_CLUE])
+        self.assertNotIn("image", self.answers(pair))
+        self.assertEqual(self.answers(pair, "--partners").split("\n")[-4:], ["                  a: image 0 is b", "                  b: image 0 is a",
+                                                                             "image 0: as it is", ""])
+        many = self.answers(Case(4, 5, [], [NO_CLUE]), "--images")
+        self.assertEqual(many, "case.py: refused 12: more than 24 borders are undecided (31 undecided)\n")
 
     def test_the_calls_of_the_file_count(self):
         calls = [(WALL, 0)] * 40 + [(UNDO, None), (ASK, None), (CONNECT, 2)]

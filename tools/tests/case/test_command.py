@@ -10,10 +10,11 @@ import unittest.mock
 
 import case
 from cases.file import decode, encode
-from cases.model import ASK, NO_CLUE, Case
+from cases.model import ASK, NO_CLUE, UNDO, WALL, Case
 from cases.read import read_bytes, read_case
 
-from .support import PAPER, PAPER_CASE, PAPER_DRAWING, PAPER_LINES, PROGRAM, ROOMS, TOP, InFolder, run
+from .support import (PAPER, PAPER_CASE, PAPER_DRAWING, PAPER_LINES, PROGRAM, ROOMS, TOP, TURNED, TURNED_DRAWN, InFolder, WithCalls,
+                      run)
 
 PAPER_URL = "https://puzz.link/p?sendai/3/1/0g"
 DRAWN = "+---+---+---+\n|   X   O   |\n+---+---+---+\n"
@@ -32,6 +33,13 @@ class Taken(InFolder):
                              ((self.path, "--answers", "-"), "\r\n".join(PAPER_LINES).encode("utf-8-sig")), (("-", "--answers", lines), PAPER),
                              ((drawing, "--answers", lines), b""), (("-", "--answers", lines), PAPER_DRAWING.encode())):
             self.assertEqual(run("show", *words, given=given), shown)
+
+    def test_partners(self):
+        drawing, lines = self.file("drawing.txt", TURNED), self.file("lines.txt", "decided\n" * 7 + "clear\n")  # as no program answers it
+        status, out, said = run("show", drawing, "--answers", lines, "--partners")
+        self.assertEqual((status, said), (0, ""))
+        self.assertTrue(out.endswith("\n| a x b o b |\n+---+---+---+\na: no partner\nb: no partner\n"), out)
+        self.assertNotIn("partner", run("show", drawing, "--answers", lines)[1])
 
     def test_forms_are_told_by_what_is_in_them(self):
         forms = [PAPER, PAPER_DRAWING.encode(), codecs.BOM_UTF8 + PAPER_DRAWING.encode(), PAPER_DRAWING.encode("utf-16"),
@@ -83,7 +91,7 @@ class Taken(InFolder):
         self.assertEqual(run("load", "5", "6", "6", "3", "--library", none, self.path), (2, "", "case.py: no library is at %s\n" % none))
 
     def test_help(self):
-        for words in ((), ("make",), ("show",), ("answers",), ("load",), ("url",)):
+        for words in ((), ("make",), ("show",), ("answers",), ("load",), ("url",), ("images",)):
             status, out, said = run(*words, "--help")
             self.assertEqual((status, said), (0, ""))
             named = re.findall(r"^  ((?:-h, )?--?[a-z-]+|[A-Z|]+)(.*(?:\n {10,}.*)*)", out, re.M)
@@ -122,6 +130,11 @@ WRONG = [
     ("show /dev/zero", "/dev/zero: there are more than 16,777,216 bytes in it"),
     ("make FOLDER/refused", "FOLDER/refused: the puzzle is refused 8: there are not as many clues as rooms"),
     ("show DRAWING --answers FOLDER/lines --program x", "show: argument --program: not allowed with argument --answers .*"),
+    ("show DRAWING --images --program x", "show: argument --program: not allowed with argument --images .*"),
+    ("show DRAWING --images --answers x", "show: argument --answers: not allowed with argument --images .*"),
+    ("show DRAWING --images --library FOLDER/none", "no library is at FOLDER/none"),
+    ("answers DRAWING --images --library FOLDER/none", "no library is at FOLDER/none"),
+    ("images FOLDER", "FOLDER: Is a directory"),
     ("show DRAWING --program FOLDER/none", "FOLDER/none: No such file or directory"),
     ("show DRAWING --program FOLDER", "FOLDER: Permission denied"),
     ("show DRAWING --program DRAWING", "DRAWING: (Permission denied|Exec format error)"),
@@ -226,6 +239,37 @@ class Ended(InFolder):
             process.send_signal(signal.SIGINT)
             process.stdout.read()
             self.assertEqual((process.stderr.read(), process.wait(20)), (b"", 128 + signal.SIGINT))
+
+
+class Images(WithCalls):
+    def test_a_right_board(self):
+        status, out, said = run("show", self.file("drawing.txt", TURNED), "--images")
+        self.assertEqual((status, said), (0, ""))
+        self.assertTrue(out.startswith("2 by 3, of images, 0 given walls, clues: 2\n"), out)
+        self.assertTrue(out.endswith("\n8  ask  ->  clear\n" + TURNED_DRAWN), out)
+
+    def test_the_answer_of_the_readme(self):
+        puzzle = os.path.join(TOP, "tools", "turned.txt")
+        status, out, said = run("answers", puzzle, "--images")
+        self.assertEqual((status, said), (0, ""))
+        self.assertIn("".join("    " + line + "\n" for line in out.splitlines()), read_bytes(os.path.join(TOP, "README.md")).decode())
+        self.assertIn("\nno answer\n", run("answers", puzzle)[1])
+
+    def test_a_fault(self):
+        drawing = self.file("drawing.txt", TURNED.replace("x   o", "x   x"))
+        status, out, said = run("show", drawing, "--images", "--faults", "--why")
+        self.assertEqual((status, said), (0, ""))
+        self.assertIn("\n8  ask  ->  shape: 0 3 5 7 8 11\nunit of 3 cells at row 1, column 1 has no partner left: "
+                      "a border is in the way in the one place for one\n+---+---+---+\n| 2 O   X   |\n", out)
+        page = self.file("page.html")
+        self.assertEqual(run("show", drawing, "--images", "--html", page), (0, "", ""))
+        self.assertNotIn(b"No reason is found", read_bytes(page))
+
+    def test_refusals(self):
+        made = self.file("made", encode(Case(1, 2, [], [NO_CLUE], [(UNDO, None), (WALL, 0), (WALL, 0), (WALL, 1), (ASK, None)])))
+        lines = [line.split("  ->  ")[1] for line in run("show", made, "--images")[1].split("\n") if "->" in line]
+        self.assertEqual(lines, ["refused 5", "decided", "refused 4", "refused 3", "clear"])
+        self.assertIn("the puzzle is refused 8: ", run("show", self.file("none", encode(Case(1, 2))), "--images")[1])
 
 
 @unittest.skipUnless(os.path.exists(PROGRAM), "no %s (run `bindings/prove program`)" % PROGRAM)

@@ -5,6 +5,7 @@ from html.parser import HTMLParser
 
 from cases import page
 from cases.file import encode
+from cases.images import IMAGES
 from cases.model import ASK, NO_CLUE, WALL, Case, Mistake
 from cases.page import Book, page_path
 from cases.read import read_bytes
@@ -81,6 +82,14 @@ class Pages(unittest.TestCase):
             self.assertEqual([name for name in found.ids if name.startswith("step")], wanted)
             self.assertEqual(found.tags.count("svg"), max(1, len(wanted)) + 1 + len(page.OF_STEPS))  # the puzzle alone where there is no step
 
+    def test_partners(self):
+        made, lines = Case(1, 2, [], [2], [(WALL, 0), (ASK, None)], images=IMAGES), ["decided", "clear"]
+        found = self.only(made, lines, Choice(partners=True))
+        for words in ("a: image 0 is b; b: image 0 is a", "image 0: as it is", "1 by 2, of images, 0 given walls, 1 room, 1 with a clue", "b 0"):
+            self.assertIn(words, found.words)
+        self.assertEqual(found.tags.count("svg"), 2 + 1 + len(page.OF_STEPS) + 2)
+        self.assertNotIn("image 0: as it is", self.only(made, lines).words)
+
     def test_border_numbers_on_wish(self):
         self.assertEqual([('class="number"' in "".join(Book(PAPER_CASE, None, Choice(), wish).pages("x"))) for wish in (False, True)], [False, True])
 
@@ -144,7 +153,8 @@ class Command(InFolder):
 
     def test_options(self):
         made, lines = self.file("made", PAPER), self.file("lines", "\n".join(PAPER_LINES))
-        for options, said in (("--faults", "--faults needs the answers: --program or --answers"),
+        for options, said in (("--faults", "--faults needs the answers: --program, --answers or --images"),
+                              ("--partners", "--partners needs the answers: --program, --answers or --images"),
                               ("--steps 5", "there is no step 5: the case has 4"),
                               ("--steps 0-2", "show: argument --steps: '0-2' is no span of numbers from 1 .*"),
                               ("--steps 3-2", "show: argument --steps: '3-2' is no span .*"),

@@ -1,14 +1,17 @@
-"""Reasons and refusals are held to the program: the same check finds a fault, and a reason has the borders that the program lists."""
+"""Reasons and refusals are held to the program, and those of images to the checker's calls: the same check finds a fault, and a reason has
+the borders that are listed."""
 import os
 import random
 import unittest
 
+from cases.images import IMAGES
 from cases.model import ASK, CONNECT, NO_CLUE, UNDO, WALL, Case, border_count, refusal, rooms
 from cases.program import run
 from cases.reasons import reason
 from cases.turns import FAULT, turns
+from checker import lines_of
 
-from .support import PROGRAM
+from .support import PROGRAM, WithCalls
 
 
 def random_load(rng):
@@ -51,6 +54,22 @@ class Known(unittest.TestCase):
         self.assertEqual(self.told(Case(1, 4, [], [NO_CLUE]), {0: 0, 1: 0, 2: 1})[:2], (
             "unit of 3 cells at row 1, column 1 has no partner left: there is no room for one that it can touch", [0, 1, 2]))
 
+    def test_images(self):
+        def images(height, width):
+            return Case(height, width, [], [NO_CLUE], images=IMAGES)
+
+        # each image of the unit of one cell takes the same two places
+        self.assertEqual(self.told(images(1, 3), {0: 1, 1: 0}), self.told(Case(1, 3, [], [NO_CLUE]), {0: 1, 1: 0}))
+        # docs/SPEC.md, 14.2: an image with the cells of an earlier one may fit where that does not
+        self.assertIsNone(self.told(images(2, 3), {0: 1, 1: 0, 2: 0, 4: 0}))
+        # an L of three cells: in the two places that it may take beside it, a Wall or a Connected border is in the way
+        self.assertEqual(self.told(images(2, 3), {0: 0, 1: 1, 2: 1, 3: 1, 4: 0, 5: 1, 6: 0}), (
+            "unit of 3 cells at row 1, column 1 has no partner left: a border is in the way in the one place for one",
+            [0, 1, 3], {0: 0, 1: 1, 2: 1, 3: 1, 4: 0, 5: 1}, None))
+        self.assertIsNone(self.told(images(2, 3), {0: 0, 1: 1, 2: 1, 3: 0, 4: 0, 5: 1, 6: 0}))
+        self.assertEqual(self.told(Case(2, 3, [], [NO_CLUE]), {0: 0, 1: 1, 2: 1, 3: 0, 4: 0, 5: 1, 6: 0})[0],
+                         "unit of 3 cells at row 1, column 1 has no partner left: there is no room for one that it can touch")
+
     def test_rooms(self):
         made = Case(1, 4, [], [3])
         self.assertEqual(self.told(made, {0: 0, 2: 0}), ("room 0 wants 3 units and has at most 2", [0, 1, 2, 3], {0: 0, 2: 0}, 0))
@@ -68,6 +87,23 @@ def random_puzzle(rng):
     return made
 
 
+def compared(test, made, lines, kinds):
+    """Holds the reasons of a case to the lines for it, and counts them by kind."""
+    for turn in turns(made, lines):
+        if turn.call[0] == ASK:
+            found = reason(made, turn.standing)
+            test.assertEqual(found is not None, turn.kind == FAULT, (made, turn.number))
+            if found:
+                test.assertEqual((found.room, found.listed), (turn.room, turn.listed), (made, turn.number))
+            kind = "clear" if found is None else found.words.split()[0] + (" at most" if "at most" in found.words else "")
+            kinds[kind] = kinds.get(kind, 0) + 1
+
+
+def enough(test, kinds):
+    test.assertEqual(sorted(kinds), ["Wall", "clear", "room", "room at most", "unit"])
+    test.assertGreater(min(kinds.values()), 20, kinds)
+
+
 @unittest.skipUnless(os.path.exists(PROGRAM), "no %s (run `bindings/prove program`)" % PROGRAM)
 class BesideTheProgram(unittest.TestCase):
     def test_refused_puzzles(self):
@@ -83,13 +119,21 @@ class BesideTheProgram(unittest.TestCase):
         rng, kinds = random.Random(8), {}
         for _ in range(150):
             made = random_load(rng)
-            for turn in turns(made, run(PROGRAM, made)):
-                if turn.call[0] == ASK:
-                    found = reason(made, turn.standing)
-                    self.assertEqual(found is not None, turn.kind == FAULT, (made, turn.number))
-                    if found:
-                        self.assertEqual((found.room, found.listed), (turn.room, turn.listed), (made, turn.number))
-                    kind = "clear" if found is None else found.words.split()[0] + (" at most" if "at most" in found.words else "")
-                    kinds[kind] = kinds.get(kind, 0) + 1
-        self.assertEqual(sorted(kinds), ["Wall", "clear", "room", "room at most", "unit"])
-        self.assertGreater(min(kinds.values()), 20, kinds)
+            compared(self, made, run(PROGRAM, made), kinds)
+        enough(self, kinds)
+
+
+class BesideTheCalls(WithCalls):
+    def test_random_cases_of_images(self):
+        rng, kinds = random.Random(9), {}
+        for _ in range(150):
+            made = random_load(rng)
+            made.images = IMAGES
+            compared(self, made, lines_of(made), kinds)
+        enough(self, kinds)
+
+    @unittest.skipUnless(os.path.exists(PROGRAM), "no %s (run `bindings/prove program`)" % PROGRAM)
+    def test_the_calls_have_the_lines_of_the_program(self):
+        rng = random.Random(11)
+        for made in [random_load(rng) for _ in range(40)] + [random_puzzle(rng) for _ in range(40)]:
+            self.assertEqual(lines_of(made), run(PROGRAM, made), made)

@@ -5,6 +5,7 @@ import xml.etree.ElementTree as ElementTree
 
 from cases import svg
 from cases.drawing import parse
+from cases.images import IMAGES
 from cases.model import ASK, CONNECT, NO_CLUE, WALL, Case, Mistake, border_count
 from cases.turns import Choice
 
@@ -29,6 +30,11 @@ def marks(tree):
         for path in board.iter(SVG + "path"):
             found[path.get("class")] = found.get(path.get("class"), 0) + path.get("d").count("M")
     return found
+
+
+def labels(tree):
+    """The names of units and of their partners on all boards."""
+    return [part.text for board in boards(tree) for part in board if part.get("class") == "unit"]
 
 
 def titles(tree):
@@ -95,6 +101,21 @@ class Pictures(unittest.TestCase):
             self.assertLess(int(tree.get("width")), wanted)
             self.assertIn(line, " ".join(titles(tree)))
             self.assertLess(max(len(title) for title in titles(tree)) * svg.LETTER, int(tree.get("width")))
+
+    def test_partners(self):
+        made, lines = Case(1, 2, [], [2], [(ASK, None), (WALL, 0), (ASK, None)]), ["clear", "decided", "clear"]
+        tree = tree_of(svg.asks(made, lines, Choice(partners=True)))
+        self.assertEqual(labels(tree), ["a", "b 0", "b", "a 0"])  # on the board that is full
+        said = [e.text for e in tree.iter(SVG + "text")]
+        for words in ("image 0: as it is", "the unit's image 5 is unit b"):
+            self.assertIn(words, said)
+        self.assertEqual(labels(tree_of(svg.asks(made, lines))), [])
+
+    def test_a_legend_with_long_words_is_not_cut_off(self):
+        signs = svg.of_images(IMAGES)
+        tree = tree_of(svg.picture(Case(1, 1), [svg.Panel("a", {}, {})], signs))
+        self.assertGreater(int(tree.get("width")), 44 + 6 * max(map(len, signs.values())))
+        self.assertEqual(svg.sign_width(svg.OF_FAULTS), svg.SIGN)
 
     def test_too_many_boards(self):
         made = Case(32, 32, [], [NO_CLUE], [(ASK, None)] * 3000)

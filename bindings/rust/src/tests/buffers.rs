@@ -1,6 +1,6 @@
 //! Buffers exactly long enough, longer, one short and empty. A list fills the front, and the other places stay.
-use super::{board, marked, refused, UNTOUCHED};
-use crate::{hand_over, Edge, Puzzle, Refusal, RoomGraph, NO_CLUE};
+use super::{board, marked, refused, KINDS, UNTOUCHED};
+use crate::{hand_over, Edge, Kind, Puzzle, Refusal, RoomGraph, NO_CLUE};
 
 /// Lends a call buffers of several lengths, of which `places` is just enough; it answers how many it filled.
 fn lent(places: usize, call: impl Fn(&mut [u16]) -> Result<usize, Refusal>) -> Vec<u16> {
@@ -39,12 +39,25 @@ fn a_clear_answer_writes_nothing() {
 
 #[test]
 fn a_puzzles_list() {
-    let mut puzzle = Puzzle::make(2, 2, &[], &[1]).unwrap();
-    assert_eq!(puzzle.list_len(), 36);
-    puzzle.decide(0, true).unwrap();
-    assert_eq!(lent(36, |b| Ok(puzzle.ask(b)?.map_or(0, |_| 1))), []);
-    puzzle.decide(2, true).unwrap();
-    assert_eq!(lent(36, |b| Ok(puzzle.ask(b)?.map_or(0, |fault| fault.list.len()))), [5, 1]);
+    for (kind, places) in [(Kind::Translates, 36), (Kind::Images, 64)] {
+        let mut puzzle = Puzzle::of_kind(kind, 2, 2, &[], &[1]).unwrap();
+        assert_eq!((puzzle.list_len(), puzzle.board().list_len()), (places, 36));
+        puzzle.decide(0, true).unwrap();
+        assert_eq!(lent(places, |b| Ok(puzzle.ask(b)?.map_or(0, |_| 1))), []);
+        puzzle.decide(2, true).unwrap();
+        assert_eq!(lent(places, |b| Ok(puzzle.ask(b)?.map_or(0, |fault| fault.list.len()))), [5, 1]);
+    }
+}
+
+/// The unit of one cell has eight images, all alike: each is tried on both other cells.
+#[test]
+fn lists_of_both_kinds() {
+    for (kind, places, images) in [(Kind::Translates, 27, 1), (Kind::Images, 48, 8)] {
+        let mut puzzle = Puzzle::of_kind(kind, 1, 3, &[], &[NO_CLUE]).unwrap();
+        puzzle.stroke(&[(0, true), (1, false)]).unwrap();
+        let list = lent(places, |b| Ok(puzzle.ask(b)?.map_or(0, |fault| fault.list.len())));
+        assert_eq!(list, [&vec![2; 2 * images][..], &[1; 3]].concat());
+    }
 }
 
 #[test]
@@ -83,13 +96,15 @@ fn a_groups_cells() {
 /// The largest board, and every list of a puzzle on it.
 #[test]
 fn limits() {
-    let mut puzzle = Puzzle::make(32, 32, &[], &[NO_CLUE]).unwrap();
-    assert_eq!((puzzle.list_len(), puzzle.borders()), (crate::MAX_LIST, crate::MAX_BORDERS));
-    for border in 0..puzzle.borders() {
-        puzzle.decide(border, border % 31 == 0).unwrap();
+    for (kind, places) in KINDS.into_iter().zip([crate::MAX_LIST, crate::MAX_LIST_IMAGES]) {
+        let mut puzzle = Puzzle::of_kind(kind, 32, 32, &[], &[NO_CLUE]).unwrap();
+        assert_eq!((puzzle.list_len(), puzzle.borders()), (places, crate::MAX_BORDERS));
+        for border in 0..puzzle.borders() {
+            puzzle.decide(border, border % 31 == 0).unwrap();
+        }
+        assert_eq!(puzzle.ledger().count(), 1984);
+        assert_eq!(puzzle.check(), Ok(()));
+        let list = lent(places, |b| Ok(puzzle.ask(b)?.map_or(0, |fault| fault.list.len())));
+        assert!(!list.is_empty());
     }
-    assert_eq!(puzzle.ledger().count(), 1984);
-    assert_eq!(puzzle.check(), Ok(()));
-    let list = lent(crate::MAX_LIST, |b| Ok(puzzle.ask(b)?.map_or(0, |fault| fault.list.len())));
-    assert!(!list.is_empty());
 }

@@ -1,5 +1,5 @@
 //! Case files.
-use crate::{sys, Case, Refusal, MAX_LINE};
+use crate::{sys, Case, Kind, Refusal, MAX_LINE};
 
 /// The scope document's file: 1 by 3, no given wall, no clue; a Wall, Connected, ask, undo.
 const FILE: [u8; 21] = [1, 0, 0x12, 1, 3, 0, 0, 0, 1, 0xff, 0xff, 0, 4, 2, 0, 0, 1, 0, 1, 3, 0];
@@ -20,6 +20,7 @@ fn call_by_call() {
         assert_eq!(case.left(), left);
     }
     assert_eq!(case.puzzle().ledger().collect::<Vec<_>>(), [(0, true)]);
+    assert_eq!(case.puzzle().kind(), Kind::Translates);
 }
 
 #[test]

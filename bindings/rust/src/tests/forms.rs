@@ -1,6 +1,6 @@
 //! Two forms of one call answer alike.
-use super::{board, marked, refusals::Damage, Drawn};
-use crate::{sys, Board, Edge, Puzzle, Refusal, RoomGraph, State, MAX_LIST, NO_CLUE};
+use super::{board, marked, refusals::Damage, Drawn, KINDS};
+use crate::{sys, Board, Edge, Puzzle, Refusal, RoomGraph, State, MAX_LIST_IMAGES, NO_CLUE};
 use std::collections::BTreeSet;
 use std::fmt::Debug;
 
@@ -92,18 +92,18 @@ forms! {
     Puzzle, puzzle: [sendai_puzzle_decide, sendai_puzzle_stroke, sendai_puzzle_undo, sendai_puzzle_ask],
         [sendai_puzzle_decide_in_place, sendai_puzzle_stroke_in_place, sendai_puzzle_undo_in_place, sendai_puzzle_ask_in_place],
         Outcome, |told: sys::Outcome| (told.code, told.kind), |puzzle: &mut sys::Puzzle, drawn: &mut Drawn| {
-            match drawn.below(7) {
+            match drawn.below(8) {
                 0 => puzzle.given[drawn.below(3)] = drawn.below(9) as u16,
                 1 => puzzle.given_len = [0, 1, 2, 1984, 1985, usize::MAX][drawn.below(6)],
                 2 => puzzle.clues[drawn.below(3)] = [0, 1, 2, 9, NO_CLUE][drawn.below(5)],
                 3 => puzzle.clues_len = [0, 1, 2, 1024, 1025, usize::MAX][drawn.below(6)],
+                4 => puzzle.kind = drawn.below(256) as u8,
                 _ => puzzle.board.spoil(drawn),
             }
         };
 }
 
-/// A call that must be answered alike in both forms, and refused leave the record as it was, byte for byte: a record has no bytes but its
-/// numbers'. The code.
+/// A call that must be answered alike in both forms, and refused leave the record as it was, number for number. The code.
 fn told<R: Forms>(record: &mut R, call: &Call) -> u8 {
     let before = *record;
     let (code, after) = before.by_value(call);
@@ -147,7 +147,7 @@ fn steps<R: Forms>(drawn: &mut Drawn, fresh: R, borders: usize, places: usize, n
     }
 }
 
-/// Puzzles without and with given walls and clues, the smallest and the largest among them.
+/// Puzzles of both kinds without and with given walls and clues, the smallest and the largest among them.
 fn puzzles() -> Vec<Puzzle> {
     let puzzles: [(usize, usize, &[u16], &[u16]); 7] = [
         (1, 1, &[], &[NO_CLUE]),
@@ -158,7 +158,8 @@ fn puzzles() -> Vec<Puzzle> {
         (4, 5, &[], &[7]),
         (32, 32, &[], &[NO_CLUE]),
     ];
-    puzzles.map(|(height, width, given, clues)| Puzzle::make(height, width, given, clues).unwrap()).to_vec()
+    let of_both = puzzles.into_iter().flat_map(|puzzle| KINDS.map(|kind| (kind, puzzle)));
+    of_both.map(|(kind, (height, width, given, clues))| Puzzle::of_kind(kind, height, width, given, clues).unwrap()).collect()
 }
 
 /// Decide, stroke, undo and ask on lent boards and puzzles beside the same by value, on drawn calls, refused ones included.
@@ -166,9 +167,9 @@ fn puzzles() -> Vec<Puzzle> {
 fn lent_as_by_value() {
     let (mut drawn, mut of_boards, mut of_puzzles) = (Drawn(5), Default::default(), Default::default());
     for puzzle in puzzles() {
-        let (borders, places) = (puzzle.borders(), puzzle.list_len());
-        steps(&mut drawn, board(puzzle.height(), puzzle.width(), &[]).0, borders, places, &mut of_boards);
-        steps(&mut drawn, puzzle.0, borders, places, &mut of_puzzles);
+        let (borders, board) = (puzzle.borders(), board(puzzle.height(), puzzle.width(), &[]));
+        steps(&mut drawn, board.0, borders, board.list_len(), &mut of_boards);
+        steps(&mut drawn, puzzle.0, borders, puzzle.list_len(), &mut of_puzzles);
     }
     // every number by which a sound record's calls are refused, and every kind of fault
     let codes = BTreeSet::from([0, 3, 4, 5, 14]);
@@ -176,8 +177,9 @@ fn lent_as_by_value() {
     assert_eq!(of_puzzles, [codes, BTreeSet::from([0, 1, 2])]);
 }
 
-/// Each refusal of the calls in both forms, on a fresh record of one row of four cells and on one with border 2 decided.
-fn refusals<R: Forms>(fresh: R, decided: R, damages: [Damage<R>; 2]) {
+/// Each refusal of the calls in both forms, on a fresh record of one row of four cells and on one with border 2 decided, whose asks want so
+/// many places.
+fn refusals<R: Forms>(fresh: R, decided: R, enough: usize, damages: &[Damage<R>]) {
     for (number, call) in [
         (3, Decide(3, true)),
         (3, Decide(usize::MAX, true)),
@@ -191,30 +193,32 @@ fn refusals<R: Forms>(fresh: R, decided: R, damages: [Damage<R>; 2]) {
         assert_eq!(told(&mut decided.clone(), &call), number, "{call:?}");
     }
     assert_eq!(told(&mut fresh.clone(), &Undo), 5);
-    for places in [0, 1, 35] {
+    for places in [0, 1, enough - 1] {
         assert_eq!(asked(&decided, places).0, 6);
     }
-    assert_eq!(asked(&decided, 36).0, 0);
-    for (number, damage) in damages {
+    assert_eq!(asked(&decided, enough).0, 0);
+    for &(number, damage) in damages {
         let mut bad = decided;
         damage(&mut bad);
         for call in [Decide(0, true), Decide(3, true), Stroke(vec![]), Stroke(vec![0]), Stroke(vec![6]), Stroke(vec![0, 0]), Undo]
         {
             assert_eq!(told(&mut bad, &call), number, "{call:?}");
         }
-        assert_eq!((asked(&bad, 36).0, asked(&bad, 0).0), (number, number));
+        assert_eq!((asked(&bad, enough).0, asked(&bad, 0).0), (number, number));
     }
 }
 
 #[test]
 fn refused_alike() {
     let fresh = board(1, 4, &[]).0;
-    refusals(fresh, board(1, 4, &[(2, true)]).0, [(1, |b| b.width = 33), (2, |b| b.states[0] = 3)]);
-    let fresh = Puzzle::make(1, 4, &[1], &[2, NO_CLUE]).unwrap();
-    let mut decided = fresh.clone();
-    decided.decide(2, true).unwrap();
-    refusals(fresh.0, decided.0, [(1, |p| p.board.height = 0), (2, |p| p.clues[0] = 3)]);
-    assert_eq!(told(&mut decided.0, &Decide(1, true)), 4); // a given wall
+    refusals(fresh, board(1, 4, &[(2, true)]).0, 36, &[(1, |b| b.width = 33), (2, |b| b.states[0] = 3)]);
+    for (kind, enough) in KINDS.into_iter().zip([36, 64]) {
+        let fresh = Puzzle::of_kind(kind, 1, 4, &[1], &[2, NO_CLUE]).unwrap();
+        let mut decided = fresh.clone();
+        decided.decide(2, true).unwrap();
+        refusals(fresh.0, decided.0, enough, &[(1, |p| p.board.height = 0), (2, |p| p.clues[0] = 3), (2, |p| p.kind = 2)]);
+        assert_eq!(told(&mut decided.0, &Decide(1, true)), 4); // a given wall
+    }
 }
 
 /// Records with a drawn change, sound or not. The codes that they tell in both forms.
@@ -223,7 +227,7 @@ fn spoilt<R: Forms>(drawn: &mut Drawn, record: R, borders: usize) -> BTreeSet<u8
     for _ in 0..2000 {
         let mut bad = record;
         bad.spoil(drawn);
-        codes.insert(asked(&bad, MAX_LIST).0);
+        codes.insert(asked(&bad, MAX_LIST_IMAGES).0);
         codes.insert(told(&mut bad, &call(drawn, borders)));
     }
     codes
@@ -232,11 +236,13 @@ fn spoilt<R: Forms>(drawn: &mut Drawn, record: R, borders: usize) -> BTreeSet<u8
 #[test]
 fn spoilt_alike() {
     let drawn = &mut Drawn(6);
-    let mut puzzle = Puzzle::make(2, 3, &[1, 3], &[2, NO_CLUE]).unwrap();
-    puzzle.stroke(&[(0, true), (4, false)]).unwrap();
     let codes = BTreeSet::from([0, 1, 2, 3, 4, 14]);
     assert_eq!(spoilt(drawn, board(2, 3, &[(0, true), (4, false)]).0, 7), codes);
-    assert_eq!(spoilt(drawn, puzzle.0, 7), codes);
+    for kind in KINDS {
+        let mut puzzle = Puzzle::of_kind(kind, 2, 3, &[1, 3], &[2, NO_CLUE]).unwrap();
+        puzzle.stroke(&[(0, true), (4, false)]).unwrap();
+        assert_eq!(spoilt(drawn, puzzle.0, 7), codes);
+    }
 }
 
 /// A board's calls on a copy beside the same where it is, on drawn calls, refused ones included.

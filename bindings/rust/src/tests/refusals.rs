@@ -1,7 +1,7 @@
 //! Each refusal of each call by its number, with record and buffer as they were. Damaged records are made here: the public types
 //! can't be damaged.
-use super::{board, refused};
-use crate::{hand_over, neighbour, sys, Board, Direction, Edge, Groups, Puzzle, Refusal, RoomGraph, Union, NO_CLUE};
+use super::{board, refused, KINDS};
+use crate::{hand_over, neighbour, sys, Board, Direction, Edge, Groups, Kind, Puzzle, Refusal, RoomGraph, Union, NO_CLUE};
 use std::fmt::Debug;
 
 /// A changing call that must be refused by this number and leave the record as it was.
@@ -110,22 +110,34 @@ fn refused_hand_out(groups: &Groups, group: usize) {
     assert_eq!(out, super::marked(6));
 }
 
+/// A making of both kinds that must be refused.
+fn no_puzzle(number: u8, height: usize, width: usize, given: &[u16], clues: &[u16]) {
+    not_made(number, Puzzle::make(height, width, given, clues));
+    KINDS.into_iter().for_each(|kind| not_made(number, Puzzle::of_kind(kind, height, width, given, clues)));
+}
+
 #[test]
 fn puzzles() {
-    not_made(1, Puzzle::make(0, 4, &[], &[]));
-    not_made(3, Puzzle::make(1, 4, &[3], &[NO_CLUE; 2]));
-    not_made(7, Puzzle::make(1, 4, &[1, 1], &[NO_CLUE; 2]));
-    not_made(7, Puzzle::make(1, 4, &[2, 1], &[NO_CLUE; 3]));
-    not_made(8, Puzzle::make(1, 4, &[1], &[NO_CLUE]));
-    not_made(8, Puzzle::make(1, 4, &[1], &[NO_CLUE; 3]));
-    not_made(9, Puzzle::make(1, 4, &[1], &[3, NO_CLUE]));
-    let good = Puzzle::make(1, 4, &[1], &[2, NO_CLUE]).unwrap();
+    no_puzzle(1, 0, 4, &[], &[]);
+    no_puzzle(3, 1, 4, &[3], &[NO_CLUE; 2]);
+    no_puzzle(7, 1, 4, &[1, 1], &[NO_CLUE; 2]);
+    no_puzzle(7, 1, 4, &[2, 1], &[NO_CLUE; 3]);
+    no_puzzle(8, 1, 4, &[1], &[NO_CLUE]);
+    no_puzzle(8, 1, 4, &[1], &[NO_CLUE; 3]);
+    no_puzzle(9, 1, 4, &[1], &[3, NO_CLUE]);
+    refused_puzzles(Kind::Translates, 36);
+    refused_puzzles(Kind::Images, 64);
+}
+
+/// Each refusal of the calls on a puzzle of this kind, whose asks want so many places.
+fn refused_puzzles(kind: Kind, places: usize) {
+    let good = Puzzle::of_kind(kind, 1, 4, &[1], &[2, NO_CLUE]).unwrap();
     kept(3, &good, |p| p.decide(3, true));
     kept(4, &good, |p| p.decide(1, true));
     kept(14, &good, |p| p.stroke(&[(0, true), (0, false)]));
     kept(5, &good, |p| p.undo());
-    refused(6, 35, |buffer| good.ask(buffer).map(drop));
-    let damages: [Damage<sys::Puzzle>; 7] = [
+    refused(6, places - 1, |buffer| good.ask(buffer).map(drop));
+    let damages: [Damage<sys::Puzzle>; 9] = [
         (1, |p| p.board.width = 0),
         (2, |p| p.board.states[0] = 3),
         (2, |p| p.board.states[1] = 0),
@@ -133,6 +145,8 @@ fn puzzles() {
         (2, |p| p.given_len = usize::MAX),
         (2, |p| p.clues[0] = 3),
         (2, |p| p.clues_len = 1),
+        (2, |p| p.kind = 2),
+        (2, |p| p.kind = 255),
     ];
     for (number, damage) in damages {
         let mut bad = good.clone();
@@ -143,7 +157,10 @@ fn puzzles() {
         assert_eq!(sys::sendai_puzzle_decide(bad.0, 0, true), sys::PuzzleAnswer { code: number, puzzle: bad.0 });
         assert_eq!(sys::sendai_puzzle_undo(bad.0), sys::PuzzleAnswer { code: number, puzzle: bad.0 });
         STROKES.iter().for_each(|stroke| kept(number, &bad, |p| p.stroke(stroke)));
-        refused(number, 36, |buffer| bad.ask(buffer).map(drop));
+        refused(number, places, |buffer| bad.ask(buffer).map(drop));
+        let mut boards = [7; 9];
+        assert_eq!(bad.right_boards(3, &mut boards).unwrap_err() as u8, number);
+        assert_eq!(boards, [7; 9]);
     }
 }
 
@@ -216,11 +233,13 @@ fn zeros() {
     let board = sys::Board { height: 0, width: 0, states: [0; 1984], ledger: [0; 1984], len: 0 };
     assert_eq!(sys::sendai_board_make(33, 32), sys::BoardAnswer { code: 1, board });
 
-    let puzzle = sys::Puzzle { board, given: [0; 1984], given_len: 0, clues: [0; 1024], clues_len: 0 };
+    let puzzle = sys::Puzzle { board, given: [0; 1984], given_len: 0, clues: [0; 1024], clues_len: 0, kind: 0 };
     let (given, clues) = ([0u16, 0], [NO_CLUE]);
-    // SAFETY: both slices live through the call.
-    let made = unsafe { sys::sendai_puzzle_make(1, 3, given.as_ptr(), 2, clues.as_ptr(), 1) };
-    assert_eq!(made, sys::PuzzleAnswer { code: 7, puzzle });
+    for make in [sys::sendai_puzzle_make, sys::sendai_puzzle_make_images] {
+        // SAFETY: both slices live through the call.
+        let made = unsafe { make(1, 3, given.as_ptr(), 2, clues.as_ptr(), 1) };
+        assert_eq!(made, sys::PuzzleAnswer { code: 7, puzzle });
+    }
 
     let (us, vs) = ([0u16, 9], [1u16, 1]);
     let (ends, book) = ([0; 1984], sys::Book { states: [0; 1984], ledger: [0; 1984], len: 0 });

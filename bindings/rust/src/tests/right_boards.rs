@@ -1,6 +1,6 @@
 //! All answers: the boards, their order, the cap, the buffer, and the refusals; and beside trying every full board.
-use super::{board, Drawn, UNTOUCHED_BYTE};
-use crate::{sys, Puzzle, Refusal, RightBoards, State, MAX_UNDECIDED, NO_CLUE};
+use super::{board, Drawn, KINDS, UNTOUCHED_BYTE};
+use crate::{sys, Kind, Puzzle, Refusal, RightBoards, State, MAX_UNDECIDED, NO_CLUE};
 
 /// A puzzle of one room without given walls and clue, with these borders decided as Wall (`true`) or Connected.
 fn plain(height: usize, width: usize, decisions: &[(usize, bool)]) -> Puzzle {
@@ -52,6 +52,20 @@ fn small_boards() {
     assert_eq!(answers(&clued(0), 9), (vec![], false));
 }
 
+/// 2 by 3 with a Connected border in the corner: all answers for either kind, those for translates among those for images.
+#[test]
+fn both_kinds() {
+    let boards =
+        [[1, 1, 1, 1, 2, 2, 2], [1, 2, 1, 2, 2, 2, 1], [1, 2, 1, 2, 2, 2, 2], [1, 2, 2, 1, 1, 2, 1], [1, 2, 2, 2, 2, 2, 1]];
+    let boards = boards.map(Vec::from);
+    for (kind, right) in [(Kind::Translates, vec![boards[0].clone(), boards[2].clone()]), (Kind::Images, boards.to_vec())] {
+        let mut puzzle = Puzzle::of_kind(kind, 2, 3, &[], &[NO_CLUE]).unwrap();
+        puzzle.decide(0, false).unwrap();
+        assert_eq!(answers(&puzzle, 9), (right.clone(), false));
+        assert_eq!(answers(&puzzle, 1), (right[..1].to_vec(), true));
+    }
+}
+
 #[test]
 fn caps() {
     assert_eq!(answers(&plain(1, 2, &[]), 0), (vec![], true));
@@ -101,8 +115,13 @@ fn refusals() {
     for (cap, bytes) in [(0, 0), (1, 0), (1, 31), (usize::MAX, 3)] {
         refused(12, &many, cap, bytes);
     }
-    let damages: [Damage; 4] =
-        [(1, |p| p.board.height = 0), (1, |p| p.board.width = 33), (2, |p| p.board.states[0] = 1), (2, |p| p.clues_len = 2)];
+    let damages: [Damage; 5] = [
+        (1, |p| p.board.height = 0),
+        (1, |p| p.board.width = 33),
+        (2, |p| p.board.states[0] = 1),
+        (2, |p| p.clues_len = 2),
+        (2, |p| p.kind = 2),
+    ];
     for (number, damage) in damages {
         let mut bad = many.clone();
         damage(&mut bad.0);
@@ -119,8 +138,8 @@ fn undecided_borders() {
     assert_eq!(answers(&plain(1, 26, &[(7, true)]), 0), (vec![], true));
 }
 
-/// A drawn puzzle: some given walls, a clue for some rooms, some borders decided.
-fn drawn_puzzle(drawn: &mut Drawn, height: usize, width: usize) -> Puzzle {
+/// A drawn puzzle of a kind: some given walls, a clue for some rooms, some borders decided.
+fn drawn_puzzle(drawn: &mut Drawn, kind: Kind, height: usize, width: usize) -> Puzzle {
     let borders = board(height, width, &[]).borders();
     let given: Vec<usize> = (0..borders).filter(|_| drawn.below(5) == 0).collect();
     // rooms are the potential units of the board on which the given walls alone are decided
@@ -133,7 +152,7 @@ fn drawn_puzzle(drawn: &mut Drawn, height: usize, width: usize) -> Puzzle {
     };
     let clues: Vec<u16> = (0..rooms.count()).map(clue).collect();
     let given: Vec<u16> = given.into_iter().map(|border| border as u16).collect();
-    let mut puzzle = Puzzle::make(height, width, &given, &clues).unwrap();
+    let mut puzzle = Puzzle::of_kind(kind, height, width, &given, &clues).unwrap();
     for _ in 0..drawn.below(borders + 1) / 2 {
         // a border that stands already is refused, which is as well
         let _ = puzzle.decide(drawn.below(borders), drawn.below(2) == 1);
@@ -160,8 +179,8 @@ fn tried(puzzle: &mut Puzzle, found: &mut Vec<Vec<u8>>) {
 fn as_trying_every_board() {
     let (mut drawn, mut counts) = (Drawn(3), [0; 4]);
     for size in [(1, 2), (1, 5), (2, 2), (3, 1), (1, 9), (2, 3), (3, 2), (2, 4), (4, 2), (3, 3)] {
-        for _ in 0..20 {
-            let mut puzzle = drawn_puzzle(&mut drawn, size.0, size.1);
+        for kind in [KINDS; 20].concat() {
+            let mut puzzle = drawn_puzzle(&mut drawn, kind, size.0, size.1);
             let mut all = vec![];
             tried(&mut puzzle, &mut all);
             for cap in [0, 1, all.len().saturating_sub(1), all.len(), all.len() + 1, 1 << puzzle.undecided()] {

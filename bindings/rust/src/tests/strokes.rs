@@ -1,7 +1,7 @@
 //! Several borders in one stroke: all or none, the question that refuses it, what one undo takes back, and that asks don't tell how the
 //! borders were cut into strokes.
 use super::Drawn;
-use crate::{entries, Board, Edge, Puzzle, Refusal, RoomGraph, State, MAX_BORDERS, NO_CLUE};
+use crate::{entries, Board, Edge, Kind, Puzzle, Refusal, RoomGraph, State, MAX_BORDERS, NO_CLUE};
 use std::fmt::Debug;
 
 type Stroke = Vec<(usize, bool)>;
@@ -64,6 +64,10 @@ fn plain(height: usize, width: usize) -> Puzzle {
     Puzzle::make(height, width, &[], &[NO_CLUE]).unwrap()
 }
 
+fn images(height: usize, width: usize) -> Puzzle {
+    Puzzle::of_kind(Kind::Images, height, width, &[], &[NO_CLUE]).unwrap()
+}
+
 /// A stroke that must be answered so: refused, or accepted but empty, it leaves the very record; else one undo does.
 fn told<R: Record>(record: &R, stroke: &[(usize, bool)], answer: Result<(), Refusal>) {
     let mut after = record.clone();
@@ -107,6 +111,7 @@ fn tells<R: Record>(fresh: &R) {
 fn questions() {
     tells(&Board::make(1, 2).unwrap());
     tells(&plain(1, 2));
+    tells(&images(1, 2));
     tells(&room(1));
     // a given wall is decided
     let walled = Puzzle::make(1, 3, &[1], &[NO_CLUE; 2]).unwrap();
@@ -199,6 +204,7 @@ fn undo_takes_a_whole_stroke() {
     for (height, width) in [(1, 1), (1, 2), (2, 2), (3, 4), (8, 8)] {
         steps(drawn, Board::make(height, width).unwrap());
         steps(drawn, plain(height, width));
+        steps(drawn, images(height, width));
         steps(drawn, room(height * width));
     }
     steps(drawn, Puzzle::make(2, 4, &[1, 4], &[2, NO_CLUE]).unwrap());
@@ -253,11 +259,12 @@ fn cuttings<R: Record>(drawn: &mut Drawn, fresh: &R) -> usize {
 #[test]
 fn asks_do_not_tell_the_cutting() {
     let drawn = &mut Drawn(4);
-    let mut faults = [0; 3];
+    let mut faults = [0; 4];
     for _ in 0..40 {
         for (height, width) in [(1, 3), (2, 2), (3, 3)] {
             faults[0] += cuttings(drawn, &Board::make(height, width).unwrap());
             faults[1] += cuttings(drawn, &plain(height, width));
+            faults[3] += cuttings(drawn, &images(height, width));
         }
         faults[1] += cuttings(drawn, &Puzzle::make(2, 4, &[1, 4], &[2, 1]).unwrap());
         faults[2] += cuttings(drawn, &room(6));

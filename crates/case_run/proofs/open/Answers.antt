@@ -3,6 +3,7 @@ use Rattle.std.proofs.Common.{◌∙◌, ◌≡◌, take, rules}
 use Rattle.std.specs.Prelude.{Ok, Err}
 use Rattle.case_file.specs.Sound.{decode_of}
 use Rattle.puzzle.specs.declared.Made.{Made}
+use Rattle.puzzle.specs.declared.kind.Kind.TheVariants.{Translates}
 use Rattle.puzzle.specs.Puzzle.{made, make_of}
 use Rattle.case_run.specs.CaseRun.{opened_as, opened_of, opened_in}
 use Rattle.case_run.proofs.OpenLaws.{places, walls_read, clues_read, made_file, opened_refused}
@@ -22,7 +23,7 @@ returns-in_err-clue_count c =
     absurd (clues_read c.args.file.now c.in_ok-layout.layout c.in_ok-layout.ensures.value (Err w.field-0.0) c.numbers-2.new.buffer w.ensures.value w.ensures.buffer_after)
 
 file_made : (c : In_ok-clue_count) (m : Made)
-    → m ≡ make_of c.in_ok-layout.layout.height c.in_ok-layout.layout.width (take c.in_ok-wall_count.wall_count c.numbers.new.buffer)
+    → m ≡ make_of Translates c.in_ok-layout.layout.height c.in_ok-layout.layout.width (take c.in_ok-wall_count.wall_count c.numbers.new.buffer)
     (take c.in_ok-clue_count.clue_count c.numbers-2.new.buffer)
     → opened_as m c.in_ok-layout.layout.calls.at c.in_ok-layout.layout.calls.count ≡ opened_of (decode_of c.args.file.now)
 unfolding places

@@ -14,7 +14,7 @@ use Rattle.shape_check.proofs.fault_in.Goals.{Joined-are_decided, then-are_decid
 pub returns-in-Some : goal.returns-in-Some
 returns-in-Some g c =
     let b = c.args.b in
-    inner_fault b.grid b.states.now (rw c.group-units.ensures.ids_are at c.inner_wall.ensures) c.in-Some.is
+    inner_fault c.args.images.now b.grid b.states.now (rw c.group-units.ensures.ids_are at c.inner_wall.ensures) c.in-Some.is
 
 -- the groups that are handed on are the potential units
 around : (g : Over) (c : Joined-are_decided g) → let b = c.args.b in let p = c.if-are_decided.potentials in
@@ -33,7 +33,7 @@ pub check-requires-clause-checked : goal.check-requires-clause-checked
 check-requires-clause-checked g c =
     let b = c.args.b in
     let e = c.group-units.ensures in
-    rw (e.grid_is, e.ids_are) (checked b.grid b.states.now (rw e.ids_are at c.inner_wall.ensures) c.requires.enough)
+    rw (e.grid_is, e.ids_are) (checked c.args.images.now b.grid b.states.now (rw e.ids_are at c.inner_wall.ensures) c.requires.enough)
 
 pub check-requires-clause-potentials : goal.check-requires-clause-potentials
 check-requires-clause-potentials g c =
@@ -45,4 +45,4 @@ returns g c =
     let b = c.args.b in
     let e = c.group-units.ensures in
     let p = around g (goal.at.returns g c).Joined-are_decided in
-    units_found b.grid b.states.now (rw e.ids_are at c.inner_wall.ensures) c.in_default.is (rw (e.ids_are, e.count_is, p.1, p.2) at c.check.ensures)
+    units_found c.args.images.now b.grid b.states.now (rw e.ids_are at c.inner_wall.ensures) c.in_default.is (rw (e.ids_are, e.count_is, p.1, p.2) at c.check.ensures)

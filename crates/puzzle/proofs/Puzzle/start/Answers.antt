@@ -14,4 +14,4 @@ write_at-requires c = λ e m. omega (arith, c.requires.below e m, ap (λ (p : Pu
 pub returns : goal.returns
 returns c =
     let a = c.args in
-    started a.grid a.given.now a.clues.now c.requires.below c.requires.given_len_bound.0 c.requires.given_len_bound.1 a.self.now c.requires.zeros c.write_at.new.xs c.write_at.ensures _ _ (search rules) (search rules)
+    started a.kind a.grid a.given.now a.clues.now c.requires.below c.requires.given_len_bound.0 c.requires.given_len_bound.1 a.self.now c.requires.zeros c.write_at.new.xs c.write_at.ensures _ _ (search rules) (search rules) _ c.number-self.ensures

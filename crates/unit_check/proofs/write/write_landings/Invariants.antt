@@ -3,4 +3,4 @@ use Rattle.unit_check.proofs.WriteLaws.{Landing}
 use Rattle.unit_check.proofs.write.write_landings.Given as goal
 
 abbrev pub invariant-loop-to : goal.invariant-loop-to
-invariant-loop-to l = let u = l.trial.unit in Landing u.chart.borders.grid u.chart.borders.states.now u.chart.table.now u.cells.now l.initial.list l.list l.to
+invariant-loop-to l = let u = l.trial.unit in Landing l.image u.chart.borders.grid u.chart.borders.states.now u.chart.table.now u.cells.now l.initial.list l.list l.to

@@ -1,18 +1,10 @@
--- `Rules::search` meets its contract: the laws of a search's start and end. Assumes nothing.
-use borrow.Author.Rules.{rules}
-use Rattle.enumerate.specs.Search.{no_entries}
-use Rattle.enumerate.proofs.Starting.{at_start, at_end}
+-- `Rules::search` meets its contract: either array is as long as the kind asks. Assumes nothing.
+use native.Mathlib.Omega.{arith}
+use Rattle.enumerate.proofs.Starting.{translates_fit, images_fit}
 use Rattle.enumerate.proofs.search.Rules.search.Goals as goal
 
-pub choose_border-requires : goal.choose_border-requires
-unfolding no_entries
-choose_border-requires c =
-    let a = c.args in
-    at_start a.self.grid a.self.given.now a.self.clues.now a.states.now a.cap a.boards.now a.self.walls.limits c.requires
+pub search_in-requires-clause-room : goal.search_in-requires-clause-room
+search_in-requires-clause-room c = let a = c.args.self in (translates_fit a.kind a.grid a.walls.limits c.if-self-eq0.true, omega arith)
 
-pub returns : goal.returns
-unfolding no_entries
-returns c =
-    let a = c.args in
-    let w = at_end a.self.grid a.self.given.now a.self.clues.now a.states.now a.cap a.boards.now _ _ _ _ (search rules) c.choose_border.ensures.boards_after in
-    record { value = w.0; boards_after = w.1 }
+pub search_in-requires-else-self-eq0-clause-room : goal.search_in-requires-else-self-eq0-clause-room
+search_in-requires-else-self-eq0-clause-room c = let a = c.args.self in (images_fit a.kind a.grid a.walls.limits, omega arith)

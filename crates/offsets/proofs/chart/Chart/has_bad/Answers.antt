@@ -19,7 +19,7 @@ pub returns-then-not-is_shut : goal.returns-then-not-is_shut
 unfolding has_bad any
 returns-then-not-is_shut c =
     rw (← c.if-lands_badly.ensures, ← c.if-lands_badly-2.ensures)
-    (let a = c.args in sym (open_lands _ _ (units_in a.self.borders.grid a.self.table.now) a.unit a.cell a.fallen (c.is_shut.ensures c.if-not-is_shut.true)))
+    (let a = c.args in sym (open_lands _ a.shift _ (units_in a.self.borders.grid a.self.table.now) a.cell a.fallen (c.is_shut.ensures c.if-not-is_shut.true)))
 
 pub returns-then-lands_badly-3 : goal.returns-then-lands_badly-3
 unfolding has_bad any

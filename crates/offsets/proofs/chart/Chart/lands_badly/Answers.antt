@@ -12,7 +12,7 @@ bounds-self-beyond c = seen_border _ _ _ c.requires.1 (some_told _ _ _ c.step_at
 
 pub returns-in-Some : goal.returns-in-Some
 returns-in-Some c =
-    c.is_bad.ensures ∙ bad_there _ _ _ _ _ _ _ _ (sym c.keeps.ensures ∙ c.if-not-keeps.false) (some_told _ _ _ c.step_at.ensures c.in-Some.is)
+    c.is_bad.ensures ∙ bad_there _ _ _ _ _ _ _ _ c.direction-lands.ensures (sym c.keeps.ensures ∙ c.if-not-keeps.false) (some_told _ _ _ c.step_at.ensures c.in-Some.is)
 
 pub returns-in-None : goal.returns-in-None
-returns-in-None c = bad_end _ _ _ _ _ _ _ _ (none_told _ _ _ c.step_at.ensures c.in-None.is)
+returns-in-None c = bad_end _ _ _ _ _ _ _ _ (rw (← c.direction-lands.ensures) (none_told _ _ _ c.step_at.ensures c.in-None.is))

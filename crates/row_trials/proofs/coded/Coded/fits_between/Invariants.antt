@@ -3,4 +3,7 @@ use Rattle.row_trials.proofs.RowsLaws.{RowsWalk}
 use Rattle.row_trials.proofs.coded.Coded.fits_between.Given as goal
 
 abbrev pub invariant-loop-t : goal.invariant-loop-t
-invariant-loop-t l = let u = l.self.trial.unit in RowsWalk u.chart.borders.grid u.chart.borders.states.now u.chart.table.now u.cells.now l.from l.to l.initial.near l.near l.t
+invariant-loop-t l =
+    let t = l.self in
+    let u = t.trial.unit in
+    RowsWalk t.image u.chart.borders.grid u.chart.borders.states.now u.chart.table.now u.cells.now t.rows.top l.from l.to l.near l.t

@@ -1,5 +1,6 @@
 -- `unit_check::find::Finder::find_by_words` meets its contract: each unit so far fits somewhere, the next one has its marks, and the stamps hold. Assumes nothing.
-use mathlib.Core.Path.{refl, ◌∙◌}
+use Prim.Native.Nat.{ℕ}
+use mathlib.Core.Path.{refl}
 use native.Mathlib.Omega.{arith}
 use lib.ListN.{length-replicate}
 use Rattle.grid.proofs.Geometry.{cells_le}
@@ -8,7 +9,6 @@ use Rattle.cell_words.proofs.NearLaws.{none_stamped}
 use Rattle.unit_check.proofs.FindLaws.{fit_on, fit_there, pending_first, pending_next, unfit_none, unfit_some, still_less}
 use Rattle.unit_check.proofs.FinderLaws.{kept_all, kept_then}
 use Rattle.unit_check.proofs.HeldLaws.{units_held, fits_held}
-use Rattle.unit_check.proofs.RoomLaws.{asking}
 use Rattle.unit_check.proofs.find.Finder.find_by_words.Goals as goal
 
 pub fill-requires-clause-unfilled : goal.fill-requires-clause-unfilled
@@ -19,9 +19,13 @@ loop-next-init g c =
     record {
       kept = kept_all _;
       pending = pending_first c.requires.from_exists c.requires.all_fit c.requires.marked;
-      stamped = none_stamped c.args.self.now.stage.chart.borders.fits.limits.height_fits _ _ _ refl refl;
-      codes_long = length-replicate _ _;
-      borders_long = length-replicate _ _;
+      prepared = record {
+        whole = c.full_word.ensures;
+        words_are = c.fill.ensures;
+        codes_long = omega (arith, length-replicate {A = ℕ} g.row.N 0, c.requires.room);
+        borders_long = omega (arith, length-replicate {A = ℕ} g.row.BORDERS 0, c.requires.room);
+        stamped = none_stamped c.args.self.now.stage.chart.borders.fits.limits.height_fits _ _ _ refl refl;
+      };
     }
 
 pub trial-trial-requires-clause-unit_exists : goal.trial-trial-requires-clause-unit_exists
@@ -30,19 +34,11 @@ trial-trial-requires-clause-unit_exists g c = let i = c.loop-next.invariant in r
 pub trial-trial-requires-clause-marked : goal.trial-trial-requires-clause-marked
 trial-trial-requires-clause-marked g c = let i = c.loop-next.invariant in rw i.kept.stage (i.pending.marked _ c.in-Some.is)
 
-pub fits-requires-clause-asking : goal.fits-requires-clause-asking
-fits-requires-clause-asking g c =
-    let s = c.args.self.now.stage in
+pub fits-requires : goal.fits-requires
+fits-requires g c =
     let e = c.trial-trial.ensures in
     let i = c.loop-next.invariant in
-    rw (e.chart_is, e.cells_are, i.kept.stage)
-    (asking s.chart.borders.grid s.chart.table.now c.in-Some.unit _ _ c.full_word-full.ensures c.fill.ensures c.requires.room i.codes_long i.borders_long)
-
-pub fits-requires-clause-stamped : goal.fits-requires-clause-stamped
-fits-requires-clause-stamped g c =
-    let e = c.trial-trial.ensures in
-    let i = c.loop-next.invariant in
-    rw (e.chart_is, i.kept.stage) i.stamped
+    rw (e.chart_is, i.kept.stage) i.prepared
 
 pub returns-then-not-fits : goal.returns-then-not-fits
 returns-then-not-fits g c =
@@ -87,9 +83,7 @@ loop-next-preserved g c =
     record {
       kept = kept_then _ k c.find_soon-next.ensures.kept;
       pending = pending_next (rw k.stage at c.find_soon-next.ensures.sought);
-      stamped = rw i.kept.stage at (rw (e.chart_is) at c.fits.ensures.held.stamped);
-      codes_long = c.fits.auto.codes ∙ i.codes_long;
-      borders_long = c.fits.auto.borders ∙ i.borders_long;
+      prepared = rw i.kept.stage at (rw (e.chart_is) at c.fits.ensures.prepared);
     }
 
 pub returns : goal.returns

@@ -1,8 +1,6 @@
 -- `unit_check::find::Finder::find_by_words` meets its contract: each unit so far fits somewhere, the next one has its marks, and the stamps hold. Assumes nothing.
-use mathlib.Core.Path.{◌≡◌}
 use lib.ListN.{length}
-use Rattle.offsets.specs.Table.{potentials_in}
-use Rattle.cell_words.specs.Cells.{Stamped}
+use Rattle.row_trials.specs.Words.{Prepared}
 use Rattle.unit_check.specs.Finder.{Kept}
 use Rattle.unit_check.proofs.FindLaws.{Pending, still}
 use Rattle.unit_check.proofs.find.Finder.find_by_words.Given as goal
@@ -12,10 +10,8 @@ invariant-loop-next g l =
     let s = l.initial.self.stage in
     let h = s.chart in record {
       kept : Kept l.initial.self l.self;
-      pending : Pending h.borders.grid h.borders.states.now h.table.now (length s.units.starts.now) l.self.marks.now l.next;
-      stamped : Stamped h.borders.grid h.borders.states.now (potentials_in h.borders.grid h.table.now) l.near;
-      codes_long : length l.codes ≡ g.row.N;
-      borders_long : length l.borders ≡ g.row.BORDERS;
+      pending : Pending s.images.now h.borders.grid h.borders.states.now h.table.now (length s.units.starts.now) l.self.marks.now l.next;
+      prepared : Prepared h.borders.grid h.borders.states.now h.table.now l.words;
     }
 
 abbrev pub decreases-loop-next : goal.decreases-loop-next

@@ -10,6 +10,6 @@ invariant-loop-unit l =
     let s = l.initial.self.stage in
     let h = s.chart in record {
       kept : Kept l.initial.self l.self;
-      all_fit : AllFit (fits_in h.borders.grid h.borders.states.now h.table.now) (length s.units.starts.now) l.unit;
+      all_fit : AllFit (fits_in s.images.now h.borders.grid h.borders.states.now h.table.now) (length s.units.starts.now) l.unit;
       unmarked : Unmarked l.self.marks.now;
     }

@@ -9,9 +9,11 @@ use Rattle.unit_codes.proofs.member.Member.note_all.Goals as goal
 pub note-requires : goal.note-requires
 note-requires c =
     let s = c.args.self in
+    let t = s.turned in
+    let h = t.unit.chart in
     let e : c.directions-direction-items.result.now ≡ directions_of (is_inner s.kind) = c.directions-direction-items.ensures in
     turn_fits _ _ Up c.loop-direction.direction-index c.loop-direction.invariant c.loop-direction-test.true
-    (rw (e, codes_in_turn s.chart.borders.grid s.chart.borders.states.now s.chart.table.now s.first (is_inner s.kind) s.cell) c.requires)
+    (rw (e, codes_in_turn t.image h.borders.grid h.borders.states.now h.table.now t.unit.cells.now t.rows.top (is_inner s.kind) s.cell) c.requires)
 
 pub loop-direction-preserved : goal.loop-direction-preserved
 loop-direction-preserved c = turn_written _ _ Up c.loop-direction.direction-index c.loop-direction.invariant c.loop-direction-test.true c.note.ensures
@@ -19,6 +21,8 @@ loop-direction-preserved c = turn_written _ _ Up c.loop-direction.direction-inde
 pub returns : goal.returns
 returns c =
     let s = c.args.self in
+    let t = s.turned in
+    let h = t.unit.chart in
     let e : c.directions-direction-items.result.now ≡ directions_of (is_inner s.kind) = c.directions-direction-items.ensures in
-    rw (e, codes_in_turn s.chart.borders.grid s.chart.borders.states.now s.chart.table.now s.first (is_inner s.kind) s.cell)
+    rw (e, codes_in_turn t.image h.borders.grid h.borders.states.now h.table.now t.unit.cells.now t.rows.top (is_inner s.kind) s.cell)
     at (turns_written _ _ Up c.loop-direction.direction-index c.loop-direction.invariant c.loop-direction-test.false)

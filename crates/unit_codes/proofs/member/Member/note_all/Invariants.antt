@@ -8,6 +8,7 @@ use Rattle.unit_codes.proofs.member.Member.note_all.Given as goal
 
 abbrev pub invariant-loop-direction : goal.invariant-loop-direction
 invariant-loop-direction l =
-    let s = l.self in
-    let of = code_at s.chart.borders.grid s.chart.borders.states.now s.chart.table.now s.first (is_inner s.kind) s.cell in
+    let t = l.self.turned in
+    let h = t.unit.chart in
+    let of = code_at t.image h.borders.grid h.borders.states.now h.table.now t.unit.cells.now t.rows.top (is_inner l.self.kind) l.self.cell in
     Leaves l.initial.list (gather of l.direction-items) l.list (gather of (drop l.direction-index l.direction-items))
