@@ -242,6 +242,7 @@ pub fn stacks(boards: &[(&str, Standing)], puzzles: &[(&str, Laid)]) -> Vec<(Str
     let most = |list: Vec<usize>| list.into_iter().max().expect("inputs");
     let on = |name: &str, used: Vec<usize>| (name.to_string(), most(used));
     let whole: Vec<u16> = (0..=65535).collect();
+    let line = &mut vec![0; 65536];
     let making = Making { clues: vec![9], ..Making::empty(32, 32) };
     let (mut board, mut puzzle) = (LentBoard(standing[5]), LentPuzzle(laid[0]));
     let (lent_boards, lent_puzzles) = (standing.iter().copied().map(LentBoard), laid.iter().copied().map(LentPuzzle));
@@ -264,5 +265,11 @@ pub fn stacks(boards: &[(&str, Standing)], puzzles: &[(&str, Laid)]) -> Vec<(Str
         on("puzzle's ask, images", images.iter().map(|p| stack::used(|| p.ask_in(buffer))).collect()),
         on("ask of a lent puzzle, images", lent_images.map(|p| stack::used(|| p.kind_in(buffer))).collect()),
         on("hand-over", vec![stack::used(|| port::hand_over_in(&whole, buffer))]),
+        on("a file's puzzle", vec![stack::used(|| port::file::open(&ONE_ASK).code)]),
+        on("a run of a file's calls", laid.iter().map(|p| stack::used(|| port::run_in(&ONE_ASK, 13, p.0, line).code)).collect()),
+        on("a run of a file's calls, images", images.iter().map(|p| stack::used(|| port::run_in(&ONE_ASK, 13, p.0, line).code)).collect()),
     ]
 }
+
+/// A case file of 32 by 32: one room without a clue, and an ask at byte 13.
+const ONE_ASK: [u8; 14] = [1, 0, 11, 32, 32, 0, 0, 0, 1, 0xff, 0xff, 0, 1, 3];
