@@ -26,9 +26,9 @@
 extern "C" {
 #endif
 
-/* The version that this header is of, as one number: 20000 for 2.0.0. */
+/* The version that this header is of, as one number: 20100 for 2.1.0. */
 #define SENDAI_VERSION_MAJOR 2
-#define SENDAI_VERSION_MINOR 0
+#define SENDAI_VERSION_MINOR 1
 #define SENDAI_VERSION_PATCH 0
 #define SENDAI_VERSION (SENDAI_VERSION_MAJOR * 10000 + SENDAI_VERSION_MINOR * 100 + SENDAI_VERSION_PATCH)
 
@@ -445,7 +445,8 @@ SendaiRoomAnswer sendai_room_stroke(SendaiRoom room, const uint16_t *entries, si
 /* The graph without its last stroke, all of it. Refused: 1, 2, 5, with the graph as it came. */
 SendaiRoomAnswer sendai_room_undo(SendaiRoom room);
 
-/* The room count: clear, or a fault whose listed edges can't all hold. Refused: 1, 2, 6 (as many entries as edges). */
+/* The room count: clear, or a fault whose listed edges can't all hold. An empty list says that no states of the edges meet the count, as
+ * whenever it is above the vertices. Refused: 1, 2, 6 (as many entries as edges). */
 SendaiAnswer sendai_room_ask(SendaiRoom room, uint16_t *buffer, size_t buffer_length);
 
 /* ---- Unions ---- */

@@ -496,6 +496,28 @@ static void rooms(void) {
     CHECK(sendai_room_check(room) == SENDAI_ACCEPTED);
 }
 
+/* A count above the vertices is a fault that lists nothing, whatever stands; the buffer is asked for before. */
+static void rooms_above(void) {
+    const uint16_t us[] = {0}, vs[] = {1}, joined[] = {0};
+    const uint32_t counts[] = {3, 65538, UINT32_MAX};
+    for (size_t i = 0; i < 3; i++) {
+        SendaiRoom room = sendai_room_make(2, us, 1, vs, 1, counts[i]).room;
+        for (int turn = 0; turn < 3; turn++) {
+            SendaiRoom asked = turn == 0 ? room : sendai_room_decide(room, 0, turn == 2).room;
+            SendaiAnswer verdict = sendai_room_ask(asked, list, 1);
+            CHECK(verdict.code == SENDAI_ACCEPTED && verdict.fault && is(verdict.length, joined, 0));
+            CHECK(sendai_room_ask(asked, list, 0).code == SENDAI_SHORT_BUFFER);
+        }
+    }
+    SendaiRoom as_many = sendai_room_make(2, us, 1, vs, 1, 2).room;
+    CHECK(!sendai_room_ask(as_many, list, 1).fault);
+    SendaiAnswer verdict = sendai_room_ask(sendai_room_decide(as_many, 0, false).room, list, 1);
+    CHECK(verdict.fault && is(verdict.length, joined, 1));
+    CHECK(!sendai_room_ask(sendai_room_make(0, us, 0, vs, 0, 0).room, list, 0).fault);
+    CHECK(sendai_room_ask(sendai_room_make(0, us, 0, vs, 0, 5).room, list, 0).fault);
+    CHECK(sendai_room_ask(sendai_room_make(1, us, 0, vs, 0, 65537).room, list, 0).fault);
+}
+
 static void unions(void) {
     SendaiUnion parts = sendai_union_new(3).parts;
     CHECK(parts.n == 3 && parts.parent[2] == 2);
@@ -619,6 +641,7 @@ int main(void) {
     lent_records();
     images();
     rooms();
+    rooms_above();
     unions();
     files();
     generated_files();

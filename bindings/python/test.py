@@ -74,8 +74,22 @@ class Paper(Test):
         parted = RoomGraph(3, edges, 1)
         parted.decide(0, True)
         self.assertEqual(parted.ask(), [1])
-        self.assertIsNone(RoomGraph(2, [], 3).ask())
+        self.assertEqual(RoomGraph(2, [], 3).ask(), [])
         self.assertEqual(RoomGraph(1, [], 0).ask(), [])
+
+    def test_counts_above_the_vertices(self):
+        for count in (3, 2 ** 16 + 2, 2 ** 32 - 1):
+            room = RoomGraph(2, [(0, 1)], count)
+            self.assertEqual(room.ask(), [])
+            room.decide(0, False)
+            self.assertEqual(room.ask(), [])
+        as_many = RoomGraph(2, [(0, 1)], 2)
+        self.assertIsNone(as_many.ask())
+        as_many.decide(0, False)
+        self.assertEqual(as_many.ask(), [0])
+        self.assertEqual([RoomGraph(0, [], count).ask() for count in (0, 1, 5)], [None, [], []])
+        with self.refused(Refusal.CLUE_VALUE):
+            Puzzle(1, 2, clues=[3])
 
     def test_makings(self):
         self.assertEqual(Board(32, 1).height, 32)

@@ -35,6 +35,7 @@ pub fn run() {
     show("room graph, 2 vertices, edge 0-1 Connected, count 3", || {
         City::new(2, &[(0, 1)], 3).map(|mut c| (c.decide(0, false), c.ask()))
     });
+    show("room graph, 1 vertex, no edge, count 65537", || City::new(1, &[], 65537).map(|mut c| c.ask()));
     show("room graph, edge 0-2 of 2 vertices", || City::new(2, &[(0, 2)], 1).map(|mut c| c.ask()));
     show("puzzle 1 by 2, no given wall, two clues", || {
         Puzzle::new(1, 2, &[], &[1, 7], false).map(|mut p| p.ask())

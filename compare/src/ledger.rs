@@ -4,7 +4,7 @@ use crate::answers::Answer;
 use crate::boards::{CONNECTED, UNDECIDED, WALL};
 use crate::kinds;
 use crate::random::Random;
-use crate::reference::{self, Board, City};
+use crate::reference::{self, Board};
 use crate::runs::{Call, Turn};
 use std::collections::BTreeSet;
 
@@ -159,6 +159,10 @@ pub trait Reference {
     fn undo(&mut self) -> Result<(), u8>;
     fn states(&self) -> Vec<u8>;
     fn fault(&mut self) -> Fault;
+    /// Whether words stand in for the Rust's faults.
+    fn left_out(&self) -> bool {
+        false
+    }
 }
 
 /// The fault of a puzzle's answer.
@@ -191,7 +195,6 @@ macro_rules! references {
 
 references! {
     Board, |list: Option<Vec<u16>>| list.map(|list| (0, list));
-    City, |list: Option<Vec<u16>>| list.map(|list| (0, list));
     reference::Puzzle, fault_of;
     kinds::Puzzle, fault_of;
 }

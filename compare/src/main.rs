@@ -16,6 +16,7 @@ mod laws;
 mod layers;
 mod learner;
 mod ledger;
+mod lone;
 mod pairs;
 mod port;
 mod puzzles;

@@ -584,6 +584,11 @@ impl City {
 
     /// With a buffer of just the edge count.
     pub fn ask(&self) -> Result<Option<Vec<u16>>, u8> {
-        judged(self.0.edges, |buffer, places| unsafe { c::sendai_room_ask(self.0, buffer, places) })
+        self.ask_within(self.0.edges)
+    }
+
+    /// With a buffer of so many places.
+    pub fn ask_within(&self, places: usize) -> Result<Option<Vec<u16>>, u8> {
+        judged(places, |buffer, places| unsafe { c::sendai_room_ask(self.0, buffer, places) })
     }
 }

@@ -1,4 +1,5 @@
-//! The script that crate `vectors` runs in the gate, and the Rust's answers to it: a line for each call. README.md has the calls.
+//! The script that crate `vectors` runs in the gate, and the Rust's answers to it, or those of the words that stand in for it: a line for each call.
+//! README.md has the calls.
 use crate::boards::{self, Standing, UNDECIDED};
 use crate::edges::{self, KINDS};
 use crate::layers::{

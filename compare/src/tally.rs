@@ -7,6 +7,8 @@ pub struct Tally {
     pub layer: &'static str,
     /// Boards, graphs, sizes or runs of calls.
     cases: u64,
+    /// Those in which words stand in for the Rust's asks, since a request changes them.
+    left_out: u64,
     /// Answers held against each other.
     answers: u64,
     /// Those of calls that list: a list, or clear, or a refusal in its place.
@@ -22,11 +24,16 @@ const SHOWN: u64 = 5;
 impl Tally {
     pub fn new(layer: &'static str) -> Tally {
         let (began, took) = (Instant::now(), Duration::ZERO);
-        Tally { layer, cases: 0, answers: 0, lists: 0, differences: 0, began, took }
+        Tally { layer, cases: 0, left_out: 0, answers: 0, lists: 0, differences: 0, began, took }
     }
 
     pub fn case(&mut self) {
         self.cases += 1;
+    }
+
+    /// The case just begun is left out of what is compared with the Rust, if it is to be.
+    pub fn leave_out(&mut self, left_out: bool) {
+        self.left_out += u64::from(left_out);
     }
 
     /// Holds the port's answer against the Rust's.
@@ -56,12 +63,13 @@ fn lists<T>() -> bool {
 
 /// Prints the table, and says whether nothing differed.
 pub fn report(tallies: &[Tally]) -> bool {
-    println!("{:<12} {:>12} {:>14} {:>14} {:>12} {:>9}", "layer", "cases", "answers", "lists", "differences", "seconds");
+    println!("{:<12} {:>12} {:>12} {:>14} {:>14} {:>12} {:>9}", "layer", "cases", "left out", "answers", "lists", "differences", "seconds");
     for t in tallies {
-        let (cases, answers, lists, seconds) = (t.cases, t.answers, t.lists, t.took.as_secs_f64());
-        println!("{:<12} {cases:>12} {answers:>14} {lists:>14} {:>12} {seconds:>9.1}", t.layer, t.differences);
+        let (cases, left_out, answers, lists, seconds) = (t.cases, t.left_out, t.answers, t.lists, t.took.as_secs_f64());
+        println!("{:<12} {cases:>12} {left_out:>12} {answers:>14} {lists:>14} {:>12} {seconds:>9.1}", t.layer, t.differences);
     }
-    let (answers, lists): (u64, u64) = tallies.iter().fold((0, 0), |(a, l), t| (a + t.answers, l + t.lists));
-    println!("{:<12} {:>12} {answers:>14} {lists:>14}", "all", "");
+    let all = |count: fn(&Tally) -> u64| tallies.iter().map(count).sum::<u64>();
+    let (cases, left_out, answers, lists) = (all(|t| t.cases), all(|t| t.left_out), all(|t| t.answers), all(|t| t.lists));
+    println!("{:<12} {cases:>12} {left_out:>12} {answers:>14} {lists:>14}", "all");
     tallies.iter().all(|t| t.differences == 0)
 }

@@ -52,7 +52,8 @@ class RoomGraph:
         self._put(self._calls.locked.sendai_room_undo(self._record))
 
     def ask(self) -> list[int] | None:
-        """The room count: None where it is clear, else edges that can't all hold, as entries."""
+        """The room count: None where it is clear, else edges that can't all hold, as entries. An empty list says that no states of the edges
+        meet the count, as whenever it is above the vertices."""
         told = self._calls.locked.sendai_room_ask(self._record, *lent(self._list))
         accepted(told.code)
         return self._list[:told.length].tolist() if told.fault else None

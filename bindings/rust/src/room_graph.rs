@@ -57,8 +57,8 @@ impl RoomGraph {
         self.put(sys::sendai_room_undo(self.0))
     }
 
-    /// The room count: `None` where it is clear, else edges that can't all hold, as entries. Refused: `ShortBuffer`
-    /// ([`edges`](RoomGraph::edges)).
+    /// The room count: `None` where it is clear, else edges that can't all hold, as entries. An empty list says that no states of the edges
+    /// meet the count, as whenever it is above the vertices. Refused: `ShortBuffer` ([`edges`](RoomGraph::edges)).
     pub fn ask<'b>(&self, buffer: &'b mut [u16]) -> Result<Option<&'b [u16]>, Refusal> {
         // SAFETY: the buffer lives through the call.
         let told = unsafe { sys::sendai_room_ask(self.0, buffer.as_mut_ptr(), buffer.len()) };

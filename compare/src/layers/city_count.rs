@@ -1,29 +1,35 @@
 //! `CityCountConstraint`: making, decide, undo and ask on room graphs, loops and repeated edges included; strokes by the model.
 use super::{stroke_of_one, until, Limits};
-use crate::ledger::{Ledger, Told};
+use crate::ledger::{Ledger, Reference, Told};
+use crate::lone::{self, Lone};
 use crate::port::{self, Record};
 use crate::random::Random;
-use crate::reference::City;
 use crate::runs::{self, Call, Turn};
 use crate::sample::{code, fault, Sample, LARGEST};
 use crate::tally::Tally;
 
 type Edges = Vec<(usize, usize)>;
 
-/// A graph on which states stand is asked.
-fn ask(tally: &mut Tally, vertices: usize, edges: &Edges, count: u32, states: &[u8]) {
+/// A graph on which states stand is asked, with a place for each edge and with one place less. Gives what is to be answered.
+fn ask(tally: &mut Tally, vertices: usize, edges: &Edges, count: u32, states: &[u8]) -> Option<Vec<u16>> {
     tally.case();
     let on = || format!("{vertices} vertices, {edges:?}, count {count}, {states:?}");
-    let theirs = City::new(vertices, edges, count);
+    let theirs = Lone::new(vertices, edges, count);
     let ours = port::City::make(vertices, edges, count);
     tally.same(&theirs.as_ref().err(), &ours.as_ref().err(), on);
-    let (Ok(mut rust), Ok(mut ours)) = (theirs, ours) else { return };
+    let (Ok(mut rust), Ok(mut ours)) = (theirs, ours) else { return None };
+    tally.leave_out(rust.left_out());
     for (edge, &state) in states.iter().enumerate() {
         if state != 0 {
             tally.same(&rust.decide(edge, state == 2), &ours.decide(edge, state == 2), on);
         }
     }
-    tally.same(&Ok(rust.ask()), &ours.ask(), on);
+    let answer = rust.ask();
+    tally.same(&Ok(answer.as_ref()), &ours.ask().as_ref().map(Option::as_ref).map_err(|&code| code), on);
+    if !edges.is_empty() {
+        tally.same(&Err(6), &ours.ask_within(edges.len() - 1), on);
+    }
+    answer
 }
 
 /// A list of turns on a graph, with an ask after each.
@@ -32,13 +38,14 @@ fn compare(tally: &mut Tally, vertices: usize, edges: &Edges, count: u32, turns:
     let made = |city: Result<port::City, u8>| (city.err(), city.ok());
     let whole = made(port::City::make(vertices, edges, count)) == made(port::City::make_of_edges(vertices, edges, count));
     tally.same(&true, &whole, || format!("{vertices} vertices, {edges:?} as records, count {count}"));
-    let (mut rust, fresh) = match (City::new(vertices, edges, count), port::City::make(vertices, edges, count)) {
+    let (mut rust, fresh) = match (Lone::new(vertices, edges, count), port::City::make(vertices, edges, count)) {
         (Ok(rust), Ok(ours)) => (Told::new(rust, &[]), ours),
         (theirs, ours) => {
             let on = || format!("{vertices} vertices, {edges:?}, count {count}");
             return tally.same(&theirs.err(), &ours.err(), on);
         }
     };
+    tally.leave_out(rust.rust.left_out());
     let mut ours = fresh;
     for (at, turn) in turns.iter().enumerate() {
         let on = || format!("{vertices} vertices, {edges:?}, count {count}, turn {at} of {turns:?}");
@@ -93,8 +100,13 @@ pub fn run(limits: &Limits) -> Tally {
     for vertices in 0..=4 {
         for edges in 0..=5 {
             for graph in graphs(vertices, edges) {
+                let parts = lone::parts(vertices, &graph);
                 for states in states(edges) {
-                    (0..=5).for_each(|count| ask(&mut tally, vertices, &graph, count, &states));
+                    for count in [0, 1, 2, 3, 4, 5, 65536, u32::MAX] {
+                        let answer = ask(&mut tally, vertices, &graph, count, &states);
+                        let lawful = lone::lawful(&parts, count, &states, &answer);
+                        tally.same(&true, &lawful, || format!("{vertices} vertices, {graph:?}, count {count}, {states:?}: {answer:?}"));
+                    }
                 }
             }
         }
@@ -148,7 +160,7 @@ pub fn sample(sample: &mut Sample) {
         let count = random.below(vertices + 2);
         let ends = |end: fn(&(usize, usize)) -> usize| graph.iter().map(|e| end(e) as u16).collect::<Vec<u16>>();
         sample.lists(&ends(|e| e.0), &ends(|e| e.1));
-        let made = City::new(vertices, &graph, count as u32);
+        let made = Lone::new(vertices, &graph, count as u32);
         sample.call("rm", vertices, count, code(&made));
         let Ok(mut rust) = made else { continue };
         for call in runs::random(random, edges, 12, 4) {

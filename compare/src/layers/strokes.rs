@@ -4,6 +4,7 @@ use super::{until, Limits};
 use crate::boards::Standing;
 use crate::kinds::Puzzle;
 use crate::ledger::{self, Fault, Ledger, Reference, Told};
+use crate::lone::Lone;
 use crate::port::{self, LentBoard, LentPuzzle, PuzzleRecord, Record};
 use crate::puzzles::{self, Making};
 use crate::random::Random;
@@ -209,6 +210,7 @@ impl<P: Record, L: Record, R: Fn() -> Q, Q: Reference> Fresh<P, L, R> {
     /// lists, and that is a fault again.
     fn compare(&self, tally: &mut Tally, random: &mut Random, entries: &[u16], count: &mut Cuttings, on: impl Fn() -> String) {
         tally.case();
+        tally.leave_out((self.rust)().left_out());
         let fault = self.fault(entries);
         let single = entries.iter().map(|&entry| vec![entry]).collect();
         let cuttings =
@@ -254,7 +256,7 @@ fn cuttings(tally: &mut Tally, random: &mut Random, count: &mut [Cuttings; 3], m
     let stands = |edge: usize| (!random.chance(1, 4)).then(|| 2 * edge as u16 + random.below(2) as u16);
     let entries: Vec<u16> = (0..edges.len()).filter_map(stands).collect();
     let on = || format!("{cells} vertices, {edges:?}, count {parts}, {entries:?}");
-    let rust = || reference::City::new(cells, &edges, parts).expect("made");
+    let rust = || Lone::new(cells, &edges, parts).expect("made");
     let port = port::City::make(cells, &edges, parts).expect("made");
     Fresh { port, lent: None::<port::City>, rust, given: vec![] }.compare(tally, random, &entries, &mut count[2], on);
 }
@@ -337,7 +339,7 @@ pub fn sample(sample: &mut Sample) {
         let ends = |end: fn(&(usize, usize)) -> usize| edges.iter().map(|edge| end(edge) as u16).collect::<Vec<_>>();
         sample.lists(&ends(|edge| edge.0), &ends(|edge| edge.1));
         sample.call("rm", cells, parts as usize, 0);
-        let mut told = Told::new(reference::City::new(cells, &edges, parts).expect("made"), &[]);
+        let mut told = Told::new(Lone::new(cells, &edges, parts).expect("made"), &[]);
         let turns = runs::turns(random, told.ledger.clone(), 10, 4);
         store(sample, 'r', &mut told, &turns, 0);
     }

@@ -1,5 +1,5 @@
--- THE THEOREMS of the room check, over every state of the graph's edges: what a fault's list says of the graph it was found on and of every
--- other in which it stands, and what a fully decided graph's answer means. Assumes nothing.
+-- THE THEOREMS of the room count (SPEC 4.14), over every state of the graph's edges: what a fault's list says of the graph it was found on and
+-- of every other in which it stands, and what a fully decided graph's answer means. Assumes nothing.
 use Prim.Native.Nat.{ℕ, ◌/◌, ◌≤◌, ◌<◌}
 use mathlib.Core.Path.{◌≡◌, ap}
 use mathlib.Core.Logic.{◌⊎◌, inl, inr, ◌≢◌, ◌↔◌, ⊎_elim}

@@ -1,5 +1,6 @@
 pub mod EntryLaws
 pub mod FaultLaws
+pub mod LoneLaws
 pub mod FindLaws
 pub mod LoopLaws
 pub mod RoomLaws

@@ -24,9 +24,9 @@ use Rattle.ledger.specs.Marks.{Entry}
 use Rattle.ledger.proofs.Codes.{as_decide}
 use Rattle.room_parts.specs.Graph as rooms
 use Rattle.city_count.specs.declared.CityCountConstraint.{CityCountConstraint}
-use Rattle.city_count.specs.Fault.{room_fault}
+use Rattle.city_count.specs.Fault.{lone_fault}
 use Rattle.city_count.specs.Room.{room_of, zero_room, fresh_room, answer, ends_exist, check_of, room_code, make_of, answered, stroke_of, decide_of, graph_of, fault_of, ask_of}
-use Rattle.city_count.proofs.FaultLaws.{room_agrees, room_ends}
+use Rattle.city_count.proofs.LoneLaws.{lone_agrees, lone_ends}
 use Rattle.city_count.proofs.LoopLaws.{Ends, all_ends, ends_all}
 
 -- a graph within the limits whose ends exist
@@ -97,14 +97,14 @@ module _ (r : CityCountConstraint) (z : room_code r ≡ 0) (us_are : length (tak
 -- the check of the slices is that of the record
 pub fault_taken : (r : CityCountConstraint) {us vs states : List ℕ} {n : ℕ} → n ≡ r.vertices → us ≡ take r.edges r.us → vs ≡ take r.edges r.vs
     → (states ≡ take r.edges r.book.states) × (length states ≡ r.edges)
-    → room_fault (rooms.graph_of n us vs states) r.count (rooms.states_in states) ≡ fault_of r
+    → lone_fault (rooms.graph_of n us vs states) r.count (rooms.states_in states) ≡ fault_of r
 fault_taken r en eu ev es =
     let states_are : length (take r.edges r.book.states) ≡ r.edges = rw es.0 at es.1 in
     rw (en, eu, ev, es.0, states_are)
-    (room_ends r.vertices r.edges (take r.edges r.us) (take r.edges r.vs) r.us r.vs r.count (rooms.states_in (take r.edges r.book.states))
+    (lone_ends r.vertices r.edges (take r.edges r.us) (take r.edges r.vs) r.us r.vs r.count (rooms.states_in (take r.edges r.book.states))
     (λ i h. get_or-take r.edges r.us i 0 h)
     (λ i h. get_or-take r.edges r.vs i 0 h)
-    ∙ room_agrees (graph_of r) r.count (rooms.states_in (take r.edges r.book.states)) (rooms.states_in r.book.states) (λ i h. get_or-take r.edges r.book.states i 0 h))
+    ∙ lone_agrees (graph_of r) r.count (rooms.states_in (take r.edges r.book.states)) (rooms.states_in r.book.states) (λ i h. get_or-take r.edges r.book.states i 0 h))
 
 -- what is found is what the ask comes to
 pub asked : (r : CityCountConstraint) {buffer buffer' : List ℕ} {f : std.Option ℕ} → room_code r ≡ 0 → r.edges ≤ length buffer → {o : Option (List ℕ)} → o ≡ fault_of r

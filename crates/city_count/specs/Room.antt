@@ -1,4 +1,4 @@
--- What a room graph's calls answer (SPEC 1.8, 3.1 to 3.6, 4.14, 12): the ledger's answers, around a graph and a count. Assumes nothing.
+-- What a room graph's calls answer (SPEC 1.8, 3.1 to 3.6, 4.14, 12, 15): the ledger's answers, around a graph and a count. Assumes nothing.
 use Rattle.std.specs.Prelude.{ℕ, Bool, List, eqb, ltb, leb, length, get_or, Result, Ok, Err}
 use Rattle.std.proofs.Math.Option.{Option}
 use Rattle.std.proofs.lemmas.List.Edits.{sets}
@@ -12,7 +12,7 @@ use Rattle.ledger.specs.declared.Book.{Book}
 use Rattle.ledger.specs.Ledger.{Decision, single, stroke_code, undo_code, first_code}
 use Rattle.ledger.specs.Books.{zeros, fresh_book, none_given, state_at, book_holds, placed, taken}
 use Rattle.room_parts.specs.Graph.{Graph, graph, states_in}
-use Rattle.city_count.specs.Fault.{room_fault}
+use Rattle.city_count.specs.Fault.{lone_fault}
 use Rattle.city_count.specs.declared.CityCountConstraint.{CityCountConstraint}
 use Rattle.city_count.specs.declared.Decided.{Decided}
 
@@ -83,8 +83,9 @@ undo_of r = answered (first_code (room_code r) (undo_code r.book.len)) r (taken 
 abbrev pub graph_of : CityCountConstraint → Graph
 graph_of r = graph r.vertices r.edges r.us r.vs
 
+-- what an ask finds on the record
 abbrev pub fault_of : CityCountConstraint → Option (List ℕ)
-fault_of r = room_fault (graph_of r) r.count (states_in r.book.states)
+fault_of r = lone_fault (graph_of r) r.count (states_in r.book.states)
 
 -- the number of the question that refuses an ask with a buffer of so many places, or 0: as many as there are edges (SPEC 3.6)
 abbrev pub ask_code : CityCountConstraint → ℕ → ℕ

@@ -11,7 +11,7 @@ ghost use Rattle.ledger.specs.Books.{zeros};
 ghost use Rattle.borders.specs.Entry.{entry_of};
 ghost use Rattle.room_parts.specs.Graph.{states_in};
 ghost use Rattle.room_parts.specs.RoomGraph.{graph_in, edge_states};
-ghost use Rattle.city_count.specs.Fault.{entries_of, room_fault};
+ghost use Rattle.city_count.specs.Fault.{entries_of, lone_fault};
 ghost use Rattle.city_count.specs.Room.{ends_exist, room_code, fresh_room, answer, made, make_of, room_of, stroke_of, decide_of, undo_of, ask_of};
 
 use answers::Refusal;
@@ -143,7 +143,7 @@ impl CityCountConstraint {
         self.book.undo()
     }
 
-    // The room check: clear, or a fault whose list fills the buffer's front.
+    // The lone room check: clear, or a fault whose list fills the buffer's front.
     pub fn ask(&self, buffer: &mut [u16]) -> Result<Option<usize>, Refusal>
         ensures value { Answers (ask_of self.now (length buffer.old)) result }
         ensures buffer_after { buffer.new ≡ written (ask_of self.now (length buffer.old)) buffer.old }
@@ -173,11 +173,14 @@ fn list(states: &[u8], wall: bool, buffer: &mut [u16]) -> usize
     n
 }
 
-// The check of a graph: a fault's list goes to the buffer's front.
+// The lone room check: a fault's list goes to the buffer's front. No edges leave more parts than there are vertices.
 fn find(graph: RoomGraph<'_>, count: usize, buffer: &mut [u16]) -> Option<usize>
     requires { length graph.states.now ≤ length buffer.old }
-    ensures { Finds (room_fault (graph_in graph.entry) count (edge_states graph.entry)) buffer.old buffer.new result }
+    ensures { Finds (lone_fault (graph_in graph.entry) count (edge_states graph.entry)) buffer.old buffer.new result }
 {
+    if graph.vertices < count {
+        return Some(0);
+    }
     let wall = graph.failing(count)?;
     Some(list(graph.states, wall, buffer))
 }

@@ -1,3 +1,4 @@
 pub mod Loops
 pub mod ListsCode
 pub mod Fitting
+pub mod Alone

@@ -15,7 +15,7 @@ use Rattle.puzzle.specs.declared.Check.TheVariants.{Shape, Room}
 use Rattle.puzzle.specs.Answer.{Answer}
 use Rattle.puzzle.specs.Answer.{Clear, Fault, Refused}
 use Rattle.room_parts.specs.Graph.{graph, states_in}
-use Rattle.city_count.specs.Fault.{room_fault}
+use Rattle.city_count.specs.Fault.{lone_fault}
 use Rattle.hand_over.specs.Sorted.{sorted_once}
 use Rattle.puzzle.specs.Fault.{fault_of}
 use Rattle.clues.specs.Clues.{lists_code}
@@ -26,7 +26,7 @@ use Rattle.demand_3.specs.Demand3.{list_of, fresh_of, after}
 pub data Question : Type 0 where
   -- height, width and the borders' states, to the shape check
   board : ℕ → ℕ → List ℕ → Question
-  -- vertices, the edges' ends, count and the edges' states, to the room check
+  -- vertices, the edges' ends, count and the edges' states, to the lone room check
   room : ℕ → List ℕ → List ℕ → ℕ → List ℕ → Question
   -- height, width, given walls and clues, and calls, to the next ask
   puzzle : ℕ → ℕ → List ℕ → List ℕ → List Call → Question
@@ -52,7 +52,7 @@ tells (Refused n) l = refused n
 
 abbrev pub told : Question → Told
 told (board h w states) = found_by (fault Shape) (shape_fault translates (grid h w) states)
-told (room n us vs k states) = found_by list (room_fault (graph n (length us) us vs) k (states_in states))
+told (room n us vs k states) = found_by list (lone_fault (graph n (length us) us vs) k (states_in states))
 told (puzzle h w given clues calls) =
     let a = ask_of (after Translates h w given clues calls) (replicate (9 * (h * w)) 0) in tells a.answer (list_of a)
 told (entries l) = list (sorted_once l)
@@ -95,16 +95,20 @@ table =
     ∷ (room 3 (0 ∷ 1 ∷ []) (1 ∷ 2 ∷ []) 3 (1 ∷ 1 ∷ []) gives list (0 ∷ 2 ∷ []))
     ∷ (room 3 (0 ∷ 1 ∷ []) (1 ∷ 2 ∷ []) 1 (2 ∷ 0 ∷ []) gives list (1 ∷ []))
     -- 7.7
-    ∷ (room 2 [] [] 3 [] gives clear) ∷ (room 1 [] [] 0 [] gives list [])
+    ∷ (room 2 [] [] 3 [] gives list []) ∷ (room 1 [] [] 0 [] gives list [])
     -- more than the starred ones: a clued room's fault has the room's number and the board's borders, and shape comes before rooms
     ∷ (halves (no_clue ∷ 1 ∷ []) gives fault (Room 1) (3 ∷ [])) ∷ (halves (1 ∷ 1 ∷ []) gives fault (Room 0) (1 ∷ []))
     ∷ (halves (no_clue ∷ 2 ∷ []) gives clear)
     ∷ (puzzle 1 2 [] (2 ∷ []) (decide 0 false ∷ []) gives fault Shape (0 ∷ []))
+    -- a count above the vertices lists nothing, though the edge is Connected; a count that is the vertices lists it (SPEC 15.1)
+    ∷ (room 2 (0 ∷ []) (1 ∷ []) 3 (1 ∷ []) gives list []) ∷ (room 2 (0 ∷ []) (1 ∷ []) 2 (1 ∷ []) gives list (0 ∷ []))
+    -- without vertices count 0 is clear, and another a fault
+    ∷ (room 0 [] [] 0 [] gives clear) ∷ (room 0 [] [] 5 [] gives list [])
     ∷ []
 
 -- THE CHECK
 pub starred : map (λ (x : Example). told x.question) table ≡ map (λ (x : Example). x.answer) table
-unfolding table run stroke_code none_twice state_all names_from shape_fault room_fault lists_code together book_holds zeros no_clues states_of fault_of count sorted_once
+unfolding table run stroke_code none_twice state_all names_from shape_fault lone_fault lists_code together book_holds zeros no_clues states_of fault_of count sorted_once
 starred = refl
 
 -- the calls of the file of SPEC 7.9 (decided, decided, a fault of five entries, undone), with refused calls among them that change nothing

@@ -38,7 +38,7 @@ fn print_help(rt: &impl Print) -> io::Result<Status>
     Ok(Status::Done)
 }
 
-// `sendai 2.0.0`.
+// `sendai 2.1.0`.
 fn print_version(rt: &impl Print) -> io::Result<Status>
     ensures { IfOk result (λ status. status ≡ Done) }
 {

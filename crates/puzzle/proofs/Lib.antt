@@ -4,5 +4,6 @@ pub mod Making
 pub mod Answers
 pub mod Ready
 pub mod Finding
+pub mod Alone
 pub mod Apart
 pub mod Steps

@@ -1,4 +1,4 @@
--- Room graphs (SPEC 1.8) and the two counts of the room check (SPEC 4.14). Assumes nothing.
+-- Room graphs (SPEC 1.8) and the two numbers of the room count (SPEC 4.14). Assumes nothing.
 use Rattle.std.specs.Prelude.{ℕ, zero, suc, ◌+◌, ◌≤◌, ◌<◌, Bool, true, false, not, Option, Some, None, List, [], ◌∷◌, eqb, ltb, get_or, length, set}
 use Rattle.limits.specs.Limits.{most_cells, most_borders}
 use Rattle.lists.specs.Choice.{both, pick}

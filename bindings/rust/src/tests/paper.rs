@@ -63,8 +63,41 @@ fn two_edges() {
 
 #[test]
 fn no_edge() {
-    assert_eq!(counted(2, &[], &[], 3, &[]), None);
+    assert_eq!(counted(2, &[], &[], 3, &[]), Some(vec![]));
     assert_eq!(counted(1, &[], &[], 0, &[]), Some(vec![]));
+}
+
+/// A count above the vertices is a fault that lists nothing, drawn or not, once the buffer is long enough.
+#[test]
+fn above_the_vertices() {
+    for decisions in [&[][..], &[(0, false)], &[(0, true)]] {
+        assert_eq!(counted(2, &[0], &[1], 3, decisions), Some(vec![]));
+        assert_eq!(counted(2, &[0], &[1], 65_536 + 2, decisions), Some(vec![]));
+        assert_eq!(counted(2, &[0], &[1], u32::MAX, decisions), Some(vec![]));
+    }
+    assert_eq!(counted(2, &[0], &[1], 2, &[]), None);
+    assert_eq!(counted(2, &[0], &[1], 2, &[(0, false)]), Some(vec![0]));
+    assert_eq!(counted(1, &[], &[], 65_537, &[]), Some(vec![]));
+    assert_eq!([0, 1, 5].map(|count| counted(0, &[], &[], count, &[])), [None, Some(vec![]), Some(vec![])]);
+    let room = RoomGraph::make(2, &[0], &[1], 3).unwrap();
+    assert_eq!(room.ask(&mut []), Err(Refusal::ShortBuffer));
+    assert_eq!(Puzzle::make(1, 2, &[], &[3]), Err(Refusal::ClueValue));
+}
+
+/// A graph whose edges are all decided is clear exactly when its parts are as many as the count: a triangle with a loop, a repeat and a vertex
+/// beside it, with each count.
+#[test]
+fn full_graphs() {
+    let (us, vs) = ([0, 1, 2, 1, 0], [1, 2, 0, 1, 1]);
+    for walls in 0..32usize {
+        let is_wall = |edge: usize| walls >> edge & 1 == 1;
+        let joined = [!is_wall(0) || !is_wall(4), !is_wall(1), !is_wall(2)].iter().filter(|&&joined| joined).count();
+        let parts = 4 - joined.min(2) as u32;
+        let decisions: Vec<(usize, bool)> = (0..5).map(|edge| (edge, is_wall(edge))).collect();
+        for count in (0..8).chain([65_536 + parts, u32::MAX]) {
+            assert_eq!(counted(4, &us, &vs, count, &decisions).is_none(), count == parts, "{walls:05b}, count {count}");
+        }
+    }
 }
 
 #[test]
