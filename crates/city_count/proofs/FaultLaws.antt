@@ -16,7 +16,7 @@ use Rattle.lists.proofs.Cases.{le_or_lt, eq_or_ne, not_both}
 use Rattle.lists.proofs.ChoiceLaws.{both_true, true_both, give_some, give_none, or_else_none, or_else_some, none_or_some}
 use Rattle.borders.specs.Entry.{connected_entry, wall_entry, Standing}
 use Rattle.borders.proofs.EntryLaws.{stands_wall, wall_stands, stands_connected, connected_stands}
-use Rattle.room_parts.specs.Graph.{Graph, graph, is_connected, not_wall, connected_parts, joined_parts, tipped_of}
+use Rattle.room_parts.specs.Graph.{Graph, graph, Full, is_connected, not_wall, connected_parts, joined_parts, tipped_of}
 use Rattle.room_parts.proofs.EdgeLaws.{parts_fewer, parts_agree, parts_ends}
 use Rattle.city_count.specs.Fault.{entries_of, room_fault}
 use Rattle.city_count.proofs.EntryLaws.{in_entries, entries_in, entries_few, entries_agree}
@@ -135,10 +135,6 @@ room_excludes g count s L q t st e =
     (λ (k : Tipped g count s L). omega (arith, fewer g count s L k t st, k.below))
     (λ (k : Many g count s L). omega (arith, more g count s L k t st, k.above, connected_joined g t))
     (fault_cases g count s L q)
-
--- every edge is decided
-abbrev pub Full : Graph → (ℕ → ℕ) → Type 0
-Full g s = (i : ℕ) → i < g.edges → (s i ≡ 1) ⊎ (s i ≡ 2)
 
 -- FULL: a fully decided graph whose count is at most its vertices is clear exactly when its parts equal the count
 pub room_decides : (g : Graph) (count : ℕ) (s : ℕ → ℕ) → count ≤ g.vertices → Full g s → (room_fault g count s ≡ none) ↔ (connected_parts g s ≡ count)

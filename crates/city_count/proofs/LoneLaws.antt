@@ -12,9 +12,9 @@ use Rattle.lists.specs.Lists.{In}
 use Rattle.lists.proofs.Cases.{le_or_lt}
 use Rattle.borders.specs.Entry.{Standing}
 use Rattle.parts.proofs.PartLaws.{begun_small}
-use Rattle.room_parts.specs.Graph.{Graph, graph, is_connected, edges_if, parts_if, connected_parts}
+use Rattle.room_parts.specs.Graph.{Graph, graph, Full, is_connected, edges_if, parts_if, connected_parts}
 use Rattle.city_count.specs.Fault.{room_fault, lone_fault}
-use Rattle.city_count.proofs.FaultLaws.{Full, room_listed, room_inside, room_short, room_again, room_excludes, room_decides, room_agrees, room_ends}
+use Rattle.city_count.proofs.FaultLaws.{room_listed, room_inside, room_short, room_again, room_excludes, room_decides, room_agrees, room_ends}
 
 module _ (g : Graph) (count : ℕ) (s : ℕ → ℕ) where
   -- which of the two decides

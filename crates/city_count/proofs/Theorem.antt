@@ -21,13 +21,12 @@ use Rattle.ledger.specs.declared.Book.{Book}
 use Rattle.ledger.specs.Ledger.{Call, ledger_of}
 use Rattle.ledger.specs.Books.{zeros, fresh_book, none_given, run}
 use Rattle.ledger.proofs.BookLaws.{zeros_length}
-use Rattle.room_parts.specs.Graph.{states_in, connected_parts}
+use Rattle.room_parts.specs.Graph.{Full, states_in, connected_parts}
 use Rattle.city_count.specs.Fault.{lone_fault}
 use Rattle.city_count.specs.Room.{room_of, fresh_room, ends_exist, room_code, sizes_ok, make_of, fault_of, ask_of}
 use Rattle.city_count.specs.Run.{after_calls, state_after, graph_from}
 use Rattle.city_count.proofs.LoopLaws.{Ends, all_ends}
 use Rattle.city_count.proofs.RoomLaws.{Fits, ask_accepted}
-use Rattle.city_count.proofs.FaultLaws.{Full}
 use Rattle.city_count.proofs.LoneLaws.{lone_above, lone_listed, lone_again, lone_excludes, lone_decides, lone_agrees, lone_ends}
 use Rattle.city_count.proofs.Reached.{reached, reached_code, run_book}
 

@@ -1,5 +1,5 @@
 -- Room graphs (SPEC 1.8) and the two numbers of the room count (SPEC 4.14). Assumes nothing.
-use Rattle.std.specs.Prelude.{ℕ, zero, suc, ◌+◌, ◌≤◌, ◌<◌, Bool, true, false, not, Option, Some, None, List, [], ◌∷◌, eqb, ltb, get_or, length, set}
+use Rattle.std.specs.Prelude.{ℕ, zero, suc, ◌+◌, ◌≤◌, ◌<◌, ◌≡◌, ◌⊎◌, Bool, true, false, not, Option, Some, None, List, [], ◌∷◌, eqb, ltb, get_or, length, set}
 use Rattle.limits.specs.Limits.{most_cells, most_borders}
 use Rattle.lists.specs.Choice.{both, pick}
 use Rattle.parts.specs.Parts.{Edge, edge, begun, root, merge}
@@ -24,6 +24,10 @@ edge_at g i = edge (get_or g.us i 0) (get_or g.vs i 0)
 -- a list of states, as the state of each edge
 abbrev pub states_in : List ℕ → ℕ → ℕ
 states_in l i = get_or l i 0
+
+-- every edge is decided
+abbrev pub Full : Graph → (ℕ → ℕ) → Type 0
+Full g s = (i : ℕ) → i < g.edges → (s i ≡ 1) ⊎ (s i ≡ 2)
 
 abbrev pub is_state : ℕ → ℕ → Bool
 is_state k x = eqb x k
