@@ -14,7 +14,7 @@ use Rattle.case_file.specs.declared.Call.{Call}
 use Rattle.case_file.specs.declared.Call.TheVariants.{Undo, Decide, Ask}
 use Rattle.std.specs.Prelude.{Some, None}
 use Rattle.case_file.specs.Sound.{numbers_of, many_of, call_of, calls_of, call_list_of}
-use Rattle.case_file.specs.Layout.{word_at, numbers_at, span_of, size_of, step_at, counted_at}
+use Rattle.case_file.specs.Layout.{word_at, numbers_at, span_of, size_of, step_at, behind_at, counted_at}
 use Rattle.case_file.proofs.ReadLaws.{word_at_lem, word_out, many_at, many_out, numbers_length, call_out, call_undo, call_ask, call_other, call_cut, call_decide}
 
 module _ (bs : List ℕ) (at : ℕ) where
@@ -87,6 +87,24 @@ module _ (bs : List ℕ) (at : ℕ) where
       (λ (o : Whole). let f : None ≡ Some (o.0, at + size_of o.0) = simp o.1 at q in let z : ◌≡◌ {A = ℕ} 0 1 = cc in absurd (omega arith))
       call_cases
 
+  -- the byte behind a call is behind one that is sound
+  behind_call : (next : ℕ) → Some next ≡ behind_at at (call_of (drop at bs)) → (c : Call) × (call_of (drop at bs) ≡ some (c, drop next bs)) × (next ≤ length bs)
+  behind_call next q =
+      ⊎_elim
+      (λ (e : call_of (drop at bs) ≡ none). let f : Some next ≡ None = simp e at q in let z : ◌≡◌ {A = ℕ} 0 1 = cc in absurd (omega arith))
+      (λ (o : Whole).
+      let f : Some next ≡ Some (at + size_of o.0) = simp o.1 at q in
+      let n : next ≡ at + size_of o.0 = cc in
+      (o.0, rw n o.1, rw n o.2))
+      call_cases
+
+  pub behind_unsound : None ≡ behind_at at (call_of (drop at bs)) → call_of (drop at bs) ≡ none
+  behind_unsound q =
+      ⊎_elim
+      (λ e. e)
+      (λ (o : Whole). let f : None ≡ Some (at + size_of o.0) = simp o.1 at q in let z : ◌≡◌ {A = ℕ} 0 1 = cc in absurd (omega arith))
+      call_cases
+
 -- what a list of calls leaves behind it
 abbrev behind_of : Option (List Call × List ℕ) → Option (List ℕ)
 behind_of none = none
@@ -151,13 +169,13 @@ pub record Walking (bs : List ℕ) (start count next k : ℕ) : Type 0 where
   pub left : behind_of (calls_of (count - k) (drop next bs)) ≡ behind_of (calls_of count (drop start bs))
 
 module _ {bs : List ℕ} {start count next k : ℕ} (f : Walking bs start count next k) where
-  pub walking_next : k < count → (c : Call) (behind : ℕ) → Some (c, behind) ≡ step_at next (call_of (drop next bs)) → Walking bs start count behind (k + 1)
-  walking_next h c behind q =
-      let o = step_call bs next c behind q in
+  pub walking_next : k < count → (behind : ℕ) → Some behind ≡ behind_at next (call_of (drop next bs)) → Walking bs start count behind (k + 1)
+  walking_next h behind q =
+      let o = behind_call bs next behind q in
       let e : count - k ≡ suc (count - (k + 1)) = omega arith in
       record {
-        inside = o.1;
-        left = sym (calls_turn (count - (k + 1)) (drop next bs) (drop behind bs) c o.0) ∙ rw e at f.left;
+        inside = o.2;
+        left = sym (calls_turn (count - (k + 1)) (drop next bs) (drop behind bs) o.0 o.1) ∙ rw e at f.left;
       }
 
   pub walking_stop : k < count → call_of (drop next bs) ≡ none → calls_of count (drop start bs) ≡ none

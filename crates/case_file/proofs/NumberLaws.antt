@@ -1,6 +1,6 @@
 -- The numbers of a list: how many there are, the k-th, and the loop that copies them. Assumes nothing.
 use Prim.Native.Nat.{ℕ, zero, suc, ◌+◌, ◌*◌, ◌-◌, ◌/◌, ◌≤◌, ◌<◌, min}
-use mathlib.Core.Path.{◌≡◌, refl, sym, ap, ◌∙◌}
+use mathlib.Core.Path.{◌≡◌, refl, ap, ◌∙◌}
 use mathlib.Core.List.{List, [], ◌∷◌, ◌++◌, append-nil}
 use native.Mathlib.Omega.{arith}
 use native.Mathlib.Numerals.{add-one}
@@ -10,8 +10,6 @@ use lib.Seq.{drop-cons, sets, sets-eq, length-take-le, get_or-take, get_or-drop}
 use Rattle.lists.proofs.SetsLaws.{front_written}
 use borrow.Author.Tests.{le-leb}
 use Rattle.lists.specs.Choice.{pick}
-use Rattle.std.specs.Prelude.{Option, Some, None, MatchOption}
-use Rattle.std.specs.Option.{unwrap_or}
 use Rattle.answers.specs.Answers.{refused, listed, written}
 use Rattle.case_file.specs.Sound.{words_of}
 use Rattle.case_file.specs.Layout.{word_at, numbers_at}
@@ -49,13 +47,6 @@ module _ (bs : List ℕ) (at count : ℕ) where
       let e : at + (2 * k + 1) ≡ at + 2 * k + 1 = omega arith in
       words_at (take (2 * count) (drop at bs)) k (omega (arith, numbers_count))
       ∙ rw (byte_in (2 * k) (omega (arith, numbers_count)), byte_in (2 * k + 1) (omega (arith, numbers_count)), e)
-
-  -- and is read there
-  pub number_read : (k : ℕ) (read : Option ℕ) {n : ℕ} → k < n → n ≡ length (numbers_at bs at count)
-      → MatchOption read (length bs < at + 2 * k + 2) (λ word. (at + 2 * k + 2 ≤ length bs) × (word ≡ word_at bs (at + 2 * k)))
-      → unwrap_or read 0 ≡ get_or (numbers_at bs at count) k 0
-  number_read k None h e m = absurd (omega (arith, m, number_in k h e))
-  number_read k (Some word) h e m = m.1 ∙ sym (number_at k h e)
 
 -- The loop that copies the numbers xs: the rest of them, stored from place k on, gives all of them stored from place 0 on.
 pub record Copying (xs out₀ out : List ℕ) (k : ℕ) : Type 0 where

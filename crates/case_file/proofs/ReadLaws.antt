@@ -14,7 +14,8 @@ use Rattle.lists.specs.Choice.{give, through}
 use Rattle.lists.proofs.Cases.{le_or_lt, eq_or_ne}
 use Rattle.case_file.specs.declared.Call.TheVariants.{Undo, Decide, Ask}
 use Rattle.case_file.specs.Sound.{byte_of, word_of, words_of, many_of, decide_of, kind_of, call_of}
-use Rattle.case_file.specs.Layout.{word_at, numbers_at}
+use Rattle.std.specs.Prelude.{Some}
+use Rattle.case_file.specs.Layout.{word_at, numbers_at, behind_at}
 
 module _ (bs : List ℕ) (at : ℕ) where
   pub byte_at : at < length bs → byte_of (drop at bs) ≡ some (get_or bs at 0, drop (at + 1) bs)
@@ -101,6 +102,14 @@ module _ (bs : List ℕ) (at : ℕ) where
 
   pub call_ask : at < length bs → get_or bs at 0 ≡ 3 → call_of (drop at bs) ≡ some (Ask, drop (at + 1) bs)
   call_ask h e = call_kind h ∙ kind_ask (get_or bs at 0) (drop (at + 1) bs) e
+
+  -- a kind that is neither a decide's nor unsound is a call of one byte
+  pub call_short : at < length bs → get_or bs at 0 ≤ 3 → get_or bs at 0 ≢ 1 → get_or bs at 0 ≢ 2 → Some (at + 1) ≡ behind_at at (call_of (drop at bs))
+  call_short h l a b =
+      ⊎_elim
+      (λ (e : get_or bs at 0 ≡ 0). simp (call_undo h e))
+      (λ (z : get_or bs at 0 ≢ 0). let e : get_or bs at 0 ≡ 3 = omega arith in simp (call_ask h e))
+      (eq_or_ne (get_or bs at 0) 0)
 
   pub call_other : at < length bs → 3 < get_or bs at 0 → call_of (drop at bs) ≡ none
   call_other h e = call_kind h ∙ kind_other (get_or bs at 0) (drop (at + 1) bs) e

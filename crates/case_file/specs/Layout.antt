@@ -35,6 +35,11 @@ abbrev pub step_at : ℕ → Option (Call × List ℕ) → std.Option (Call × �
 step_at at none = None
 step_at at (some c) = Some (c.0, at + size_of c.0)
 
+-- the byte behind a call read at a byte
+abbrev pub behind_at : ℕ → Option (Call × List ℕ) → std.Option ℕ
+behind_at at none = None
+behind_at at (some c) = Some (at + size_of c.0)
+
 abbrev pub span_of : ℕ → ℕ → Span
 span_of at count = record { at = at; count = count }
 

@@ -6,7 +6,7 @@ ghost use Rattle.std.specs.Prelude.{◌≡◌, ◌+◌, ◌≤◌, ◌<◌, leng
 ghost use Rattle.answers.specs.Answers.{written};
 ghost use Rattle.answers.specs.Refusals.{Lists, code_of};
 ghost use Rattle.case_file.specs.Sound.{decode_of, numbers_of, call_list_of, call_of};
-ghost use Rattle.case_file.specs.Layout.{word_at, numbers_at, counted_at, step_at, parts_of, file_of, refusal_of, numbers_into};
+ghost use Rattle.case_file.specs.Layout.{word_at, numbers_at, counted_at, step_at, behind_at, parts_of, file_of, refusal_of, numbers_into};
 
 use answers::Refusal;
 
@@ -35,12 +35,22 @@ pub struct Layout {
     pub calls: Span,
 }
 
-// The 16-bit number at a byte, big-endian, if the file does not end before it or in it.
+// The 16-bit number at a byte, big-endian, where the file has both of its bytes.
+fn word_there(file: &[u8], at: usize) -> u16
+    requires { at + 1 < length file.now }
+    ensures { result ≡ word_at file.now at }
+{
+    u16::from_be_bytes([file[at], file[at + 1]])
+}
+
+// The same, if the file does not end before it or in it.
 pub fn word(file: &[u8], at: usize) -> Option<u16>
     ensures { MatchOption result (length file.now < at + 2) (λ word. (at + 2 ≤ length file.now) × (word ≡ word_at file.now at)) }
 {
-    let &bytes = file.get(at..)?.first_chunk::<2>()?;
-    Some(u16::from_be_bytes(bytes))
+    if file.len() <= at || file.len() - at < 2 {
+        return None;
+    }
+    Some(word_there(file, at))
 }
 
 // The call at a byte and the byte behind it, if there is one that is sound.
@@ -51,12 +61,33 @@ pub fn call_at(file: &[u8], at: usize) -> Option<(Call, usize)>
     match kind {
         0 => Some((Call::Undo, at + 1)),
         1 | 2 => {
-            let border = usize::from(word(file, at + 1)?);
+            if file.len() - at < 3 {
+                return None;
+            }
+            let border = usize::from(word_there(file, at + 1));
             Some((Call::Decide(border, kind == 2), at + 3))
         }
         3 => Some((Call::Ask, at + 1)),
         _ => None,
     }
+}
+
+// The byte behind the call at a byte, if there is one that is sound. An ask and an undo go the same way, so that a list of both
+// goes one way throughout.
+fn behind(file: &[u8], at: usize) -> Option<usize>
+    ensures { result ≡ behind_at at (call_of (drop at file.now)) }
+{
+    let &kind = file.get(at)?;
+    if 3 < kind {
+        return None;
+    }
+    if kind != 1 && kind != 2 {
+        return Some(at + 1);
+    }
+    if file.len() - at < 3 {
+        return None;
+    }
+    Some(at + 3)
 }
 
 // The list of numbers whose count stands at a byte, and the byte behind it, if the file has room for it.
@@ -78,7 +109,7 @@ fn calls_at(file: &[u8], at: usize) -> Option<(Span, usize)>
     let count = usize::from(word(file, at)?);
     let mut next = at + 2;
     for _ in 0..count {
-        (_, next) = call_at(file, next)?;
+        next = behind(file, next)?;
     }
     Some((Span { at: at + 2, count }, next))
 }
@@ -131,7 +162,7 @@ pub fn number(file: &[u8], list: Span, k: usize) -> usize
     if reach(file, list) <= k {
         return 0;
     }
-    usize::from(word(file, list.at + 2 * k).unwrap_or(0))
+    usize::from(word_there(file, list.at + 2 * k))
 }
 
 // Writes the numbers of a list of the file to the buffer's first places, and answers how many.
@@ -144,7 +175,7 @@ pub fn numbers(file: &[u8], list: Span, buffer: &mut [u16]) -> Result<usize, Ref
         return Err(Refusal::ShortBuffer);
     }
     for (k, number) in buffer[..n].iter_mut().enumerate() {
-        *number = word(file, list.at + 2 * k).unwrap_or(0);
+        *number = word_there(file, list.at + 2 * k);
     }
     Ok(n)
 }

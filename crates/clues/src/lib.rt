@@ -1,8 +1,9 @@
 // What a puzzle's making asks of its lists, the given walls and the clues: questions 3, 7, 8 and 9.
 #![tactic(auto)]
 
-ghost use Rattle.std.specs.Prelude.{◌≡◌, ◌≤◌, length};
+ghost use Rattle.std.specs.Prelude.{◌≡◌, ◌≤◌, ltb, length};
 ghost use Rattle.limits.specs.Limits.{most_cells};
+ghost use Rattle.lists.specs.Lists.{all};
 ghost use Rattle.answers.specs.Refusals.{code_of};
 ghost use Rattle.grid.specs.Grid.{Limits, cells};
 ghost use Rattle.rooms.specs.Lent.{Given};
@@ -10,6 +11,16 @@ ghost use Rattle.clues.specs.Clues.{rises, all_fit, rooms_code, lists_code};
 
 use answers::Refusal;
 use grid::Grid;
+
+// Question 3: each given wall is below n. A list that is longer than any that rises is read up to its first number that is too large, and no further.
+fn exist(given: &[u16], n: usize) -> bool
+    ensures { result ≡ all (λ e. ltb e n) given.now }
+{
+    if limits::BORDERS < given.len() {
+        return given.iter().all(|&wall| usize::from(wall) < n);
+    }
+    lists::all_below(given, n)
+}
 
 // Question 7: the given walls rise strictly.
 fn rise(given: &[u16]) -> bool
@@ -52,7 +63,7 @@ pub fn check_lists(grid: Grid, given: &[u16], clues: &[u16]) -> Result<(), Refus
     requires { Limits grid }
     ensures { code_of result ≡ lists_code grid given.now clues.now }
 {
-    if !lists::all_below(given, grid.border_count()) {
+    if !exist(given, grid.border_count()) {
         return Err(Refusal::Missing);
     }
     if !rise(given) {

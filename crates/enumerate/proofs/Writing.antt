@@ -10,12 +10,20 @@ use native.Mathlib.Nat.{add-zero, suc-mul, mul-le-mul_right}
 use native.Mathlib.Numerals.{add-one}
 use borrow.Author.Tests.{lt-ltb, le-ltb}
 use lib.Dec.{ltb}
-use lib.ListN.{length, take}
-use lib.Seq.{sets, length-sets}
+use lib.ListN.{length, take, drop, set, get_or, drop_of_length-le}
+use lib.Seq.{sets, length-sets, drop-cons}
 use Rattle.lists.specs.Lists.{In, gather}
 use Rattle.lists.proofs.Cases.{le_or_lt}
 use Rattle.lists.proofs.SetsLaws.{sets_append}
 use Rattle.enumerate.specs.Search.{Written, written, add, add_all, Fits}
+
+-- a turn of the loop that writes a board, and its end
+module _ (board boards : List ℕ) (at i : ℕ) where
+  pub write_turn : i < length board → sets boards (at + i) (drop i board) ≡ sets (set boards (at + i) (get_or board i 0)) (at + (i + 1)) (drop (i + 1) board)
+  write_turn h = let e : at + (i + 1) ≡ suc (at + i) = omega arith in rw (drop-cons board i 0 h, e, add-one)
+
+  pub write_end : length board ≤ i → sets boards (at + i) (drop i board) ≡ boards
+  write_end h = rw (drop_of_length-le board {i = i} h)
 
 pub all_append : (w : Written) (a b : List (List ℕ)) → add_all w (a ++ b) ≡ add_all (add_all w a) b
 unfolding add_all

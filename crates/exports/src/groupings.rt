@@ -1,11 +1,21 @@
 // The groups' calls. The part of the buffer that a group's hand-out is cannot be returned here: it is copied to a second one.
-ghost use Rattle.std.specs.Prelude.{◌≡◌, length};
+ghost use Rattle.std.specs.Prelude.{◌≡◌, ◌≤◌, length};
 ghost use Rattle.std.proofs.lemmas.List.Edits.{sets};
 ghost use Rattle.groups.specs.Info.{grouping_of, buffer_of, hand_out_of};
 ghost use Rattle.exports.specs.Groups.{copied_of};
 
 use board::Board;
 use groups::{GroupInfo, Grouping};
+
+// Copies a part to the front of `out`. A loop, as the compiler would leave copy_from_slice a memmove, which the archive needs nowhere else.
+fn copy(part: &[u16], out: &mut [u16])
+    requires { length part.now ≤ length out.old }
+    ensures { out.new ≡ sets out.old 0 part.now }
+{
+    for (i, &cell) in part.iter().enumerate() {
+        out[i] = cell;
+    }
+}
 
 #[unsafe(no_mangle)]
 pub extern "C" fn sendai_groups(b: Board, is_potential: bool, buffer: &mut [u16]) -> Grouping
@@ -26,6 +36,6 @@ pub extern "C" fn sendai_group(i: GroupInfo, buffer: &[u16], k: usize, out: &mut
     if out.len() < part.len() {
         return 0;
     }
-    out[..part.len()].copy_from_slice(part);
+    copy(part, out);
     part.len()
 }

@@ -3,8 +3,8 @@ use Prim.Native.Nat.{ℕ, ◌+◌, ◌*◌, ◌-◌, ◌/◌, ◌%◌, ◌≤◌
 use mathlib.Core.Path.{◌≡◌, refl, sym, ap, ◌∙◌}
 use mathlib.Core.List.{List, [], ◌∷◌, ◌++◌}
 use native.Mathlib.Omega.{arith}
-use lib.ListN.{length, get_or, take, length-append}
-use lib.Seq.{length-sets, take_all}
+use lib.ListN.{length, get_or, set, take, length-append}
+use lib.Seq.{sets, length-sets, take_all}
 use Rattle.std.proofs.Common.{append_assoc, append-nil}
 use Rattle.std.proofs.lemmas.List.{take_more}
 use mathlib.Core.Logic.{◌≢◌, inl, inr}
@@ -35,18 +35,17 @@ writes_both {xs} {ys} {p} v w = record {
 }
 
 -- a digit behind the others
-module _ (places n : ℕ) (z : places ≢ 0) where
-  pub one_digit : {p q : Pen} → n < 10 → Writes ((48 + n % 10) ∷ []) p q → Writes (digits_of places n) p q
-  one_digit h w = rw (digits_one places n z h) w
+module _ (places n at : ℕ) (buffer : List ℕ) (z : places ≢ 0) where
+  pub one_digit : n < 10 → (at + 1 ≡ at + length (digits_of places n)) × (set buffer at (48 + n % 10) ≡ sets buffer at (digits_of places n))
+  one_digit h = rw (digits_one places n z h) (refl, refl)
 
-  pub last_digit : {p q r : Pen} → 10 ≤ n → Writes (digits_of (places - 1) (n / 10)) p q → Writes ((48 + n % 10) ∷ []) q r → Writes (digits_of places n) p r
-  last_digit h v w = rw (digits_more places n z h) (writes_both v w)
+  pub more_digits : 10 ≤ n → at + length (digits_of places n) ≡ at + length (digits_of (places - 1) (n / 10)) + 1
+  more_digits h = rw (digits_more places n z h) (simp length-append (omega arith))
 
-  pub one_length : n < 10 → length (digits_of places n) ≡ 1
-  one_length h = ap length (digits_one places n z h)
-
-  pub more_length : 10 ≤ n → length (digits_of places n) ≡ length (digits_of (places - 1) (n / 10)) + 1
-  more_length h = ap length (digits_more places n z h) ∙ length-append (digits_of (places - 1) (n / 10)) ((48 + n % 10) ∷ [])
+  pub last_digit : {mid : List ℕ} {last : ℕ} → 10 ≤ n → last ≡ at + length (digits_of (places - 1) (n / 10)) → mid ≡ sets buffer at (digits_of (places - 1) (n / 10))
+      → (last + 1 ≡ at + length (digits_of places n)) × (set mid last (48 + n % 10) ≡ sets buffer at (digits_of places n))
+  last_digit h e m =
+      (rw (more_digits h, e), rw (digits_more places n z h, m, e) (sym (sets_append (digits_of (places - 1) (n / 10)) ((48 + n % 10) ∷ []) buffer at)))
 
 pub spaced_none : {p : Pen} → Writes (spaced_of []) p p
 unfolding spaced_of gather

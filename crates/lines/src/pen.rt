@@ -1,5 +1,6 @@
 // A buffer that is written from its front on.
-ghost use Rattle.std.specs.Prelude.{◌+◌, ◌*◌, ◌≤◌, ◌<◌, length};
+ghost use Rattle.std.specs.Prelude.{◌≡◌, ◌+◌, ◌*◌, ◌≤◌, ◌<◌, length};
+ghost use Rattle.std.proofs.lemmas.List.Edits.{sets};
 ghost use Rattle.lines.specs.Decimal.{digits_of, decimal_of};
 ghost use Rattle.lines.specs.Line.{spaced_of, line_of, needed};
 ghost use Rattle.lines.specs.Pen.{Writes, words_of};
@@ -11,6 +12,26 @@ use crate::Line;
 pub struct Pen<'a> {
     pub buffer: &'a mut [u8],
     pub len: usize,
+}
+
+// Writes a number in decimal, of at most so many digits, and answers the place behind it. For speed the place is a value, not behind
+// a reference, and a number's first digit has its own way out.
+fn digits(n: usize, places: usize, buffer: &mut [u8], at: usize) -> usize
+    requires { at + length (digits_of places n) ≤ length buffer.old }
+    ensures value { result ≡ at + length (digits_of places n) }
+    ensures buffer_after { buffer.new ≡ sets buffer.old at (digits_of places n) }
+{
+    if places == 0 {
+        return at;
+    }
+    let digit = b'0' + (n % 10) as u8;
+    if n < 10 {
+        buffer[at] = digit;
+        return at + 1;
+    }
+    let last = digits(n / 10, places - 1, buffer, at);
+    buffer[last] = digit;
+    last + 1
 }
 
 impl Pen<'_> {
@@ -26,13 +47,7 @@ impl Pen<'_> {
         requires { self.old.len + length (digits_of places n) ≤ length self.old.buffer.now }
         ensures { Writes (digits_of places n) self.old self.new }
     {
-        if places == 0 {
-            return;
-        }
-        if 10 <= n {
-            self.digits(n / 10, places - 1);
-        }
-        self.put(&[b'0' + (n % 10) as u8]);
+        self.len = digits(n, places, self.buffer, self.len);
     }
 
     // A refusal's number.

@@ -112,13 +112,19 @@ impl RoomGraph<'_> {
     }
 }
 
-// Marks the later end of an edge that is no Wall.
+// Marks the later end of an edge that is no Wall. Each end has a branch of its own: with one store for both, the loop over the edges is
+// compiled to take eight at a time and store each alone, which is slower.
 fn mark_later(marks: &mut [u8; CELLS], state: u8, u: usize, v: usize)
     requires { (u < most_cells) × (v < most_cells) }
     ensures { marks.new ≡ later_marked state u v marks.old }
 {
-    if state != 2 && u != v {
-        marks[u.max(v)] = 1;
+    if state == 2 {
+        return;
+    }
+    if u < v {
+        marks[v] = 1;
+    } else if v < u {
+        marks[u] = 1;
     }
 }
 

@@ -17,7 +17,8 @@ use Rattle.shape.specs.Shape.{head_or0}
 use Rattle.cell_words.specs.declared.Near.{Near}
 use Rattle.cell_words.specs.Marks.{Stamping}
 use Rattle.cell_words.specs.Cells.{Stamped, Restamped}
-use Rattle.row_trials.specs.Rows.{row_good, rows_good, NearRows}
+use Rattle.cell_words.proofs.NearLaws.{same_lists, same_then}
+use Rattle.row_trials.specs.Rows.{row_good, rows_good, NearRows, Held}
 
 any_next : (p : ℕ → Bool) (n i : ℕ) → i < n → any p (count_from i (n - i)) ≡ either (p i) (any p (count_from (i + 1) (n - (i + 1))))
 unfolding any
@@ -28,15 +29,15 @@ unfolding any
 any_last p n i h = rw (count_from_end n i h)
 
 -- what is left of the rows, from t on
-pub record RowsWalk (m : Image) (g : Grid) (states : List ℕ) (table : List CellInfo) (cs : List ℕ) (f from to : ℕ) (near : Near) (t : ℕ) : Type 0 where
+pub record RowsWalk (m : Image) (g : Grid) (states : List ℕ) (table : List CellInfo) (cs : List ℕ) (f from to : ℕ) (near₀ near : Near) (t : ℕ) : Type 0 where
   pub rest : rows_good m g states table cs f t to ≡ rows_good m g states table cs f from to
-  pub stamped : Stamped g states (potentials_in g table) near
+  pub held : Held g states (potentials_in g table) near₀ near
 
 module _ {m : Image} {g : Grid} {states : List ℕ} {table : List CellInfo} {cs : List ℕ} {f from to : ℕ} where
-  pub rows_start : {near : Near} → Stamped g states (potentials_in g table) near → RowsWalk m g states table cs f from to near from
-  rows_start s = record { rest = refl; stamped = s }
+  pub rows_start : {near : Near} → Stamped g states (potentials_in g table) near → RowsWalk m g states table cs f from to near near from
+  rows_start {near} s = record { rest = refl; held = record { stamped = s; same = same_lists near } }
 
-  module _ {near : Near} {t : ℕ} (w : RowsWalk m g states table cs f from to near t) where
+  module _ {near₀ near : Near} {t : ℕ} (w : RowsWalk m g states table cs f from to near₀ near t) where
     pub rows_end : to ≤ t → false ≡ rows_good m g states table cs f from to
     rows_end h = sym (any_last (row_good m g states table cs f) to t h) ∙ w.rest
 
@@ -48,8 +49,8 @@ module _ {m : Image} {g : Grid} {states : List ℕ} {table : List CellInfo} {cs 
       rows_found e q = rw (sym e ∙ q) at left
 
       pub rows_turn : {p a b : ℕ} {near' : Near} → Restamped g states (potentials_in g table) p a b near near' → {r : Bool} → r ≡ row_good m g states table cs f t → r ≡ false
-          → RowsWalk m g states table cs f from to near' (t + 1)
-      rows_turn s e q = record { rest = (rw (sym e ∙ q) at left); stamped = s.stamped }
+          → RowsWalk m g states table cs f from to near₀ near' (t + 1)
+      rows_turn s e q = record { rest = (rw (sym e ∙ q) at left); held = record { stamped = s.stamped; same = same_then w.held.same s.same } }
 
 own_is : (table : List CellInfo) (cs : List ℕ) {first : CellInfo} → first ≡ get_or table (head_or0 cs) blank → first.potential ≡ potential_in table (head_or0 cs)
 own_is table cs e = ap (λ (i : CellInfo). i.potential) e

@@ -10,7 +10,8 @@ use Rattle.offsets.specs.declared.table.CellInfo.{CellInfo}
 use Rattle.offsets.specs.Table.{potential_in, potentials_in}
 use Rattle.offsets.specs.Trial.{tried_from}
 use Rattle.words.specs.Words.{bit, reads}
-use Rattle.cell_words.specs.Cells.{NearRow}
+use Rattle.cell_words.specs.declared.Near.{Near}
+use Rattle.cell_words.specs.Cells.{NearRow, Stamped, SameLists}
 
 -- the offset of image m that puts f on column x of row t is good (SPEC 4.8, 4.9, 14.2)
 abbrev pub good_at : Image → Grid → List ℕ → List CellInfo → List ℕ → ℕ → ℕ → ℕ → Bool
@@ -40,3 +41,8 @@ pub record NearRows (g : Grid) (states : List ℕ) (table : List CellInfo) (cs :
   pub high : t + tall < g.height
   pub long : g.height ≤ length near
   pub says : (y : ℕ) → t ≤ y → y ≤ t + tall → NearRow g states (potentials_in g table) (potential_in table (head_or0 cs)) near y
+
+-- the stamps hold, and the lists are those that were lent, as long as they were
+pub record Held (g : Grid) (states pids : List ℕ) (near near' : Near) : Type 0 where
+  pub stamped : Stamped g states pids near'
+  pub same : SameLists near near'

@@ -8,8 +8,8 @@ ghost use Rattle.offsets.specs.Trial.{fits_as};
 ghost use Rattle.words.specs.Words.{Readable};
 ghost use Rattle.cell_words.specs.Cells.{Stamped};
 ghost use Rattle.row_trials.specs.Coded.{Asking};
-ghost use Rattle.row_trials.specs.Rows.{rows_good, left_at, Found};
-ghost use Rattle.row_trials.specs.Words.{Prepared};
+ghost use Rattle.row_trials.specs.Rows.{rows_good, left_at, Found, Held};
+ghost use Rattle.row_trials.specs.Words.{Left};
 
 use cell_words::Near;
 use cell_words::marked::Marked;
@@ -46,7 +46,7 @@ impl Coded<'_> {
         requires stamped { Stamped self.now.trial.unit.chart.borders.grid self.now.trial.unit.chart.borders.states.now (potentials_in self.now.trial.unit.chart.borders.grid self.now.trial.unit.chart.table.now) near.old }
         requires from_le_to { (from ≤ to) × (to ≤ self.now.trial.unit.chart.borders.grid.height - self.now.rows.tall) }
         ensures value { result ≡ rows_good self.now.image self.now.trial.unit.chart.borders.grid self.now.trial.unit.chart.borders.states.now self.now.trial.unit.chart.table.now self.now.trial.unit.cells.now self.now.rows.top from to }
-        ensures stamped { Stamped self.now.trial.unit.chart.borders.grid self.now.trial.unit.chart.borders.states.now (potentials_in self.now.trial.unit.chart.borders.grid self.now.trial.unit.chart.table.now) near.new }
+        ensures held { Held self.now.trial.unit.chart.borders.grid self.now.trial.unit.chart.borders.states.now (potentials_in self.now.trial.unit.chart.borders.grid self.now.trial.unit.chart.table.now) near.old near.new }
     {
         let unit = self.trial.unit;
         let marked = Marked {
@@ -71,7 +71,7 @@ impl Coded<'_> {
         requires stamped { Stamped self.now.trial.unit.chart.borders.grid self.now.trial.unit.chart.borders.states.now (potentials_in self.now.trial.unit.chart.borders.grid self.now.trial.unit.chart.table.now) near.old }
         requires row_in { row < self.now.trial.unit.chart.borders.grid.height }
         ensures value { result ≡ fits_as self.now.trial.unit.chart.borders.grid self.now.trial.unit.chart.borders.states.now self.now.trial.unit.chart.table.now self.now.trial.unit.cells.now self.now.image }
-        ensures stamped { Stamped self.now.trial.unit.chart.borders.grid self.now.trial.unit.chart.borders.states.now (potentials_in self.now.trial.unit.chart.borders.grid self.now.trial.unit.chart.table.now) near.new }
+        ensures held { Held self.now.trial.unit.chart.borders.grid self.now.trial.unit.chart.borders.states.now (potentials_in self.now.trial.unit.chart.borders.grid self.now.trial.unit.chart.table.now) near.old near.new }
     {
         let tall = self.rows.tall;
         let end = self
@@ -101,7 +101,7 @@ fn fits_turned(
     requires asking { Asking trial.unit.chart.borders.grid trial.unit.chart.borders.states.now trial.unit.cells.now full words.now (length codes.old) (length borders.old) }
     requires stamped { Stamped trial.unit.chart.borders.grid trial.unit.chart.borders.states.now (potentials_in trial.unit.chart.borders.grid trial.unit.chart.table.now) near.old }
     ensures value { result ≡ fits_as trial.entry.unit.chart.borders.grid trial.entry.unit.chart.borders.states.now trial.entry.unit.chart.table.now trial.entry.unit.cells.now image }
-    ensures stamped { Stamped trial.entry.unit.chart.borders.grid trial.entry.unit.chart.borders.states.now (potentials_in trial.entry.unit.chart.borders.grid trial.entry.unit.chart.table.now) near.new }
+    ensures held { Held trial.entry.unit.chart.borders.grid trial.entry.unit.chart.borders.states.now (potentials_in trial.entry.unit.chart.borders.grid trial.entry.unit.chart.table.now) near.old near.new }
 {
     let unit = trial.unit;
     let rows = find_rows(unit, image);
@@ -133,9 +133,10 @@ fn fits_turned(
 // Whether an image of a unit fits somewhere, whose adjacent potential units are marked. A translate has a branch of its own, which turns nothing:
 // one for all images took up to a fifth longer.
 pub fn fits(trial: Trial<'_>, image: Image, words: &mut UnitWords<'_>) -> bool
-    requires { Prepared trial.unit.chart.borders.grid trial.unit.chart.borders.states.now trial.unit.chart.table.now words.old }
+    requires asking { Asking trial.unit.chart.borders.grid trial.unit.chart.borders.states.now trial.unit.cells.now words.old.full words.old.board.now (length words.old.codes.now) (length words.old.borders.now) }
+    requires stamped { Stamped trial.unit.chart.borders.grid trial.unit.chart.borders.states.now (potentials_in trial.unit.chart.borders.grid trial.unit.chart.table.now) words.old.near }
     ensures value { result ≡ fits_as trial.entry.unit.chart.borders.grid trial.entry.unit.chart.borders.states.now trial.entry.unit.chart.table.now trial.entry.unit.cells.now image }
-    ensures prepared { Prepared trial.entry.unit.chart.borders.grid trial.entry.unit.chart.borders.states.now trial.entry.unit.chart.table.now words.new }
+    ensures left { Left trial.entry.unit.chart.borders.grid trial.entry.unit.chart.borders.states.now trial.entry.unit.chart.table.now words.old words.new }
 {
     if image == TRANSLATE {
         return fits_turned(

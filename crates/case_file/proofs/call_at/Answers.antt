@@ -17,15 +17,15 @@ returns-in-3 c =
     let a = c.args in let h = c.in_ok-kind.ensures.lookup.3 in
     simp (call_ask a.file.now a.at h.0 (sym (h.1 0) ∙ c.in-3.is))
 
-pub returns-in_err-word-in-1 : goal.returns-in_err-word-in-1
-returns-in_err-word-in-1 c =
+pub returns-then-file-at-lt3 : goal.returns-then-file-at-lt3
+returns-then-file-at-lt3 c =
     let a = c.args in let h = c.in_ok-kind.ensures.lookup.3 in
-    rw c.from_residual-in_err-word-in-1.ensures (simp (call_cut a.file.now a.at (omega (arith, c.in_err-word-in-1.ensures)) h.0 (omega (arith, h.1 0)) (omega (arith, h.1 0)) (omega (arith, h.1 0))))
+    simp (call_cut a.file.now a.at (omega arith) h.0 (omega (arith, h.1 0)) (omega (arith, h.1 0)) (omega (arith, h.1 0)))
 
-pub returns-in_ok-word-in-1 : goal.returns-in_ok-word-in-1
-returns-in_ok-word-in-1 c =
+pub returns-else-file-at-lt3 : goal.returns-else-file-at-lt3
+returns-else-file-at-lt3 c =
     let a = c.args in let h = c.in_ok-kind.ensures.lookup.3 in
-    simp (c.from-border.ensures, c.in_ok-word-in-1.ensures.1, h.1 0, call_decide a.file.now a.at (omega (arith, c.in_ok-word-in-1.ensures.0)) (omega (arith, h.1 0)) (omega (arith, h.1 0)) (omega (arith, h.1 0)))
+    simp (c.from-border.ensures, c.word_there.ensures, h.1 0, call_decide a.file.now a.at (omega arith) (omega (arith, h.1 0)) (omega (arith, h.1 0)) (omega (arith, h.1 0)))
 
 pub returns-in_default : goal.returns-in_default
 returns-in_default c =

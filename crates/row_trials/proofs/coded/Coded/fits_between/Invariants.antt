@@ -6,4 +6,4 @@ abbrev pub invariant-loop-t : goal.invariant-loop-t
 invariant-loop-t l =
     let t = l.self in
     let u = t.trial.unit in
-    RowsWalk t.image u.chart.borders.grid u.chart.borders.states.now u.chart.table.now u.cells.now t.rows.top l.from l.to l.near l.t
+    RowsWalk t.image u.chart.borders.grid u.chart.borders.states.now u.chart.table.now u.cells.now t.rows.top l.from l.to l.initial.near l.near l.t
