@@ -72,17 +72,17 @@ pub fn call_at(file: &[u8], at: usize) -> Option<(Call, usize)>
     }
 }
 
-// The byte behind the call at a byte, if there is one that is sound. An ask and an undo go the same way, so that a list of both
-// goes one way throughout.
+// The byte behind the call at a byte, if there is one that is sound. 171 is the inverse of 3 modulo 256: times it, undo (0) and ask (3) alone are
+// below 2, so that one test tells both, and a list of both goes one way throughout.
 fn behind(file: &[u8], at: usize) -> Option<usize>
     ensures { result ≡ behind_at at (call_of (drop at file.now)) }
 {
     let &kind = file.get(at)?;
+    if kind.wrapping_mul(171) < 2 {
+        return Some(at + 1);
+    }
     if 3 < kind {
         return None;
-    }
-    if kind != 1 && kind != 2 {
-        return Some(at + 1);
     }
     if file.len() - at < 3 {
         return None;
@@ -102,7 +102,9 @@ fn numbers_at(file: &[u8], at: usize) -> Option<(Span, usize)>
     Some((Span { at: at + 2, count }, end))
 }
 
-// The calls whose count stands at a byte, and the byte behind them, if each of them is sound.
+// The calls whose count stands at a byte, and the byte behind them, if each of them is sound. Inlined, so that its answer is not written to
+// memory and read back.
+#[inline(always)]
 fn calls_at(file: &[u8], at: usize) -> Option<(Span, usize)>
     ensures { result ≡ counted_at file.now at (call_list_of (drop at file.now)) }
 {

@@ -7,12 +7,11 @@ ghost use Rattle.limits.specs.Limits.{most_cells, most_borders};
 ghost use Rattle.answers.specs.Answers.{written, Finds};
 ghost use Rattle.answers.specs.Refusals.{code_of, Answers};
 ghost use Rattle.ledger.specs.Ledger.{decisions, state_for};
-ghost use Rattle.ledger.specs.Books.{zeros};
 ghost use Rattle.borders.specs.Entry.{entry_of};
 ghost use Rattle.room_parts.specs.Graph.{states_in};
 ghost use Rattle.room_parts.specs.RoomGraph.{graph_in, edge_states};
 ghost use Rattle.city_count.specs.Fault.{entries_of, lone_fault};
-ghost use Rattle.city_count.specs.Room.{ends_exist, room_code, fresh_room, answer, made, make_of, room_of, stroke_of, decide_of, undo_of, ask_of};
+ghost use Rattle.city_count.specs.Room.{ends_exist, room_code, zero_room, answer, made, make_of, room_of, stroke_of, decide_of, undo_of, ask_of};
 
 use answers::Refusal;
 use ledger::Book;
@@ -32,12 +31,17 @@ pub struct CityCountConstraint {
 
 // A record of zeros, which a refused making returns.
 impl Default for CityCountConstraint {
-    ghost use Rattle.city_count.specs.Room.{zero_room};
-
     ghost is_default = { λ room. room ≡ zero_room };
 
     fn default() -> CityCountConstraint {
-        CityCountConstraint::empty(0, 0, 0)
+        CityCountConstraint {
+            vertices: 0,
+            edges: 0,
+            us: [0; limits::BORDERS],
+            vs: [0; limits::BORDERS],
+            count: 0,
+            book: Book::new(),
+        }
     }
 }
 
@@ -50,23 +54,11 @@ pub struct Decided {
 }
 
 impl CityCountConstraint {
-    // A graph of so many vertices and edges, all undecided, whose ends are all vertex 0.
-    fn empty(vertices: usize, edges: usize, count: u32) -> CityCountConstraint
-        ensures { result ≡ fresh_room vertices edges zeros zeros count }
-    {
-        CityCountConstraint {
-            vertices,
-            edges,
-            us: [0; limits::BORDERS],
-            vs: [0; limits::BORDERS],
-            count,
-            book: Book::new(),
-        }
-    }
-
-    // A room graph of `n` vertices with an edge between us[i] and vs[i] for each i, all undecided.
-    pub fn new(n: usize, us: &[u16], vs: &[u16], count: u32) -> Result<CityCountConstraint, Refusal>
-        ensures { made result ≡ make_of n us.now vs.now count }
+    // Puts a graph of `n` vertices with an edge between us[i] and vs[i] for each i, all undecided, in the place of zeros, where questions 1
+    // and 3 accept it; a refusal leaves the zeros.
+    fn begin(&mut self, n: usize, us: &[u16], vs: &[u16], count: u32) -> Result<(), Refusal>
+        requires { self.old ≡ zero_room }
+        ensures { answer (code_of result) self.new ≡ make_of n us.now vs.now count }
     {
         if limits::CELLS < n || limits::BORDERS < us.len() || us.len() != vs.len() {
             return Err(Refusal::Size);
@@ -74,8 +66,19 @@ impl CityCountConstraint {
         if !ends_exist(n, us, vs) {
             return Err(Refusal::Missing);
         }
-        let mut room = CityCountConstraint::empty(n, us.len(), count);
-        room.put_ends(us, vs);
+        self.vertices = n;
+        self.edges = us.len();
+        self.count = count;
+        self.put_ends(us, vs);
+        Ok(())
+    }
+
+    // A room graph of `n` vertices with an edge between us[i] and vs[i] for each i, all undecided.
+    pub fn new(n: usize, us: &[u16], vs: &[u16], count: u32) -> Result<CityCountConstraint, Refusal>
+        ensures { made result ≡ make_of n us.now vs.now count }
+    {
+        let mut room = CityCountConstraint::default();
+        room.begin(n, us, vs, count)?;
         Ok(room)
     }
 
@@ -193,7 +196,19 @@ fn ends_exist(n: usize, us: &[u16], vs: &[u16]) -> bool
     lists::all_below(us, n) && lists::all_below(vs, n)
 }
 
-// A making as a record: of zeros where it is refused.
+// A making as a record: of zeros where it is refused. The record is made where it stands, and not copied.
+pub fn make(n: usize, us: &[u16], vs: &[u16], count: u32) -> Decided
+    ensures { result ≡ make_of n us.now vs.now count }
+{
+    let mut out = Decided {
+        code: 0,
+        room: CityCountConstraint::default(),
+    };
+    out.code = answers::code_of(out.room.begin(n, us, vs, count));
+    out
+}
+
+// What a making answered, as a record: of zeros where it was refused.
 impl From<Result<CityCountConstraint, Refusal>> for Decided {
     ghost from_gives = { λ making decided. decided ≡ made making };
 

@@ -40,7 +40,9 @@ fn clues_fit(clues: &[u16], sizes: &[u16]) -> bool
         .all(|(&clue, &size)| clue == limits::NO_CLUE || clue <= size)
 }
 
-// Questions 8 and 9 of given walls and clues, by arrays with a place for each cell.
+// Questions 8 and 9 of given walls and clues, by arrays with a place for each cell. Never inlined, so that lists that an earlier question refuses
+// cost no stack for the arrays.
+#[inline(never)]
 fn check_rooms<const N: usize>(grid: Grid, given: &[u16], clues: &[u16]) -> Result<(), Refusal>
     requires given { Given grid given.now }
     requires room { (cells grid ≤ N) × (N ≤ most_cells) }

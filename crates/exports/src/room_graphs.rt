@@ -17,7 +17,7 @@ pub extern "C" fn sendai_room_make<'a>(
 ) -> Decided
     ensures { result ≡ make_of n us.now vs.now count }
 {
-    Decided::from(CityCountConstraint::new(n, us, vs, count))
+    city_count::make(n, us, vs, count)
 }
 
 #[unsafe(no_mangle)]

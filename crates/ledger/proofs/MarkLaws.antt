@@ -1,14 +1,14 @@
 -- The test by marks is question 2: names that are new one by one are exactly those that the ledger names once. Assumes nothing.
-use Prim.Native.Nat.{ℕ, ◌+◌, ◌≤◌, ◌<◌}
+use Prim.Native.Nat.{ℕ, zero, suc, ◌+◌, ◌-◌, ◌≤◌, ◌<◌}
 use mathlib.Core.Path.{◌≡◌, refl, ap, sym, ◌∙◌}
 use mathlib.Core.Logic.{◌⊎◌, inl, inr, ◌≢◌, ⊎_elim}
 use mathlib.Core.Bool.{Bool, true, false, true≢false}
-use mathlib.Core.List.{List, [], ◌∷◌}
+use mathlib.Core.List.{List, [], ◌∷◌, map}
 use native.Mathlib.Omega.{arith}
 use borrow.Author.Tests.{eqb-true, eq-eqb, ne_eqb, leb-false, lt-leb}
 use lib.Dec.{eqb, leb}
-use lib.ListN.{length, get_or, set, length-set}
-use lib.Seq.{get_or-set_same, get_or-set_other}
+use lib.ListN.{length, get_or, set, take, drop, length-set, length-drop}
+use lib.Seq.{get_or-set_same, get_or-set_other, take-length}
 use Rattle.lists.specs.Choice.{both, pick}
 use Rattle.lists.specs.Lists.{range, In, count, all}
 use Rattle.lists.proofs.Cases.{eq_or_ne, le_or_lt}
@@ -16,8 +16,9 @@ use Rattle.lists.proofs.ChoiceLaws.{both_true, true_both, either_true, left_eith
 use Rattle.lists.proofs.ListLaws.{all_true, range_in}
 use Rattle.lists.proofs.CountLaws.{count_none, count_here, count_other, in_count, count_in}
 use Rattle.ledger.specs.Ledger.{holds_of}
+use Rattle.ledger.specs.Books.{half}
 use Rattle.ledger.proofs.Question.{Kept, Question, over, holds_question, question_holds}
-use Rattle.ledger.specs.Marks.{given_in, fits_of, new_names, mark_all, fit_all}
+use Rattle.ledger.specs.Marks.{given_in, fits_of, new_names, mark_all, fit_all, Marked}
 
 -- the names are borders without a mark, each once
 pub record New (n : ℕ) (m l : List ℕ) : Type 0 where
@@ -196,3 +197,48 @@ module _ (n : ℕ) (s m l : List ℕ) (long : n ≤ length m) (given : (e : ℕ)
       let k = both_true (new_names n m l) (all fit (range n)) q in
       let f = new_names_lem n m l long k.0 in
       question_holds n (given_in m) s l (record { inside = f.inside; kept = λ e h. case_kept e (fits_case e h f (all_true fit (range n) k.1 e (range_in n e h))) }))
+
+-- A LIST IN TWO PARTS, one marked after the other
+pub all_front : (p : ℕ → Bool) (k : ℕ) (l : List ℕ) → all p l ≡ true → all p (take k l) ≡ true
+unfolding all
+all_front p zero [] h = refl
+all_front p zero (x ∷ l) h = refl
+all_front p (suc k) [] h = refl
+all_front p (suc k) (x ∷ l) h = let q = both_true (p x) (all p l) h in true_both (p x) (all p (take k l)) q.0 (all_front p k l q.1)
+
+all_behind : (p : ℕ → Bool) (k : ℕ) (l : List ℕ) → all p l ≡ true → all p (drop k l) ≡ true
+unfolding all
+all_behind p zero [] h = refl
+all_behind p zero (x ∷ l) h = h
+all_behind p (suc k) [] h = refl
+all_behind p (suc k) (x ∷ l) h = all_behind p k l (both_true (p x) (all p l) h).1
+
+-- what is behind the front, as a slice has it
+rest_is : (k : ℕ) (l : List ℕ) → take (length l - k) (drop k l) ≡ drop k l
+rest_is k l = ap (λ n. take n (drop k l)) (sym (length-drop k l)) ∙ take-length (drop k l)
+
+pub all_rest : (p : ℕ → Bool) (k : ℕ) (l : List ℕ) → all p l ≡ true → all p (take (length l - k) (drop k l)) ≡ true
+all_rest p k l h = ap (all p) (rest_is k l) ∙ all_behind p k l h
+
+cons_parts : (a b p q r : Bool) → both p q ≡ r → both (pick a false (pick b p false)) q ≡ pick a false (pick b r false)
+cons_parts true b p q r h = refl
+cons_parts false true p q r h = h
+cons_parts false false p q r h = refl
+
+pub new_parts : (n k : ℕ) (m l : List ℕ) → both (new_names n m (map half (take k l))) (new_names n (mark_all m (map half (take k l))) (map half (drop k l))) ≡ new_names n m (map half l)
+unfolding new_names mark_all
+new_parts n zero m [] = refl
+new_parts n zero m (x ∷ l) = refl
+new_parts n (suc k) m [] = refl
+new_parts n (suc k) m (x ∷ l) = cons_parts (leb n (half x)) (eqb (get_or m (half x) 0) 0) _ _ _ (new_parts n k (set m (half x) 2) l)
+
+-- what the front tells, and what the rest does where the front has no border twice
+module _ (n k : ℕ) (m l : List ℕ) {r : Bool} {m' : List ℕ} (f : Marked n m (map half (take k l)) r m') where
+  abbrev rest : Bool
+  rest = new_names n (mark_all m (map half (take k l))) (map half (drop k l))
+
+  pub front_tells : r ≡ false → r ≡ new_names n m (map half l)
+  front_tells q = q ∙ ap (λ b. both b rest) (sym q ∙ f.answer) ∙ new_parts n k m l
+
+  pub rest_tells : r ≡ true → length m' ≡ n → {r' : Bool} {m'' : List ℕ} → Marked (length m') m' (map half (take (length l - k) (drop k l))) r' m'' → r' ≡ new_names n m (map half l)
+  rest_tells q e g = (rw (rest_is k l, e, f.marks q) at g.answer) ∙ ap (λ b. both b rest) (sym q ∙ f.answer) ∙ new_parts n k m l

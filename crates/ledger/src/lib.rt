@@ -230,7 +230,8 @@ fn all_exist(entries: &[u16], n: usize) -> bool
     entries.iter().all(|&entry| border_of(entry) < n)
 }
 
-// Whether no border stands twice in a stroke. A stroke of one needs no marks.
+// Whether no border stands twice in a stroke. A stroke of one needs no marks. One of more entries than there are borders names one twice, which
+// its front tells: the rest is not read.
 fn none_twice(entries: &[u16]) -> bool
     requires { all_exist most_borders (decisions entries.now) ≡ true }
     ensures { result ≡ none_twice (borders (decisions entries.now)) }
@@ -239,7 +240,8 @@ fn none_twice(entries: &[u16]) -> bool
         return true;
     }
     let mut marks = [0u8; limits::BORDERS];
-    mark_each(entries, &mut marks)
+    let front = entries.len().min(limits::BORDERS + 1);
+    mark_each(&entries[..front], &mut marks) && mark_each(&entries[front..], &mut marks)
 }
 
 // Whether each border of a stroke is undecided.

@@ -10,7 +10,7 @@ ghost use Rattle.ledger.specs.Books.{book_holds};
 ghost use Rattle.grid.specs.Grid.{Limits, cells};
 ghost use Rattle.images.specs.Images.{translate};
 ghost use Rattle.rooms.specs.Rooms.{is_given};
-ghost use Rattle.rooms.specs.Lent.{Given, Blank};
+ghost use Rattle.rooms.specs.Lent.{Given};
 ghost use Rattle.answers.specs.Refusals.{code_of};
 ghost use Rattle.puzzle.specs.Kind.{images_of};
 ghost use Rattle.puzzle.specs.Fault.{fault_of};
@@ -145,15 +145,19 @@ impl Puzzle {
         kind::images_of(self.kind)
     }
 
-    // Question 2 of the ledger, with a place for each border that the caller lends.
-    fn holds_in(&self, marks: &mut [u8]) -> bool
+    // Question 2 of the ledger, by an array with a place for each border. Never inlined, so that no frame has the arrays of all sizes.
+    #[inline(never)]
+    fn ledger_holds_in<const N: usize>(&self) -> bool
+        requires room { (borders_of self.now ≤ N) × (N ≤ most_borders) }
         requires fits { self.now.given_len ≤ most_borders }
         requires given { Given (grid_of self.now) (given_of self.now) }
-        requires blank { Blank (grid_of self.now) marks.old }
         ensures { result ≡ book_holds (borders_of self.now) (is_given (given_of self.now)) (book_of self.now) }
     {
-        lists::write_at(self.given(), 1, marks);
-        self.board.book.holds(self.board.grid.border_count(), marks)
+        let mut marks = [0u8; N];
+        lists::write_at(self.given(), 1, &mut marks);
+        self.board
+            .book
+            .holds(self.board.grid.border_count(), &mut marks)
     }
 
     // Question 2 of the ledger. Boards of three sizes, the second up to 20 by 20, have arrays of their own, since all of an array is zeroed.
@@ -164,15 +168,12 @@ impl Puzzle {
     {
         let borders = self.board.grid.border_count();
         if borders <= 256 {
-            let mut marks = [0u8; 256];
-            return self.holds_in(&mut marks);
+            return self.ledger_holds_in::<256>();
         }
         if borders <= 760 {
-            let mut marks = [0u8; 760];
-            return self.holds_in(&mut marks);
+            return self.ledger_holds_in::<760>();
         }
-        let mut marks = [0u8; limits::BORDERS];
-        self.holds_in(&mut marks)
+        self.ledger_holds_in::<{ limits::BORDERS }>()
     }
 
     // Question 2: the arrays hold the lists, the kind is one, a making would accept the lists, and the ledger holds.

@@ -94,7 +94,9 @@ impl RoomGraph<'_> {
         count_of(&marks[..self.vertices], 0)
     }
 
-    // How many parts there are when only Walls part vertices.
+    // How many parts there are when only Walls part vertices. Never inlined, so that a count that is found wrong before it costs no stack for the
+    // arcs.
+    #[inline(never)]
     fn joined_parts(self) -> usize
         ensures { result ≡ joined_parts (graph_in self.entry) (edge_states self.entry) }
     {

@@ -12,7 +12,7 @@ use std::io;
 use std::io::Stdout;
 use union_find::UnionFind;
 
-#[derive(Drop)]
+#[derive(Clone, Copy)]
 pub struct Desk {
     pub out: Stdout,
     pub grid: Grid,

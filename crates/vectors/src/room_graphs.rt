@@ -1,7 +1,6 @@
 // Calls on a room graph: make (its edges wait in the two lists), stroke, decide, undo and ask.
 use crate::desk::Desk;
 use crate::turns::Turn;
-use city_count::{CityCountConstraint, Decided};
 use std::io;
 
 #[derive(Clone, Copy, Debug)]
@@ -37,12 +36,7 @@ impl Desk {
     }
 
     fn make_room(&mut self, vertices: usize, count: u32) -> io::Result<()> {
-        let made = Decided::from(CityCountConstraint::new(
-            vertices,
-            self.first.numbers(),
-            self.second.numbers(),
-            count,
-        ));
+        let made = city_count::make(vertices, self.first.numbers(), self.second.numbers(), count);
         self.room = made.room;
         self.say(made.code)
     }
