@@ -169,14 +169,21 @@ pub record Walking (bs : List ℕ) (start count next k : ℕ) : Type 0 where
   pub left : behind_of (calls_of (count - k) (drop next bs)) ≡ behind_of (calls_of count (drop start bs))
 
 module _ {bs : List ℕ} {start count next k : ℕ} (f : Walking bs start count next k) where
-  pub walking_next : k < count → (behind : ℕ) → Some behind ≡ behind_at next (call_of (drop next bs)) → Walking bs start count behind (k + 1)
-  walking_next h behind q =
-      let o = behind_call bs next behind q in
+  walking_on : k < count → (c : Call) (behind : ℕ) → (call_of (drop next bs) ≡ some (c, drop behind bs)) × (behind ≤ length bs) → Walking bs start count behind (k + 1)
+  walking_on h c behind o =
       let e : count - k ≡ suc (count - (k + 1)) = omega arith in
       record {
-        inside = o.2;
-        left = sym (calls_turn (count - (k + 1)) (drop next bs) (drop behind bs) o.0 o.1) ∙ rw e at f.left;
+        inside = o.1;
+        left = sym (calls_turn (count - (k + 1)) (drop next bs) (drop behind bs) c o.0) ∙ rw e at f.left;
       }
+
+  -- a turn that reads a call
+  pub walking_next : k < count → (c : Call) (behind : ℕ) → Some (c, behind) ≡ step_at next (call_of (drop next bs)) → Walking bs start count behind (k + 1)
+  walking_next h c behind q = walking_on h c behind (step_call bs next c behind q)
+
+  -- a turn that finds where one ends
+  pub walking_behind : k < count → (behind : ℕ) → Some behind ≡ behind_at next (call_of (drop next bs)) → Walking bs start count behind (k + 1)
+  walking_behind h behind q = let o = behind_call bs next behind q in walking_on h o.0 behind (o.1, o.2)
 
   pub walking_stop : k < count → call_of (drop next bs) ≡ none → calls_of count (drop start bs) ≡ none
   walking_stop h q =

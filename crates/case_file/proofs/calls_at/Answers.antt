@@ -1,6 +1,6 @@
 -- `case_file::calls_at` meets its contract: the invariant `Walking` says what the calls that are left leave behind them. Assumes nothing.
 use Rattle.std.proofs.Common.{◌∙◌}
-use Rattle.case_file.proofs.ListLaws.{walking_next, walking_stop, walking_end, behind_unsound, calls_none, calls_cut, calls_fits}
+use Rattle.case_file.proofs.ListLaws.{walking_behind, walking_stop, walking_end, behind_unsound, calls_none, calls_cut, calls_fits}
 use Rattle.case_file.proofs.calls_at.Goals as goal
 
 pub returns-in_err-word : goal.returns-in_err-word
@@ -14,7 +14,7 @@ returns-in_err-next c =
     rw c.from_residual-in_err-next.ensures (simp e)
 
 pub loop-preserved : goal.loop-preserved
-loop-preserved c = walking_next c.loop.invariant c.loop-test.true c.in_ok-next.next c.in_ok-next.ensures
+loop-preserved c = walking_behind c.loop.invariant c.loop-test.true c.in_ok-next.next c.in_ok-next.ensures
 
 pub returns : goal.returns
 returns c =
